@@ -1,0 +1,149 @@
+-- The reckoned examples of document 01, P1 to P10, the sample text's five answers and the slips that need an example of their own: one table,
+-- a single claim, by computation. Questions are asked of the stored bytes, through every check.
+use mathlib.Core.Path.{_≡_, refl}
+use mathlib.Core.Bool.{Bool, true, false}
+use mathlib.Core.List.{List, [], _∷_, _++_, map}
+use Prim.Native.Nat.{ℕ, suc, _-_}
+use lib.Dec.{leb·zero}
+use lib.ListN.{length, getD, set, replicate}
+use Rattle.lineage.specs.Lists.{upto, Every}
+use Rattle.lineage.specs.Graph.{Graph, condense}
+use Rattle.lineage.specs.Labels.{Labelling}
+use Rattle.lineage.specs.Index.{Index, indexOf}
+use Rattle.lineage.specs.Sound.{contentsSound}
+use Rattle.lineage.specs.Question.{answer, downstream}
+use Rattle.lineage.specs.Stored.{form1, Counts, encode}
+use Rattle.lineage.specs.Calls.{Input, Outcome, refused, answered, Said, buildAnswer, buildOutput, buildWork, openAnswer, askAnswer, askMarks, listAnswer, listOutput}
+
+-- Graph G: n = 6, edges 0-1, 1-2, 2-1, 0-3, 3-4, 2-4, 5-5
+abbrev G : Graph
+G = record { n = 6; sources = 0 ∷ 1 ∷ 2 ∷ 0 ∷ 3 ∷ 2 ∷ 5 ∷ []; targets = 1 ∷ 2 ∷ 1 ∷ 3 ∷ 4 ∷ 4 ∷ 5 ∷ [] }
+
+-- H is the graph of the sample text
+abbrev H : Graph
+H = record { n = 4; sources = 0 ∷ 0 ∷ 3 ∷ []; targets = 1 ∷ 2 ∷ 1 ∷ [] }
+
+-- order A is 0 to 5, B is 5 to 0
+abbrev A : List ℕ
+A = 0 ∷ 1 ∷ 2 ∷ 3 ∷ 4 ∷ 5 ∷ []
+
+abbrev B : List ℕ
+B = 5 ∷ 4 ∷ 3 ∷ 2 ∷ 1 ∷ 0 ∷ []
+
+-- H's two orders
+abbrev rising : List ℕ
+rising = 0 ∷ 1 ∷ 2 ∷ 3 ∷ []
+
+abbrev falling : List ℕ
+falling = 3 ∷ 2 ∷ 1 ∷ 0 ∷ []
+
+-- n = 0, no edges
+abbrev none : Graph
+none = record { n = 0; sources = []; targets = [] }
+
+-- edges 2-1, 1-2, 0-2: the edges name 2 before 1
+abbrev turned : Graph
+turned = record { n = 3; sources = 2 ∷ 1 ∷ 0 ∷ []; targets = 1 ∷ 2 ∷ 2 ∷ [] }
+
+-- s, m and e of a place
+data Label : Type 0 where
+  label : ℕ → ℕ → ℕ → Label
+
+abbrev labelsIn : List Labelling → ℕ → List Label
+labelsIn [] k = []
+labelsIn (l ∷ ls) k = map (λ p. label (getD (l .s) p 0) (getD (l .m) p 0) (getD (l .e) p 0)) (upto k)
+
+abbrev stored : Graph → List (List ℕ) → List ℕ
+stored g orders = encode form1 (indexOf g orders)
+
+abbrev said : Bool → ℕ → ℕ → Said
+said says reason opened = record { says = says; reason = reason; opened = opened }
+
+abbrev counts : ℕ → ℕ → ℕ → ℕ → Counts
+counts n k c d = record { n = n; k = k; c = c; d = d }
+
+-- a buffer lent with 7 in each of its elements
+abbrev lent : ℕ → List ℕ
+lent size = replicate size 7
+
+-- the bytes with another byte at one position
+abbrev altered : List ℕ → ℕ → ℕ → List ℕ
+altered bytes i x = set bytes i x
+
+-- a question and its outcome
+data Question : Type 0 where
+  question : (u v : ℕ) → Outcome Said → Question
+
+data Example : Type 0 where
+  groupsAre : Graph → (names groups : List ℕ) → Example
+  levelsAre : Graph → List ℕ → Example
+  labelsAre : Graph → (order : List ℕ) → List Label → Example
+  answerIs : Graph → (orders : List (List ℕ)) → (u v : ℕ) → Said → (deciding : ℕ) → (marks : List ℕ) → Example
+  totalIs : Graph → (orders : List (List ℕ)) → ℕ → Example
+  everyQuestionIs : Graph → (orders : List (List ℕ)) → Outcome Said → Example
+  questionsAre : Graph → (orders : List (List ℕ)) → List Question → Example
+  listIs : Graph → (orders : List (List ℕ)) → (u : ℕ) → List ℕ → Example
+  opensAs : (bytes : List ℕ) → (marks : ℕ) → Outcome Counts → Example
+  buildsAs : Graph → (d : ℕ) → (orders : List ℕ) → (work out : ℕ) → Outcome ℕ → Example
+
+abbrev Asked : List ℕ → ℕ → Question → Type 0
+Asked bytes marks (question u v o) = askAnswer bytes u v marks ≡ o
+
+abbrev Right : Example → Type 0
+Right (groupsAre g names groups) = (condense g .names ≡ names) × (condense g .groups ≡ groups)
+Right (levelsAre g levels) = indexOf g [] .levels ≡ levels
+Right (labelsAre g order labels) = labelsIn (indexOf g (order ∷ []) .labels) (length (indexOf g (order ∷ []) .groups)) ≡ labels
+Right (answerIs g orders u v a deciding marks) =
+    (askAnswer (stored g orders) u v (g .n) ≡ answered a)
+    × (answer (indexOf g orders) u v .deciding ≡ deciding)
+    × (askMarks (stored g orders) u v (lent (suc (g .n))) ≡ marks ++ (7 ∷ []))
+Right (totalIs g orders total) = length (stored g orders) ≡ total
+Right (everyQuestionIs g orders o) = (u v : ℕ) → askAnswer (stored g orders) u v (g .n) ≡ o
+Right (questionsAre g orders qs) = Every (Asked (stored g orders) (g .n)) qs
+Right (listIs g orders u vs) =
+    (listAnswer (stored g orders) u (g .n) (length vs) ≡ answered (length vs))
+    × (listOutput (stored g orders) u (g .n) (lent (suc (length vs))) ≡ vs ++ (7 ∷ []))
+    × (listAnswer (stored g orders) u (g .n) (length vs - 1) ≡ refused 16 (length vs))
+Right (opensAs bytes marks o) = openAnswer bytes marks ≡ o
+Right (buildsAs g d orders work out o) = buildAnswer form1 (record { graph = g; d = d; orders = orders }) work out ≡ o
+
+abbrev table : List Example
+table =
+    -- P1 to P10
+    groupsAre G (0 ∷ 1 ∷ 1 ∷ 3 ∷ 4 ∷ 5 ∷ []) (0 ∷ 1 ∷ 3 ∷ 4 ∷ 5 ∷ [])
+    ∷ levelsAre G (2 ∷ 1 ∷ 1 ∷ 0 ∷ 0 ∷ [])
+    ∷ labelsAre G A (label 1 1 4 ∷ label 1 1 2 ∷ label 1 3 3 ∷ label 1 1 1 ∷ label 5 5 5 ∷ [])
+    ∷ labelsAre G B (label 2 2 5 ∷ label 2 4 4 ∷ label 2 2 3 ∷ label 2 2 2 ∷ label 1 1 1 ∷ [])
+    ∷ answerIs G (A ∷ []) 3 4 (said true 5 1) 1 (0 ∷ 0 ∷ 0 ∷ 1 ∷ 0 ∷ 0 ∷ [])
+    ∷ answerIs G (A ∷ B ∷ []) 3 4 (said true 2 0) 2 (0 ∷ 0 ∷ 0 ∷ 0 ∷ 0 ∷ 0 ∷ [])
+    ∷ answerIs G (A ∷ []) 0 5 (said false 4 0) 1 (0 ∷ 0 ∷ 0 ∷ 0 ∷ 0 ∷ 0 ∷ [])
+    ∷ answerIs H (falling ∷ []) 3 2 (said false 4 0) 1 (0 ∷ 0 ∷ 0 ∷ 0 ∷ [])
+    ∷ totalIs H (rising ∷ []) 120
+    ∷ totalIs G (A ∷ B ∷ []) 180
+    ∷ totalIs none ([] ∷ []) 50
+    ∷ everyQuestionIs none ([] ∷ []) (refused 14 0)
+    -- the sample text
+    ∷ questionsAre H
+        (rising ∷ [])
+        (question 3 2 (answered (said false 6 1))
+        ∷ question 0 2 (answered (said true 2 0))
+        ∷ question 1 1 (answered (said true 1 0))
+        ∷ question 2 0 (answered (said false 3 0))
+        ∷ question 4 0 (refused 14 0)
+        ∷ [])
+    -- names do not move with the sequence of the edges
+    ∷ groupsAre turned (0 ∷ 1 ∷ 1 ∷ []) (0 ∷ 1 ∷ [])
+    -- bytes open, and are refused where 3's inner interval covers a group that is not below it: its m, at byte 114, becomes 1
+    ∷ opensAs (stored G (A ∷ [])) 6 (answered (counts 6 5 4 1))
+    ∷ opensAs (altered (stored G (A ∷ [])) 114 1) 6 (refused 15 0)
+    -- the downstream list, and the two ends of a build
+    ∷ listIs G (A ∷ []) 2 (1 ∷ 2 ∷ 4 ∷ [])
+    ∷ buildsAs G 2 (A ++ B) 188 180 (answered 180)
+    ∷ buildsAs G 2 (A ++ B) 188 179 (refused 9 180)
+    ∷ buildsAs G 2 (A ++ (5 ∷ 4 ∷ 3 ∷ 2 ∷ 1 ∷ 1 ∷ [])) 188 0 (refused 8 1)
+    ∷ []
+
+claim : Every Right table
+unfolding condense indexOf answer encode openAnswer askAnswer askMarks listAnswer listOutput buildAnswer
+claim =
+    ((refl, refl), (refl, (refl, (refl, ((refl, refl, refl), ((refl, refl, refl), ((refl, refl, refl), ((refl, refl, refl), (refl, (refl, (refl, ((λ u v. rw leb·zero), ((refl, (refl, (refl, (refl, (refl, tt))))), ((refl, refl), (refl, (refl, ((refl, refl, refl), (refl, (refl, (refl, tt))))))))))))))))))))
