@@ -124,13 +124,13 @@ table =
     ∷ everyQuestionIs none ([] ∷ []) (refused 14 0)
     -- the sample text
     ∷ questionsAre H
-        (rising ∷ [])
-        (question 3 2 (answered (said false 6 1))
-        ∷ question 0 2 (answered (said true 2 0))
-        ∷ question 1 1 (answered (said true 1 0))
-        ∷ question 2 0 (answered (said false 3 0))
-        ∷ question 4 0 (refused 14 0)
-        ∷ [])
+    (rising ∷ [])
+    (question 3 2 (answered (said false 6 1))
+    ∷ question 0 2 (answered (said true 2 0))
+    ∷ question 1 1 (answered (said true 1 0))
+    ∷ question 2 0 (answered (said false 3 0))
+    ∷ question 4 0 (refused 14 0)
+    ∷ [])
     -- names do not move with the sequence of the edges
     ∷ groupsAre turned (0 ∷ 1 ∷ 1 ∷ []) (0 ∷ 1 ∷ [])
     -- bytes open, and are refused where 3's inner interval covers a group that is not below it: its m, at byte 114, becomes 1

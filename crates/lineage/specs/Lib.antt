@@ -9,5 +9,4 @@ pub mod Numbers
 pub mod Stored
 pub mod Sound
 pub mod Calls
-
 pub mod Examples

@@ -1,0 +1,2 @@
+-- The laws of numbers in bytes and of words in regions.
+pub mod Regions
