@@ -131,6 +131,8 @@ table =
     ∷ question 2 0 (answered (said false 3 0))
     ∷ question 4 0 (refused 14 0)
     ∷ [])
+    -- a vertex of n or more, source first
+    ∷ questionsAre H (rising ∷ []) (question 0 4 (refused 14 1) ∷ question 9 4 (refused 14 0) ∷ [])
     -- names do not move with the sequence of the edges
     ∷ groupsAre turned (0 ∷ 1 ∷ 1 ∷ []) (0 ∷ 1 ∷ [])
     -- bytes open, and are refused where 3's inner interval covers a group that is not below it: its m, at byte 114, becomes 1
@@ -146,4 +148,4 @@ table =
 claim : Every Right table
 unfolding condense indexOf answer encode openAnswer askAnswer askMarks listAnswer listOutput buildAnswer
 claim =
-    ((refl, refl), (refl, (refl, (refl, ((refl, refl, refl), ((refl, refl, refl), ((refl, refl, refl), ((refl, refl, refl), (refl, (refl, (refl, ((λ u v. rw leb·zero), ((refl, (refl, (refl, (refl, (refl, tt))))), ((refl, refl), (refl, (refl, ((refl, refl, refl), (refl, (refl, (refl, tt))))))))))))))))))))
+    ((refl, refl), (refl, (refl, (refl, ((refl, refl, refl), ((refl, refl, refl), ((refl, refl, refl), ((refl, refl, refl), (refl, (refl, (refl, ((λ u v. rw leb·zero), ((refl, (refl, (refl, (refl, (refl, tt))))), ((refl, (refl, tt)), ((refl, refl), (refl, (refl, ((refl, refl, refl), (refl, (refl, (refl, tt)))))))))))))))))))))
