@@ -1,0 +1,2 @@
+-- What the sections of a stored index hold, as lists.
+pub mod Sections
