@@ -1,2 +1,3 @@
--- What the contracts of this crate and of those above say of lent words and bytes.
+-- What the contracts of this crate and of those above say of lent bytes and words.
+pub mod Put
 pub mod Regions

@@ -1,1 +1,84 @@
-// Little-endian numbers in bytes at a width, and words of work memory.
+// Little-endian numbers of w bytes in lent bytes, w being 2 or 4, and lent memory set to 0.
+ghost use mathlib.Core.Path.{_≡_};
+ghost use Prim.Native.Nat.{_+_, _*_, _%_, _^_, _≤_, _<_};
+ghost use lib.ListN.{length};
+ghost use Rattle.lineage.specs.Lists.{cleared};
+ghost use Rattle.lineage.specs.Numbers.{Width, leAt, numAt, leBytes};
+ghost use Rattle.numbers.specs.Put.{put};
+
+fn wide(x: u8) -> usize
+    ensures { λ r. ⌜ (r ≡ x) × (r < 256) ⌝ }
+{
+    x as usize
+}
+
+fn low(v: usize) -> u8
+    ensures { λ r. ⌜ r ≡ v % 256 ⌝ }
+{
+    (v % 256) as u8
+}
+
+// The number that the two bytes from position p on make.
+fn pair(s: &[u8], p: usize) -> usize
+    requires { ⌜ p + 2 ≤ length (now s) ⌝ }
+    ensures { λ r. ⌜ (r ≡ leAt 2 (now (s .entry)) p) × (r < 65536) ⌝ }
+{
+    wide(s[p]) + 256 * wide(s[p + 1])
+}
+
+// Number i of a stretch of numbers of w bytes.
+pub fn num(s: &[u8], w: usize, i: usize) -> usize
+    requires { ⌜ Width w ⌝ }
+    requires { ⌜ w * i + w ≤ length (now s) ⌝ }
+    ensures { λ r. ⌜ (r ≡ numAt w (now (s .entry)) i) × (r < 2 ^ 32) ⌝ }
+{
+    let p = w * i;
+    if w == 2 {
+        pair(s, p)
+    } else {
+        pair(s, p) + 65536 * pair(s, p + 2)
+    }
+}
+
+// Writes v, its lowest w bytes, as number i of a stretch of numbers of w bytes.
+pub fn put_num(out: &mut [u8], w: usize, i: usize, v: usize)
+    requires { ⌜ Width w ⌝ }
+    requires { ⌜ w * i + w ≤ length (now out) ⌝ }
+    ensures { λ _. ⌜ now (out .exit) ≡ put (now (out .entry)) (w * i) (leBytes w v) ⌝ }
+{
+    let p = w * i;
+    let v1 = v / 256;
+    out[p] = low(v);
+    out[p + 1] = low(v1);
+    if w == 2 {
+        return;
+    }
+    let v2 = v1 / 256;
+    let v3 = v2 / 256;
+    out[p + 2] = low(v2);
+    out[p + 3] = low(v3);
+}
+
+// Sets the first n words to 0.
+pub fn clear_words(words: &mut [u32], n: usize)
+    requires { ⌜ n ≤ length (now words) ⌝ }
+    ensures { λ _. ⌜ now (words .exit) ≡ cleared n (now (words .entry)) ⌝ }
+{
+    let mut i = 0;
+    while i < n {
+        words[i] = 0;
+        i += 1;
+    }
+}
+
+// Sets the marks below n to 0.
+pub fn clear_marks(marks: &mut [u8], n: usize)
+    requires { ⌜ n ≤ length (now marks) ⌝ }
+    ensures { λ _. ⌜ now (marks .exit) ≡ cleared n (now (marks .entry)) ⌝ }
+{
+    let mut i = 0;
+    while i < n {
+        marks[i] = 0;
+        i += 1;
+    }
+}

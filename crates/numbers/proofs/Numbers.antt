@@ -1,0 +1,148 @@
+-- The laws of little-endian numbers, at any width. A number is made of its own w bytes alone; so what was written is read again, a write leaves every
+-- other number, and the numbers of a stretch are a list of their own.
+use mathlib.Core.Path.{_≡_, refl, sym, ap, _∙_}
+use mathlib.Core.Logic.{_⊎_, inl, inr, ⊎-elim, _≢_}
+use mathlib.Core.List.{List, _∷_}
+use Prim.Native.Nat.{ℕ, zero, suc, _+_, _*_, _/_, _%_, _^_, _≤_, _<_}
+use native.Mathlib.Omega.{arith}
+use native.Mathlib.Numerals.{add-one}
+use native.Mathlib.Decide.{decLt}
+use native.Mathlib.Nat.{mul-le-mul-left, mul-suc, mul-add, pow-suc, add-zero, add-assoc}
+use lib.ListN.{length, getD, set}
+use lib.Arith.{lt-of-le-ne}
+use lib.Seq.{ext-getD}
+use Rattle.lineage.specs.Lists.{part}
+use Rattle.lineage.specs.Numbers.{leAt, numAt, numbers, leBytes}
+use Rattle.numbers.specs.Put.{put}
+use Rattle.numbers.specs.Regions.{Kept}
+use Rattle.numbers.proofs.Tables.{table-long, table-at}
+use Rattle.numbers.proofs.Put.{put-here, put-kept, put-sets}
+use Rattle.numbers.proofs.Regions.{part-length, part-at}
+
+-- number i of k lies within l bytes
+pub room : (w i k l : ℕ) → i < k → w * k ≤ l → w * i + w ≤ l
+room w i k l h r = omega (arith, mul-le-mul-left w h, mul-suc w i)
+
+-- two numbers lie apart
+apart : (w i j : ℕ) → j ≢ i → (w * i + w ≤ w * j) ⊎ (w * j + w ≤ w * i)
+apart w i j f =
+    elim (decLt i j) [
+      | yes l ↦ inl (room w i j (w * j) l (omega arith))
+      | no g ↦ inr (room w j i (w * i) (lt-of-le-ne (omega arith) f) (omega arith))
+    ]
+
+-- a number of a stretch is a number of the whole
+pub le-part : (w : ℕ) (s : List ℕ) (b size p : ℕ) → p + w ≤ size → leAt w (part s b size) p ≡ leAt w s (b + p)
+unfolding leAt
+le-part zero s b size p h = refl
+le-part (suc w) s b size p h =
+    omega (arith, part-at s b size p (omega arith), ap (leAt w s) (add-assoc b p 1), le-part w s b size (p + 1) (omega arith))
+
+-- it is made of its own bytes alone
+pub le-own : (w : ℕ) (s : List ℕ) (p : ℕ) → leAt w s p ≡ leAt w (part s p w) 0
+le-own w s p = sym (le-part w s p w 0 (omega arith) ∙ ap (leAt w s) (add-zero p))
+
+le-tail : (w a : ℕ) (s : List ℕ) (p : ℕ) → leAt w (a ∷ s) (p + 1) ≡ leAt w s p
+unfolding leAt
+le-tail zero a s p = refl
+le-tail (suc w) a s p = omega (arith, ap (λ (n : ℕ). getD (a ∷ s) n 0) (add-one p), le-tail w a s (p + 1))
+
+-- the bytes of a number: how many, and that they make it
+pub bytes-long : (w v : ℕ) → length (leBytes w v) ≡ w
+bytes-long zero v = refl
+bytes-long (suc w) v = ap suc (bytes-long w (v / 256))
+
+pub le-bytes : (w v : ℕ) → v < 256 ^ w → leAt w (leBytes w v) 0 ≡ v
+unfolding leAt
+le-bytes zero v h = omega arith
+le-bytes (suc w) v h =
+    omega (arith, le-tail w (v % 256) (leBytes w (v / 256)) 0, le-bytes w (v / 256) (omega (arith, pow-suc 256 w)))
+
+module _ (w : ℕ) (s : List ℕ) (i v : ℕ) (fits : w * i + w ≤ length s) where
+  abbrev within : w * i + length (leBytes w v) ≤ length s
+  within = omega (arith, bytes-long w v)
+
+  -- what was written is read
+  pub num-same : v < 256 ^ w → numAt w (put s (w * i) (leBytes w v)) i ≡ v
+  num-same h =
+      le-own w (put s (w * i) (leBytes w v)) (w * i)
+      ∙ ap (λ (n : ℕ). leAt w (part (put s (w * i) (leBytes w v)) (w * i) n) 0) (sym (bytes-long w v))
+      ∙ ap (λ (z : List ℕ). leAt w z 0) (put-here s (w * i) (leBytes w v) within)
+      ∙ le-bytes w v h
+
+  -- no other byte is touched
+  pub num-kept : Kept s (put s (w * i) (leBytes w v)) (w * i) w
+  num-kept = rw (bytes-long w v) at (put-kept s (w * i) (leBytes w v) within)
+
+  -- every other number is left
+  pub num-other : (j : ℕ) → j ≢ i → numAt w (put s (w * i) (leBytes w v)) j ≡ numAt w s j
+  num-other j f =
+      let same : part (put s (w * i) (leBytes w v)) (w * j) w ≡ part s (w * j) w =
+      ⊎-elim (λ l. num-kept .above (w * j) w l) (λ l. num-kept .below (w * j) w l) (apart w i j f) in
+      le-own w (put s (w * i) (leBytes w v)) (w * j) ∙ ap (λ (z : List ℕ). leAt w z 0) same ∙ sym (le-own w s (w * j))
+
+module _ (w : ℕ) (s : List ℕ) where
+  -- number i of the part that holds n numbers from number a on
+  pub num-part : (a n i : ℕ) → i < n → numAt w (part s (w * a) (w * n)) i ≡ numAt w s (a + i)
+  num-part a n i h =
+      le-part w s (w * a) (w * n) (w * i) (room w i n (w * n) h (omega arith)) ∙ ap (leAt w s) (sym (mul-add w a i))
+
+  -- the numbers of a stretch as a list
+  pub numbers-long : (k : ℕ) → length (numbers w s k) ≡ k
+  unfolding numbers
+  numbers-long k = table-long (numAt w s) k
+
+  pub numbers-at : (k i : ℕ) → i < k → getD (numbers w s k) i 0 ≡ numAt w s i
+  unfolding numbers
+  numbers-at k i h = table-at (numAt w s) k i 0 h
+
+-- the numbers of a part are a part of the numbers
+pub numbers-part : (w : ℕ) (s : List ℕ) (k a n : ℕ) → a + n ≤ k → numbers w (part s (w * a) (w * n)) n ≡ part (numbers w s k) a n
+numbers-part w s k a n h =
+    let t : List ℕ = part s (w * a) (w * n) in
+    let long : length (part (numbers w s k) a n) ≡ n = part-length (numbers w s k) a n (omega (arith, numbers-long w s k)) in
+    ext-getD 0 (numbers w t n) (part (numbers w s k) a n) (numbers-long w t n ∙ sym long)
+    (λ i l.
+    let j : i < n = omega (arith, numbers-long w t n) in
+    numbers-at w t n i j ∙ num-part w s a n i j ∙ sym (numbers-at w s k (a + i) (omega arith)) ∙ part-at (numbers w s k) a n i j)
+
+-- two bytes and four, read
+pub num-two : (w i r : ℕ) (s : List ℕ) → w ≡ 2 → r ≡ leAt 2 s (w * i) → r ≡ numAt w s i
+num-two w i r s e h = cc
+
+le-four : (s : List ℕ) (p : ℕ) → leAt 4 s p ≡ leAt 2 s p + 65536 * leAt 2 s (p + 2)
+unfolding leAt
+le-four s p = simp add-assoc (omega arith)
+
+pub num-four : (w i a b : ℕ) (s : List ℕ) → w ≡ 4 → a ≡ leAt 2 s (w * i) → b ≡ leAt 2 s (w * i + 2) → a + 65536 * b ≡ numAt w s i
+num-four w i a b s e h k = cc (le-four s (w * i))
+
+-- two bytes and four, stored one by one
+put-first : (s : List ℕ) (p v : ℕ) → p + 2 ≤ length s → set (set s p (v % 256)) (p + 1) (v / 256 % 256) ≡ put s p (leBytes 2 v)
+put-first s p v h = rw add-one (put-sets s p (leBytes 2 v) h)
+
+put-all : (s : List ℕ) (p v : ℕ)
+    → p + 4 ≤ length s
+    → set (set (set (set s p (v % 256)) (p + 1) (v / 256 % 256)) (p + 2) (v / 256 / 256 % 256)) (p + 3) (v / 256 / 256 / 256 % 256) ≡ put s p (leBytes 4 v)
+put-all s p v h =
+    let two : p + 2 ≡ suc (suc p) = omega arith in
+    let three : p + 3 ≡ suc (suc (suc p)) = omega arith in
+    rw (add-one, two, three) (put-sets s p (leBytes 4 v) h)
+
+pub put-two : (w i v a b : ℕ) (s : List ℕ)
+    → w ≡ 2
+    → w * i + w ≤ length s
+    → a ≡ v % 256
+    → b ≡ v / 256 % 256
+    → set (set s (w * i) a) (w * i + 1) b ≡ put s (w * i) (leBytes w v)
+put-two w i v a b s e h ea eb = cc (put-first s (w * i) v (omega arith))
+
+pub put-four : (w i v a b c d : ℕ) (s : List ℕ)
+    → w ≡ 4
+    → w * i + w ≤ length s
+    → a ≡ v % 256
+    → b ≡ v / 256 % 256
+    → c ≡ v / 256 / 256 % 256
+    → d ≡ v / 256 / 256 / 256 % 256
+    → set (set (set (set s (w * i) a) (w * i + 1) b) (w * i + 2) c) (w * i + 3) d ≡ put s (w * i) (leBytes w v)
+put-four w i v a b c d s e h ea eb ec ed = cc (put-all s (w * i) v (omega arith))

@@ -1,0 +1,43 @@
+-- A part of a list: of two lists one after the other, of a part, and the whole.
+use mathlib.Core.Path.{_≡_, sym, ap, _∙_}
+use mathlib.Core.List.{List, [], _∷_, _++_}
+use Prim.Native.Nat.{ℕ, zero, suc, _+_, _-_, _≤_}
+use native.Mathlib.Omega.{arith}
+use native.Mathlib.Nat.{sub-zero, not-suc-le-zero}
+use lib.ListN.{length, take, drop, length-drop, take-append-drop}
+use lib.Seq.{length-take-le, take-length, take-append-le, drop-append-le, drop-drop}
+use Rattle.lineage.specs.Lists.{part}
+
+module _ {A : Type 0} where
+  -- what stands behind the first of two lists
+  pub drop-past : (a b : List A) (n : ℕ) → length a ≤ n → drop n (a ++ b) ≡ drop (n - length a) b
+  drop-past [] b n h = rw sub-zero
+  drop-past (x ∷ a) b zero h = absurd (not-suc-le-zero h)
+  drop-past (x ∷ a) b (suc n) h =
+      let e : n - length a ≡ suc n - suc (length a) = omega arith in
+      drop-past a b n (omega arith) ∙ ap (λ (k : ℕ). drop k b) e
+
+  -- in the first of two lists, in the second
+  pub part-left : (a b : List A) (at size : ℕ) → at + size ≤ length a → part (a ++ b) at size ≡ part a at size
+  unfolding part
+  part-left a b at size h =
+      rw (drop-append-le at a b (omega arith)) (take-append-le size (drop at a) b (omega (arith, length-drop at a)))
+
+  pub part-right : (a b : List A) (at size : ℕ) → length a ≤ at → part (a ++ b) at size ≡ part b (at - length a) size
+  unfolding part
+  part-right a b at size h = rw (drop-past a b at h)
+
+  -- a part of what stands from a position on, of what stands before one
+  pub part-drop : (s : List A) (n at size : ℕ) → part (drop n s) at size ≡ part s (n + at) size
+  unfolding part
+  part-drop s n at size = rw (drop-drop at n s)
+
+  pub part-take : (s : List A) (n at size : ℕ) → at + size ≤ n → n ≤ length s → part (take n s) at size ≡ part s at size
+  part-take s n at size h k =
+      sym (part-left (take n s) (drop n s) at size (omega (arith, length-take-le n s k)))
+      ∙ ap (λ (z : List A). part z at size) (take-append-drop n s)
+
+  -- the whole
+  pub part-whole : (s : List A) (n : ℕ) → length s ≡ n → part s 0 n ≡ s
+  unfolding part
+  part-whole s n e = rw (← e) (take-length s)
