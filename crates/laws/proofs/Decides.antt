@@ -1,6 +1,6 @@
 -- The computed tests decide Sound.
 use mathlib.Core.Bool.{Bool, true, false, _&&_, false≢true}
-use mathlib.Core.Logic.{_↔_, inl, inr}
+use mathlib.Core.Logic.{_↔_}
 use mathlib.Core.Path.{_≡_, refl, ap, ap₂}
 use mathlib.Core.List.{List, [], _∷_, map}
 use Prim.Native.Nat.{ℕ, zero, suc, _<_, _≤_, _-_}
@@ -10,7 +10,7 @@ use native.Mathlib.Omega.{arith}
 use lib.Dec.{eqb, leb, ltb}
 use lib.ListN.{length, getD, drop}
 use borrow.Author.Tests.{eqb-true, eq-eqb, leb-true, le-leb, lt-leb, ltb-true, lt-ltb}
-use Rattle.lineage.specs.Lists.{among, least, greatest, sameList}
+use Rattle.lineage.specs.Lists.{among, position, least, greatest, sameList}
 use Rattle.lineage.specs.Graph.{groupList}
 use Rattle.lineage.specs.Labels.{Labelling, nobodysChild}
 use Rattle.lineage.specs.Index.{Index}
@@ -18,9 +18,9 @@ use Rattle.lineage.specs.Sound.{childOf}
 use Rattle.lineage.specs.Lists.{Every}
 use Rattle.laws.specs.Tests.{LeftWalk, arrived, left, SoundLabelling, SoundGroups, Sound}
 use Rattle.lineage.specs.Lists.{allBelow, allOf}
-use Rattle.lineage.specs.Sound.{walkEnds, labelsPass, groupsPass, sound}
-use Rattle.laws.proofs.Tests.{or-cases, and-both, and-left, and-right}
-use Rattle.laws.proofs.Lists.{here, there}
+use Rattle.lineage.specs.Sound.{walkEnds, labelsPass, namesPass, groupsPass, sound}
+use Rattle.laws.proofs.Tests.{and-both, and-left, and-right}
+use Rattle.laws.proofs.Lists.{in-getD, position-low, at-position}
 use Rattle.laws.proofs.Inverse.{e-high}
 
 -- the test is true exactly where the fact holds
@@ -62,16 +62,10 @@ below (suc n) p P d =
     at h i l (yes e) rest = rw e (d n (omega arith) .0 (and-right (allBelow n p) (p n) h))
     at h i l (no e) rest = rest i (omega arith)
 
-members : (p : ℕ → Bool) (P : ℕ → Type 0) → ((q : ℕ) → Decides (p q) (P q)) → (xs : List ℕ) → Decides (allOf p xs) ((q : ℕ) → among q xs ≡ true → P q)
-members p P d [] = ((λ h q i. absurd (false≢true i)), λ h. refl)
-members p P d (x ∷ xs) =
-    let ih = members p P d xs in (
-      (λ h q i. elim (or-cases (eqb q x) _ i) [
-        | inl e ↦ rw (eqb-true q x e) (d x .0 (and-left (p x) (allOf p xs) h))
-        | inr j ↦ ih .0 (and-right (p x) (allOf p xs) h) q j
-      ]),
-      λ h. and-both (d x .1 (h x (here x xs))) (ih .1 (λ q i. h q (there q x xs i))),
-    )
+members : (p : ℕ → Bool) (P : ℕ → Type 0) → ((q : ℕ) → Decides (p q) (P q)) → (xs : List ℕ) → Decides (allBelow (length xs) (λ i. p (getD xs i 0))) ((q : ℕ) → among q xs ≡ true → P q)
+members p P d xs =
+    let all = below (length xs) (λ i. p (getD xs i 0)) (λ i. P (getD xs i 0)) (λ i l. d (getD xs i 0)) in
+    ((λ h q i. rw (at-position q xs i) at (all .0 h (position q xs) (position-low q xs i))), λ h. all .1 (λ i l. h (getD xs i 0) (in-getD xs i l)))
 
 every : {A : Type 0} (p : A → Bool) (P : A → Type 0) → ((x : A) → Decides (p x) (P x)) → (xs : List A) → Decides (allOf p xs) (Every P xs)
 every p P d [] = ((λ h. tt), λ h. refl)
@@ -163,7 +157,7 @@ module _ (kids : List (List ℕ)) (l : Labelling) where
   fields =
       both _ _ (both _ _ (equal _ _) (λ a. both _ _ (equal _ _) (λ b. both _ _ (equal _ _) (λ c. equal _ _)))) (λ sizes.
       both _ _ (below k _ _ (λ r h. both _ _ (less _ _) (λ a. equal _ _))) (λ R.
-      both _ _ (below k _ _ (λ p h. members _ _ (λ q. less _ _) (getD kids p []))) (λ falls.
+      both _ _ (below k _ _ (λ p h. members (λ q. ltb (e q) (e p)) (λ q. e q < e p) (λ q. less _ _) (getD kids p []))) (λ falls.
       both _ _ (below k _ _ (λ p h. equal _ _)) (λ outer.
       both _ _ (below k _ _ (λ p h. both _ _ (at-most _ _) (λ a. at-most _ _))) (λ M.
       both _ _ (below k _ _ (λ p h. walk-decides l (childOf kids p) k (shorter R M) (e p - 1) (m p - 1) (high sizes R p h))) (λ blocks.
@@ -209,50 +203,48 @@ module _ (names groups levels : List ℕ) (kids : List (List ℕ)) where
   row p = getD kids p []
 
   -- the fields of SoundGroups, in the sequence of the tests
-  group-fields :
-      Decides (groupsPass names groups levels kids)
-      (((v : ℕ) → v < length names → (getD names v 0 ≤ v) × (getD names (getD names v 0) 0 ≡ getD names v 0))
-      × ((groups ≡ groupList names)
-      × (((length kids ≡ length groups) × (length levels ≡ length kids))
-      × (((p : ℕ) → p < length kids → (i : ℕ) → i < length (row p) → getD (row p) i 0 < length kids)
-      × (((p : ℕ) → p < length kids → (i : ℕ) → i < length (row p) - 1 → getD (row p) i 0 < getD (row p) (suc i) 0)
-      × ((p : ℕ) → p < length kids → getD levels p 0 ≡ greatest (map (λ q. suc (getD levels q 0)) (row p))))))))
+  abbrev Names : Type 0
+  Names = ((v : ℕ) → v < length names → (getD names v 0 ≤ v) × (getD names (getD names v 0) 0 ≡ getD names v 0)) × (groups ≡ groupList names)
+
+  abbrev Rows : Type 0
+  Rows =
+      (p : ℕ) → p < length kids
+      → ((i : ℕ) → i < length (row p) → getD (row p) i 0 < length kids)
+      × ((i : ℕ) → i < length (row p) - 1 → getD (row p) i 0 < getD (row p) (suc i) 0)
+
+  abbrev Levels : Type 0
+  Levels = (p : ℕ) → p < length kids → getD levels p 0 ≡ greatest (map (λ q. suc (getD levels q 0)) (row p))
+
+  names-decide : Decides (namesPass names groups) Names
+  unfolding namesPass
+  names-decide = both _ _ (below (length names) _ _ (λ v h. both _ _ (at-most _ _) (λ a. equal _ _))) (λ a. same-list groups (groupList names))
+
+  group-fields : Decides (groupsPass names groups levels kids) (Names × (((length kids ≡ length groups) × (length levels ≡ length kids)) × (Rows × Levels)))
   unfolding groupsPass
   group-fields =
-      both _ _ (below (length names) _ _ (λ v h. both _ _ (at-most _ _) (λ a. equal _ _))) (λ a.
-      both _ _ (same-list groups (groupList names)) (λ b.
-      both _ _ (both _ _ (equal _ _) (λ c. equal _ _)) (λ c.
-      both _ _ (below (length kids) _ _ (λ p h. below (length (row p)) _ _ (λ i j. less _ _))) (λ d.
-      both _ _ (below (length kids) _ _ (λ p h. below (length (row p) - 1) _ _ (λ i j. less _ _))) (λ f.
-      below (length kids) _ _ (λ p h. equal _ _))))))
+      both _ _ names-decide (λ a.
+      both _ _ (both _ _ (equal _ _) (λ b. equal _ _)) (λ b.
+      both _ _ (below (length kids) _ _ (λ p h. both _ _ (below (length (row p)) _ _ (λ i j. less _ _)) (λ c. below (length (row p) - 1) _ _ (λ i j. less _ _)))) (λ c.
+      below (length kids) _ _ (λ p h. equal _ _))))
 
   groups-decide : Decides (groupsPass names groups levels kids) (SoundGroups names groups levels kids)
   groups-decide = (
     (λ t. let f = group-fields .0 t in
         record {
-          name-low = λ v h. f .0 v h .0;
-          name-own = λ v h. f .0 v h .1;
-          groups-are = f .1 .0;
-          kids-long = f .1 .1 .0 .0;
-          levels-long = f .1 .1 .0 .1;
-          kid-low = λ p i h j. f .1 .1 .1 .0 p h i j;
-          kid-rises = λ p i h j. f .1 .1 .1 .1 .0 p h i (omega arith);
-          level-is = f .1 .1 .1 .1 .1;
+          name-low = λ v h. f .0 .0 v h .0;
+          name-own = λ v h. f .0 .0 v h .1;
+          groups-are = f .0 .1;
+          kids-long = f .1 .0 .0;
+          levels-long = f .1 .0 .1;
+          kid-low = λ p i h j. f .1 .1 .0 p h .0 i j;
+          kid-rises = λ p i h j. f .1 .1 .0 p h .1 i (omega arith);
+          level-is = f .1 .1 .1;
         }),
     λ S. group-fields .1 (
-      (λ v h. (S .name-low v h, S .name-own v h)),
+      ((λ v h. (S .name-low v h, S .name-own v h)), S .groups-are),
       (
-        S .groups-are,
-        (
-          (S .kids-long, S .levels-long),
-          (
-            (λ p h i j. S .kid-low p i h j),
-            (
-              (λ p h i j. S .kid-rises p i h (omega arith)),
-              S .level-is,
-            ),
-          ),
-        ),
+        (S .kids-long, S .levels-long),
+        ((λ p h. ((λ i j. S .kid-low p i h j), λ i j. S .kid-rises p i h (omega arith))), S .level-is),
       ),
     ),
   )
