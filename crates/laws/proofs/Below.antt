@@ -1,22 +1,17 @@
--- What stands in x's traversal subtree is downstream of x (rule 2), and s falls along children (rule 4).
+-- What a traversal visits is downstream of its list, and x's subtree is downstream of x.
 use mathlib.Core.Bool.{Bool, true, false, false≢true}
 use mathlib.Core.Logic.{inl, inr}
 use mathlib.Core.Path.{_≡_, refl}
-use mathlib.Core.List.{List, [], _∷_, map}
-use Prim.Native.Nat.{ℕ, _<_, _≤_}
-use native.Mathlib.Omega.{arith}
+use mathlib.Core.List.{List, [], _∷_}
+use Prim.Native.Nat.{ℕ}
 use lib.Dec.{eqb}
-use lib.ListN.{length, getD}
 use borrow.Author.Tests.{eqb-true, eq-eqb}
-use Rattle.lineage.specs.Lists.{among, least}
+use Rattle.lineage.specs.Lists.{among}
 use Rattle.lineage.specs.Labels.{Forest, finished, subtree}
 use Rattle.laws.specs.Visits.{Visits, over, skip, enter}
 use Rattle.laws.proofs.Tests.{or-left, or-right, or-cases}
-use Rattle.laws.proofs.Ranks.{among-append, least-at}
-
-pub data Leads (next : ℕ → List ℕ) : ℕ → ℕ → Type 0 where
-  stay : {p : ℕ} → Leads next p p
-  step : {p q t : ℕ} → among q (next p) ≡ true → Leads next q t → Leads next p t
+use Rattle.laws.proofs.Lists.{among-append}
+use Rattle.laws.specs.Leads.{Leads, step, stay}
 
 -- a group that is visited is downstream of one of the list
 pub from-todo :
@@ -49,10 +44,3 @@ subtree-leads {next} (enter {p = p} {below = below} {rest = rest} a r s) x t h =
         ]
     at false e true i l m = l (rw (e, i, subtree) at h)
     at false e false i l m = m (rw (e, i, subtree) at h)
-
--- s by its equations
-pub record Outer (kids : List (List ℕ)) (e s : List ℕ) : Type 0 where
-  pub is : (p : ℕ) → p < length kids → getD s p 0 ≡ least (getD e p 0) (map (λ q. getD s q 0) (getD kids p []))
-
-pub outer-falls : {kids : List (List ℕ)} {e s : List ℕ} → Outer kids e s → (p q : ℕ) → p < length kids → among q (getD kids p []) ≡ true → getD s p 0 ≤ getD s q 0
-outer-falls {kids} {e} {s} o p q h i = omega (arith, o .is p h, least-at (λ x. getD s x 0) (getD e p 0) q (getD kids p []) i)

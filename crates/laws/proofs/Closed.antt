@@ -11,8 +11,10 @@ use Rattle.lineage.specs.Labels.{Forest, finished, after}
 use Rattle.laws.specs.Visits.{Visits, over, skip, enter}
 use Rattle.laws.proofs.Tests.{or-left, or-cases}
 use Rattle.laws.proofs.Traversal.{kept}
-use Rattle.laws.proofs.Ranks.{among-append, among-after}
-use Rattle.laws.proofs.Below.{Leads, stay, step, from-todo}
+use Rattle.laws.proofs.Lists.{among-append}
+use Rattle.laws.proofs.Ranks.{among-after}
+use Rattle.laws.specs.Leads.{Leads, stay, step}
+use Rattle.laws.proofs.Below.{from-todo}
 
 pub among-self : (x : ℕ) (xs : List ℕ) → among x (x ∷ xs) ≡ true
 among-self x xs = or-left _ (eq-eqb x x refl)

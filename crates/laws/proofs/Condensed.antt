@@ -10,10 +10,9 @@ use borrow.Author.Tests.{eqb-true, eqb-false, eq-eqb, not-true}
 use Rattle.lineage.specs.Lists.{among, those, upto, greatest}
 use Rattle.lineage.specs.Graph.{Graph, Ends, Reaches, stay, step, reaches, sameGroup, nameOf, namesOf, groupList, isChild, childrenOf, level, levelsOf}
 use Rattle.lineage.specs.Sound.{childOf}
-use Rattle.laws.specs.Tests.{SoundGroups}
-use Rattle.laws.proofs.Tests.{and-both, and-left, and-right}
+use Rattle.laws.specs.Sound.{SoundGroups}
+use Rattle.laws.proofs.Tests.{and-both, and-left, and-right, is-false}
 use Rattle.laws.proofs.Reach.{append, sound, complete}
-use Rattle.laws.proofs.Ranks.{is-false}
 use Rattle.laws.proofs.Lists.{in-getD, position-low, map-same, getD-mapped, table-at, table-long, those-pass, those-keep, in-upto, upto-low, length-upto}
 use Rattle.laws.proofs.Rising.{Rises, rises-upto, rises-those, rises-next, first-of, those-lt, those-short}
 use Rattle.laws.proofs.Edges.{some-sound}
@@ -36,32 +35,32 @@ module _ (names : List ℕ) where
 
 -- Levels by the equation, where some number falls along children.
 module _
-    (kids : List (List ℕ)) (lv : ℕ → ℕ)
-    (kid-low : (p q : ℕ) → p < length kids → childOf kids p q ≡ true → q < length kids)
-    (low : (p : ℕ) → p < length kids → 1 ≤ lv p)
-    (down : (p q : ℕ) → p < length kids → childOf kids p q ≡ true → lv q < lv p)
+    (children : List (List ℕ)) (lv : ℕ → ℕ)
+    (child-low : (p q : ℕ) → p < length children → childOf children p q ≡ true → q < length children)
+    (low : (p : ℕ) → p < length children → 1 ≤ lv p)
+    (down : (p q : ℕ) → p < length children → childOf children p q ≡ true → lv q < lv p)
   where
-    level-stable : (f p : ℕ) → p < length kids → lv p ≤ f → level kids f p ≡ level kids (suc f) p
+    level-stable : (f p : ℕ) → p < length children → lv p ≤ f → level children f p ≡ level children (suc f) p
     unfolding level
     level-stable zero p h l = absurd (omega (arith, low p h))
     level-stable (suc f) p h l =
-        ap greatest (map-same (λ q. suc (level kids f q)) (λ q. suc (level kids (suc f) q)) (getD kids p [])
-        (λ q i. ap suc (level-stable f q (kid-low p q h i) (omega (arith, down p q h i)))))
+        ap greatest (map-same (λ q. suc (level children f q)) (λ q. suc (level children (suc f) q)) (getD children p [])
+        (λ q i. ap suc (level-stable f q (child-low p q h i) (omega (arith, down p q h i)))))
 
-    level-meets : (f p : ℕ) → p < length kids → lv p ≤ f → level kids f p ≡ greatest (map (λ q. suc (level kids f q)) (getD kids p []))
+    level-meets : (f p : ℕ) → p < length children → lv p ≤ f → level children f p ≡ greatest (map (λ q. suc (level children f q)) (getD children p []))
     unfolding level
     level-meets f p h l = level-stable f p h l
 
     pub levels-meet :
-        ((p : ℕ) → p < length kids → lv p ≤ length kids) → (p : ℕ) → p < length kids
-        → getD (levelsOf kids) p 0 ≡ greatest (map (λ q. suc (getD (levelsOf kids) q 0)) (getD kids p []))
+        ((p : ℕ) → p < length children → lv p ≤ length children) → (p : ℕ) → p < length children
+        → getD (levelsOf children) p 0 ≡ greatest (map (λ q. suc (getD (levelsOf children) q 0)) (getD children p []))
     unfolding levelsOf
     levels-meet high p h =
-        let at : (q : ℕ) → q < length kids → getD (map (level kids (length kids)) (upto (length kids))) q 0 ≡ level kids (length kids) q =
-        λ q i. table-at (level kids (length kids)) (length kids) q 0 i in
-        at p h ∙ level-meets (length kids) p h (high p h)
-        ∙ ap greatest (map-same (λ q. suc (level kids (length kids) q)) (λ q. suc (getD (map (level kids (length kids)) (upto (length kids))) q 0)) (getD kids p [])
-        (λ q i. ap suc (sym (at q (kid-low p q h i)))))
+        let at : (q : ℕ) → q < length children → getD (map (level children (length children)) (upto (length children))) q 0 ≡ level children (length children) q =
+        λ q i. table-at (level children (length children)) (length children) q 0 i in
+        at p h ∙ level-meets (length children) p h (high p h)
+        ∙ ap greatest (map-same (λ q. suc (level children (length children) q)) (λ q. suc (getD (map (level children (length children)) (upto (length children))) q 0)) (getD children p [])
+        (λ q i. ap suc (sym (at q (child-low p q h i)))))
 
 module _ (G : Graph) (ends : Ends G) where
   -- `reaches` decides paths
@@ -133,21 +132,21 @@ module _ (G : Graph) (ends : Ends G) where
   g-name : (p : ℕ) → p < k → nameOf G (g p) ≡ g p
   g-name p h = sym (name-at (g p) (g-low p h)) ∙ group-name names (g p) (in-getD groups p h) .1
 
-  abbrev kids : List (List ℕ)
-  kids = childrenOf G names groups
+  abbrev children : List (List ℕ)
+  children = childrenOf G names groups
 
-  kids-long : length kids ≡ k
+  children-long : length children ≡ k
   unfolding childrenOf
-  kids-long = length-map groups (λ a. those (λ q. isChild G names a (g q)) (upto k))
+  children-long = length-map groups (λ a. those (λ q. isChild G names a (g q)) (upto k))
 
-  kids-at : (p : ℕ) → p < k → getD kids p [] ≡ those (λ q. isChild G names (g p) (g q)) (upto k)
+  children-at : (p : ℕ) → p < k → getD children p [] ≡ those (λ q. isChild G names (g p) (g q)) (upto k)
   unfolding childrenOf
-  kids-at p h = getD-mapped (λ a. those (λ q. isChild G names a (g q)) (upto k)) groups p 0 [] h
+  children-at p h = getD-mapped (λ a. those (λ q. isChild G names a (g q)) (upto k)) groups p 0 [] h
 
   -- a child is downstream, and not upstream
-  kid-facts : (p q : ℕ) → p < k → childOf kids p q ≡ true → (isChild G names (g p) (g q) ≡ true) × (q < k)
-  kid-facts p q h i =
-      let t = those-pass (λ x. isChild G names (g p) (g x)) q (upto k) (rw (kids-at p h) at i) in
+  child-facts : (p q : ℕ) → p < k → childOf children p q ≡ true → (isChild G names (g p) (g q) ≡ true) × (q < k)
+  child-facts p q h i =
+      let t = those-pass (λ x. isChild G names (g p) (g x)) q (upto k) (rw (children-at p h) at i) in
       (t .0, upto-low k q (t .1))
 
   child-path : (p q : ℕ) → p < k → q < k → isChild G names (g p) (g q) ≡ true → Reaches G (g p) (g q)
@@ -179,40 +178,40 @@ module _ (G : Graph) (ends : Ends G) where
   pub reached-high : (p : ℕ) → reached p ≤ k
   reached-high p = omega (arith, those-short (λ q. reaches G (g p) (g q)) (upto k), length-upto k)
 
-  pub reached-falls : (p q : ℕ) → p < k → childOf kids p q ≡ true → reached q < reached p
+  pub reached-falls : (p q : ℕ) → p < k → childOf children p q ≡ true → reached q < reached p
   reached-falls p q h i =
-      let (c, j) = kid-facts p q h i in
+      let (c, j) = child-facts p q h i in
       those-lt (λ x. reaches G (g q) (g x)) (λ x. reaches G (g p) (g x)) (upto k) p
       (λ x t. reach (append (child-path p q h j c) (path t)))
       (in-upto k p h) (reach stay) (is-false (reaches G (g q) (g p)) (λ t. child-apart p q h j c (path t)))
 
-  kids-rise : (p : ℕ) → p < k → Rises (getD kids p [])
-  kids-rise p h = rw (kids-at p h) (rises-those (λ q. isChild G names (g p) (g q)) (upto k) (rises-upto k))
+  children-rise : (p : ℕ) → p < k → Rises (getD children p [])
+  children-rise p h = rw (children-at p h) (rises-those (λ q. isChild G names (g p) (g q)) (upto k) (rises-upto k))
 
-  levels-long : length (levelsOf kids) ≡ length kids
+  levels-long : length (levelsOf children) ≡ length children
   unfolding levelsOf
-  levels-long = table-long (level kids (length kids)) (length kids)
+  levels-long = table-long (level children (length children)) (length children)
 
   -- the same facts with k as the length of the children's list
-  below : {p : ℕ} → p < length kids → p < k
-  below h = omega (arith, kids-long)
+  below : {p : ℕ} → p < length children → p < k
+  below h = omega (arith, children-long)
 
-  pub kids-in : (p q : ℕ) → p < length kids → childOf kids p q ≡ true → q < length kids
-  kids-in p q h i = omega (arith, kids-long, kid-facts p q (below h) i .1)
+  pub children-in : (p q : ℕ) → p < length children → childOf children p q ≡ true → q < length children
+  children-in p q h i = omega (arith, children-long, child-facts p q (below h) i .1)
 
-  pub groups-sound : SoundGroups names groups (levelsOf kids) kids
+  pub groups-sound : SoundGroups names groups (levelsOf children) children
   groups-sound =
       record {
         name-low = λ v h. let l : v < G .n = omega (arith, names-long) in omega (arith, name-at v l, name-facts v v l (itself v));
         name-own = name-own;
         groups-are = refl;
-        kids-long = kids-long;
-        kid-low = λ p i h j. kids-in p (getD (getD kids p []) i 0) h (in-getD (getD kids p []) i j);
-        kid-rises = λ p i h j. rises-next (getD kids p []) (kids-rise p (below h)) i j;
+        children-long = children-long;
+        child-low = λ p i h j. children-in p (getD (getD children p []) i 0) h (in-getD (getD children p []) i j);
+        child-rises = λ p i h j. rises-next (getD children p []) (children-rise p (below h)) i j;
         levels-long = levels-long;
         level-is =
-            levels-meet kids reached kids-in (λ p h. reached-low p (below h)) (λ p q h i. reached-falls p q (below h) i)
-            (λ p h. omega (arith, kids-long, reached-high p));
+            levels-meet children reached children-in (λ p h. reached-low p (below h)) (λ p q h i. reached-falls p q (below h) i)
+            (λ p h. omega (arith, children-long, reached-high p));
       }
     where
       name-own : (v : ℕ) → v < length names → getD names (getD names v 0) 0 ≡ getD names v 0

@@ -11,9 +11,10 @@ use borrow.Author.Tests.{eqb-true, eq-eqb, ne-eqb}
 use Rattle.lineage.specs.Lists.{among, position}
 use Rattle.lineage.specs.Labels.{Forest, visit, finished, after}
 use Rattle.laws.specs.Visits.{Visits, over, skip, enter}
-use Rattle.laws.proofs.Tests.{or-left, or-right, or-cases}
-use Rattle.laws.proofs.Ranks.{Distinct, distinct-right, distinct-apart, before, position-past, clash, is-false, among-after}
-use Rattle.laws.proofs.Lists.{here, there, in-left, in-right, in-append}
+use Rattle.laws.proofs.Tests.{or-left, or-right, or-cases, clash}
+use Rattle.laws.proofs.Rising.{Distinct, distinct-right, distinct-apart, distinct-left}
+use Rattle.laws.proofs.Ranks.{before, among-after}
+use Rattle.laws.proofs.Lists.{position-past, here, there, in-left, in-right, in-append, position-left}
 use Rattle.laws.proofs.Forests.{Ranking, Fits, none, tree, entered-finished, block-up, member-rank}
 
 -- what is seen stays seen; the list is visited; what is next to a visited group is visited
@@ -57,16 +58,8 @@ visits-only P n (enter {p = p} {todo = todo} {below = below} {rest = rest} a v w
       ]
     ]
 
-position-left : (x : ℕ) (a b : List ℕ) → among x a ≡ true → position x (a ++ b) ≡ position x a
-position-left x [] b i = absurd (false≢true i)
-position-left x (y ∷ a) b i = at (eqb x y) refl (position-left x a b)
-  where
-    at : (t : Bool) → eqb x y ≡ t → (among x a ≡ true → position x (a ++ b) ≡ position x a) → position x (y ∷ (a ++ b)) ≡ position x (y ∷ a)
-    at true e ih = rw (e, position)
-    at false e ih = rw (e, position) (ap suc (ih (rw e at i)))
-
 -- A traversal fits the ranks by its own order of finishing, counted from lo.
-module _ (R : Ranking) (next : ℕ → List ℕ) (kids-next : (p q : ℕ) → among q (next p) ≡ true → R .kid p q ≡ true) where
+module _ (R : Ranking) (next : ℕ → List ℕ) (children-next : (p q : ℕ) → among q (next p) ≡ true → R .child p q ≡ true) where
   -- ranks and m of the groups of a part
   pub record Counted (f : Forest) (lo : ℕ) : Type 0 where
     pub low : (x : ℕ) → among x (finished f) ≡ true → x < R .k
@@ -126,10 +119,6 @@ module _ (R : Ranking) (next : ℕ → List ℕ) (kids-next : (p q : ℕ) → am
             let at : before x (visit p below rest) ≡ finished below ++ (p ∷ before x rest) = rw (ne x i, apart x (there x p (finished rest) i), before) in
             omega (arith, c .m-is x (inr′ x i), ap length at, length-append (finished below) (p ∷ before x rest))
 
-  distinct-left : (a b : List ℕ) → Distinct (a ++ b) → Distinct a
-  distinct-left [] b d = tt
-  distinct-left (x ∷ a) b d = (is-false (among x a) (λ i. clash (in-left x a b i) (d .0)), distinct-left a b (d .1))
-
   pub visits-fits :
       {ok : ℕ → Bool} {todo seen : List ℕ} {f : Forest} (lo hi : ℕ) → Visits next todo seen f
       → ((q : ℕ) → among q todo ≡ true → ok q ≡ true) → Distinct (finished f) → Counted f lo → lo + length (finished f) ≡ hi → Fits R ok f lo hi
@@ -137,7 +126,7 @@ module _ (R : Ranking) (next : ℕ → List ℕ) (kids-next : (p q : ℕ) → am
   visits-fits lo hi (skip {p = p} {todo = todo} a v) all once c h = visits-fits lo hi v (λ q i. all q (there q p todo i)) once c h
   visits-fits lo hi (enter {p = p} {todo = todo} {below = below} {rest = rest} a v w) all once c h =
       tree (all p (here p todo)) (c .low p (root-in p below rest lo once c)) (root-m p below rest lo once c) (root-rank p below rest lo once c)
-      (visits-fits lo (lo + length (finished below)) v (kids-next p) (distinct-left (finished below) (p ∷ finished rest) once) (counted-below p below rest lo once c) refl)
+      (visits-fits lo (lo + length (finished below)) v (children-next p) (distinct-left (finished below) (p ∷ finished rest) once) (counted-below p below rest lo once c) refl)
       (visits-fits (suc (lo + length (finished below))) hi w (λ q i. all q (there q p todo i)) (distinct-right (finished below) (p ∷ finished rest) once .1) (counted-rest p below rest lo once c)
       (omega (arith, length-append (finished below) (p ∷ finished rest))))
 

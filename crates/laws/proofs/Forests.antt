@@ -12,13 +12,12 @@ use borrow.Author.Tests.{eqb-true}
 use Rattle.lineage.specs.Lists.{among}
 use Rattle.lineage.specs.Labels.{Forest, done, visit, finished}
 use Rattle.laws.proofs.Tests.{or-cases}
-use Rattle.laws.proofs.Ranks.{among-append}
-use Rattle.laws.proofs.Lists.{here, there, in-left, in-right, in-append}
+use Rattle.laws.proofs.Lists.{among-append, here, there, in-left, in-right, in-append}
 
 -- a labelling as functions of places below k
 pub record Ranking : Type 0 where
   pub k : ℕ
-  pub kid : ℕ → ℕ → Bool
+  pub child : ℕ → ℕ → Bool
   pub e : ℕ → ℕ
   pub m : ℕ → ℕ
 
@@ -31,7 +30,7 @@ pub data Fits (R : Ranking) : (ℕ → Bool) → Forest → ℕ → ℕ → Type
       → p < R .k
       → R .m p ≡ suc lo
       → R .e p ≡ suc r
-      → Fits R (R .kid p) below lo r
+      → Fits R (R .child p) below lo r
       → Fits R ok next (suc r) hi
       → Fits R ok (visit p below next) lo hi
 

@@ -1,18 +1,20 @@
 -- Groups by two traversals: the trees of the second are the groups.
-use mathlib.Core.Bool.{true, false, false≢true, or-comm, or-false}
+use mathlib.Core.Bool.{true, false, false≢true}
 use mathlib.Core.Logic.{_⊎_, inl, inr, _↔_}
-use mathlib.Core.Path.{_≡_, refl, sym, _∙_}
-use mathlib.Core.List.{List, [], _∷_, _++_, reverse, reverseAux, reverseAux-eq, reverse-cons, reverse-reverse}
+use mathlib.Core.Path.{_≡_, sym, _∙_}
+use mathlib.Core.List.{List, [], _∷_, _++_, reverse, reverseAux, reverseAux-eq, reverse-reverse}
 use Prim.Native.Nat.{ℕ}
 use lib.Dec.{eqb}
 use borrow.Author.Tests.{eqb-true}
 use Rattle.lineage.specs.Lists.{among, joined}
 use Rattle.lineage.specs.Labels.{Forest, done, visit, finished, after}
 use Rattle.laws.specs.Visits.{Visits, over, skip, enter}
-use Rattle.laws.proofs.Tests.{or-right, or-cases}
+use Rattle.laws.proofs.Tests.{or-right, or-cases, clash}
 use Rattle.laws.proofs.Traversal.{Kept, kept}
-use Rattle.laws.proofs.Ranks.{clash, among-append, Distinct, distinct-apart, distinct, fresh}
-use Rattle.laws.proofs.Below.{Leads}
+use Rattle.laws.proofs.Lists.{among-append, among-reverse}
+use Rattle.laws.proofs.Rising.{Distinct, distinct-apart}
+use Rattle.laws.proofs.Ranks.{distinct, fresh}
+use Rattle.laws.specs.Leads.{Leads}
 use Rattle.laws.proofs.Closed.{among-self, seen-cases, held, listed, Closed, closed-after, stays, leads-on, Turned, turn, from-one}
 use Rattle.laws.proofs.Last.{past, past-beyond, past-self, last-reached}
 use Rattle.laws.proofs.Trees.{trees, Together, here, later, OnlyOne, only-one, joined-trees}
@@ -20,10 +22,6 @@ use Rattle.laws.proofs.Roots.{rootOf, together-root, root-together}
 
 kept-more : (x : ℕ) (gone seen : List ℕ) → among x seen ≡ true → Kept gone seen → Kept (x ∷ gone) seen
 kept-more x gone seen i k q h = elim (or-cases (eqb q x) _ h) [ inl e ↦ rw (eqb-true q x e) i | inr j ↦ k q j ]
-
-pub among-reverse : (x : ℕ) (l : List ℕ) → among x (reverse l) ≡ among x l
-among-reverse x [] = refl
-among-reverse x (y ∷ l) = rw (reverse-cons, among-append, among-reverse x l, or-comm (among x l), or-false (eqb x y))
 
 -- each reaches the other
 abbrev pub Mutual : (ℕ → List ℕ) → ℕ → ℕ → Type 0

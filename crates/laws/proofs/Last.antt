@@ -9,21 +9,12 @@ use borrow.Author.Tests.{eqb-true, eq-eqb}
 use Rattle.lineage.specs.Lists.{among}
 use Rattle.lineage.specs.Labels.{Forest, visit, finished, subtree, after}
 use Rattle.laws.specs.Visits.{Visits, over, skip, enter}
-use Rattle.laws.proofs.Tests.{or-left, or-right, or-cases}
-use Rattle.laws.proofs.Ranks.{
-  clash,
-  or-false-left,
-  or-false-right,
-  among-append,
-  distinct-apart,
-  distinct,
-  fresh,
-  before,
-  behind,
-  run,
-  self,
-}
-use Rattle.laws.proofs.Below.{Leads, stay, step, subtree-leads}
+use Rattle.laws.proofs.Tests.{or-left, or-right, or-cases, clash, or-false-left, or-false-right}
+use Rattle.laws.proofs.Lists.{among-append}
+use Rattle.laws.proofs.Rising.{distinct-apart}
+use Rattle.laws.proofs.Ranks.{distinct, fresh, before, behind, run, self}
+use Rattle.laws.specs.Leads.{Leads, stay, step}
+use Rattle.laws.proofs.Below.{subtree-leads}
 use Rattle.laws.proofs.Closed.{listed, followed, held}
 
 -- what stands past x in a list

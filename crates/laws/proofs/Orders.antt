@@ -8,9 +8,8 @@ use lib.ListN.{length, getD, length-map, length-append}
 use borrow.Author.Tests.{not-true}
 use Rattle.lineage.specs.Lists.{among, those, upto, position}
 use Rattle.lineage.specs.Labels.{inOrder, Order}
-use Rattle.laws.proofs.Ranks.{Distinct}
-use Rattle.laws.proofs.Rising.{Rises, rises-upto, rises-those, rises-distinct, rises-unique}
-use Rattle.laws.proofs.Lists.{in-left, in-right, in-getD, position-low, at-position, position-getD, in-map, of-map, map-same, those-append, those-all, those-none, those-pass, those-keep, those-split, in-upto, length-upto}
+use Rattle.laws.proofs.Rising.{Distinct, Rises, rises-upto, rises-those, rises-distinct, rises-unique, position-getD}
+use Rattle.laws.proofs.Lists.{in-left, in-right, in-getD, position-low, at-position, in-map, of-map, map-same, those-append, those-all, those-none, those-pass, those-keep, those-split, in-upto, length-upto}
 
 -- the places of an order are places, and all of them
 pub places-low : (order groups : List ℕ) (p : ℕ) → among p (inOrder order groups) ≡ true → p < length groups

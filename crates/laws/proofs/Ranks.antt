@@ -1,9 +1,9 @@
 -- In the order of finishing each subtree is one run, and m is one more than what was finished before the group was entered.
-use mathlib.Core.Bool.{Bool, true, false, _||_, false≢true, true≢false, or-true, or-assoc}
+use mathlib.Core.Bool.{Bool, true, false, _||_, false≢true, or-true}
 use mathlib.Core.Logic.{inl, inr}
 use mathlib.Core.Path.{_≡_, refl, sym, ap, subst, _∙_}
 use mathlib.Core.List.{List, [], _∷_, _++_, map, append-assoc}
-use Prim.Native.Nat.{ℕ, suc, _<_, _≤_, _+_, min}
+use Prim.Native.Nat.{ℕ, suc, _≤_, _+_}
 use native.Mathlib.Omega.{arith}
 use lib.Dec.{eqb}
 use lib.ListN.{length}
@@ -11,27 +11,9 @@ use borrow.Author.Tests.{eqb-true, eq-eqb}
 use Rattle.lineage.specs.Lists.{among, position, least}
 use Rattle.lineage.specs.Labels.{Forest, done, visit, finished, subtree, after}
 use Rattle.laws.specs.Visits.{Visits, over, skip, enter}
-use Rattle.laws.proofs.Tests.{or-left, or-right, or-cases}
-
--- tests that fail
-pub clash : {A : Type 0} {b : Bool} → b ≡ true → b ≡ false → A
-clash t f = absurd (true≢false (sym t ∙ f))
-
-pub is-false : (b : Bool) → (b ≡ true → ⊥) → b ≡ false
-is-false true n = absurd (n refl)
-is-false false n = refl
-
-pub or-false-left : (a b : Bool) → (a || b) ≡ false → a ≡ false
-or-false-left true b h = h
-or-false-left false b h = refl
-
-pub or-false-right : (a b : Bool) → (a || b) ≡ false → b ≡ false
-or-false-right true b h = clash refl h
-or-false-right false b h = h
-
-pub among-append : (x : ℕ) (a b : List ℕ) → among x (a ++ b) ≡ (among x a || among x b)
-among-append x [] b = refl
-among-append x (y ∷ a) b = rw (among-append x a b) (sym (or-assoc (eqb x y) (among x a) (among x b)))
+use Rattle.laws.proofs.Tests.{or-left, or-right, or-cases, or-false-right, is-false, clash, or-false-left}
+use Rattle.laws.proofs.Lists.{among-append, position-past, least-at, position-in, least-above}
+use Rattle.laws.proofs.Rising.{Distinct, distinct-apart, distinct-append}
 
 shuffle : (a b c d : Bool) → (a || (b || (c || d))) ≡ ((b || (c || a)) || d)
 shuffle a true c d = or-true a
@@ -43,28 +25,6 @@ among-after q done seen = refl
 among-after q (visit p below next) seen =
     rw (among-after q next (after below (p ∷ seen)), among-after q below (p ∷ seen), among-append q (finished below) (p ∷ finished next))
     (shuffle (among q (finished next)) (among q (finished below)) (eqb q p) (among q seen))
-
--- no number stands twice
-abbrev pub Distinct : List ℕ → Type 0
-Distinct [] = Unit {0}
-Distinct (x ∷ xs) = (among x xs ≡ false) × Distinct xs
-
-distinct-append : (a b : List ℕ) → Distinct a → Distinct b → ((x : ℕ) → among x a ≡ true → among x b ≡ false) → Distinct (a ++ b)
-distinct-append [] b da db apart = db
-distinct-append (x ∷ a) b da db apart =
-    (rw (among-append x a b, da .0) (apart x (or-left _ (eq-eqb x x refl))), distinct-append a b (da .1) db (λ y h. apart y (or-right (eqb y x) h)))
-
-pub distinct-right : (a b : List ℕ) → Distinct (a ++ b) → Distinct b
-distinct-right [] b d = d
-distinct-right (x ∷ a) b d = distinct-right a b (d .1)
-
-pub distinct-apart : (a b : List ℕ) → Distinct (a ++ b) → (x : ℕ) → among x b ≡ true → among x a ≡ false
-distinct-apart [] b d x h = refl
-distinct-apart (y ∷ a) b d x h =
-    is-false (among x (y ∷ a)) (λ t. elim (or-cases (eqb x y) _ t) [
-      | inl e ↦ clash (rw (among-append y a b, ← eqb-true x y e) (or-right (among x a) h)) (d .0)
-      | inr i ↦ clash i (distinct-apart a b (d .1) x h)
-    ])
 
 -- a traversal goes into nothing that was seen, and into nothing twice
 pub fresh : {next : ℕ → List ℕ} {todo seen : List ℕ} {f : Forest} → Visits next todo seen f → (q : ℕ) → among q (finished f) ≡ true → among q seen ≡ false
@@ -136,38 +96,6 @@ self x (visit p below next) h = at (eqb x p) refl (among x (finished below)) ref
     at true e c i l r = rw (e, subtree) (rw (among-append x (finished below) (p ∷ []), e) (or-true (among x (finished below))))
     at false e true i l r = rw (e, i, subtree) (l i)
     at false e false i l r = rw (e, i, subtree) (r (rw (among-append, i, e) at h))
-
--- where a number stands in a joined list
-pub position-past : (q : ℕ) (a b : List ℕ) → among q a ≡ false → position q (a ++ b) ≡ length a + position q b
-position-past q [] b h = omega arith
-position-past q (x ∷ a) b h =
-    rw (or-false-left (eqb q x) _ h, position) (omega (arith, position-past q a b (or-false-right (eqb q x) _ h)))
-
-pub position-in : (q : ℕ) (a b : List ℕ) → among q a ≡ true → position q (a ++ b) < length a
-position-in q [] b h = absurd (false≢true h)
-position-in q (x ∷ a) b h = at (eqb q x) refl (position-in q a b)
-  where
-    at : (t : Bool) → eqb q x ≡ t → (among q a ≡ true → position q (a ++ b) < length a) → position q (x ∷ (a ++ b)) < suc (length a)
-    at true e ih = rw (e, position) (omega arith)
-    at false e ih = rw (e, position) (omega (arith, ih (rw e at h)))
-
--- the least of a list's values
-pub least-below : (f : ℕ → ℕ) (a : ℕ) (xs : List ℕ) → least a (map f xs) ≤ a
-least-below f a [] = omega arith
-least-below f a (x ∷ xs) = omega (arith, least-below f (min a (f x)) xs)
-
-pub least-at : (f : ℕ → ℕ) (a q : ℕ) (xs : List ℕ) → among q xs ≡ true → least a (map f xs) ≤ f q
-least-at f a q [] h = absurd (false≢true h)
-least-at f a q (x ∷ xs) h =
-    elim (or-cases (eqb q x) _ h) [
-      | inl e ↦ rw (eqb-true q x e) (omega (arith, least-below f (min a (f x)) xs))
-      | inr i ↦ least-at f (min a (f x)) q xs i
-    ]
-
-pub least-above : (f : ℕ → ℕ) (a b : ℕ) (xs : List ℕ) → b ≤ a → ((q : ℕ) → among q xs ≡ true → b ≤ f q) → b ≤ least a (map f xs)
-least-above f a b [] h all = h
-least-above f a b (x ∷ xs) h all =
-    least-above f (min a (f x)) b xs (omega (arith, all x (or-left _ (eq-eqb x x refl)))) (λ q i. all q (or-right (eqb q x) i))
 
 -- one more than the position of a number in the order of finishing
 abbrev pub rank : Forest → ℕ → ℕ

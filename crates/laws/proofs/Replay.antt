@@ -11,8 +11,8 @@ use borrow.Author.Tests.{eqb-true}
 use Rattle.lineage.specs.Lists.{among, those}
 use Rattle.lineage.specs.Labels.{Forest, done, finished, after}
 use Rattle.laws.specs.Visits.{Visits, over, skip, enter}
-use Rattle.laws.proofs.Tests.{or-left, or-right, or-cases}
-use Rattle.laws.proofs.Ranks.{is-false, among-after}
+use Rattle.laws.proofs.Tests.{or-left, or-right, or-cases, is-false}
+use Rattle.laws.proofs.Ranks.{among-after}
 use Rattle.laws.proofs.Lists.{here, there, in-left, in-right, in-append, those-append, those-yes, those-pass}
 use Rattle.laws.proofs.Forests.{Ranking, Fits, none, tree, entered, joinF, join-done, entered-finished, block-up, member-rank, rank-member}
 
@@ -27,10 +27,10 @@ skips (x ∷ xs) todo all v = skip (all x (here x xs)) (skips xs todo (λ y i. a
 
 module _
     (R : Ranking) (ord : List ℕ) (next : ℕ → List ℕ)
-    (next-is : (p : ℕ) → next p ≡ those (R .kid p) ord)
+    (next-is : (p : ℕ) → next p ≡ those (R .child p) ord)
     (one : (p q : ℕ) → p < R .k → q < R .k → R .e p ≡ R .e q → p ≡ q)
     (low : (p : ℕ) → among p ord ≡ true → p < R .k)
-    (falls : (p q : ℕ) → p < R .k → R .kid p q ≡ true → R .e q < R .e p)
+    (falls : (p q : ℕ) → p < R .k → R .child p q ≡ true → R .e q < R .e p)
   where
     -- no rank of the list lies above lo and up to hi
     abbrev Outside : List ℕ → ℕ → ℕ → Type 0
@@ -41,9 +41,9 @@ module _
     Covered seen lo = (x : ℕ) → among x ord ≡ true → R .e x ≤ lo → among x seen ≡ true
 
     -- children of p that stand outside its block have been seen when it is entered
-    passed : (p : ℕ) {lo r : ℕ} (xs seen : List ℕ) → p < R .k → R .e p ≡ suc r → Outside xs lo r → Covered seen lo → ((x : ℕ) → among x xs ≡ true → among x ord ≡ true) → (x : ℕ) → among x (those (R .kid p) xs) ≡ true → among x seen ≡ true
+    passed : (p : ℕ) {lo r : ℕ} (xs seen : List ℕ) → p < R .k → R .e p ≡ suc r → Outside xs lo r → Covered seen lo → ((x : ℕ) → among x xs ≡ true → among x ord ≡ true) → (x : ℕ) → among x (those (R .child p) xs) ≡ true → among x seen ≡ true
     passed p xs seen h y o c i x j =
-        let t = those-pass (R .kid p) x xs j in
+        let t = those-pass (R .child p) x xs j in
         c x (i x (t .1)) (o x (t .1) (omega (arith, falls p x h (t .0))))
 
     later-seen : (f : Forest) (seen : List ℕ) (x : ℕ) → among x seen ≡ true → among x (after f seen) ≡ true
@@ -61,17 +61,17 @@ module _
         → Outside a lo r
         → Outside b lo r
         → Covered seen lo
-        → ((rest : List ℕ) (g : Forest) → Visits next rest (after below seen) g → Visits next (those (R .kid p) (entered below) ++ rest) seen (joinF below g))
+        → ((rest : List ℕ) (g : Forest) → Visits next rest (after below seen) g → Visits next (those (R .child p) (entered below) ++ rest) seen (joinF below g))
         → Visits next (next p) seen below
     inside p below a b seen h y o oa ob c go =
-        let kid : ℕ → Bool = R .kid p in
-        let parts : next p ≡ those kid a ++ (those kid (entered below) ++ those kid b) =
-        next-is p ∙ ap (those kid) o ∙ those-append kid a (entered below ++ b) ∙ ap (those kid a ++_) (those-append kid (entered below) b) in
+        let child : ℕ → Bool = R .child p in
+        let parts : next p ≡ those child a ++ (those child (entered below) ++ those child b) =
+        next-is p ∙ ap (those child) o ∙ those-append child a (entered below ++ b) ∙ ap (those child a ++_) (those-append child (entered below) b) in
         let ia : (x : ℕ) → among x a ≡ true → among x ord ≡ true = λ x i. rw o (in-left x a (entered below ++ b) i) in
         let ib : (x : ℕ) → among x b ≡ true → among x ord ≡ true = λ x i. rw o (in-right x a (entered below ++ b) (in-right x (entered below) b i)) in
-        let last : Visits next (those kid b) (after below seen) done =
-        rw (← append-nil (those kid b)) (skips (those kid b) [] (λ x i. later-seen below seen x (passed p b seen h y ob c ib x i)) over) in
-        rw parts (skips (those kid a) _ (passed p a seen h y oa c ia) (rw (join-done below) at (go (those kid b) done last)))
+        let last : Visits next (those child b) (after below seen) done =
+        rw (← append-nil (those child b)) (skips (those child b) [] (λ x i. later-seen below seen x (passed p b seen h y ob c ib x i)) over) in
+        rw parts (skips (those child a) _ (passed p a seen h y oa c ia) (rw (join-done below) at (go (those child b) done last)))
 
     -- the order's part for a forest, then the rest: the forest, then what the rest gives
     replay :

@@ -5,8 +5,9 @@ use mathlib.Core.List.{List, [], _∷_, _++_}
 use Prim.Native.Nat.{ℕ}
 use Rattle.lineage.specs.Lists.{among, joined}
 use Rattle.lineage.specs.Labels.{Forest, done, visit, finished}
-use Rattle.laws.proofs.Tests.{or-left, or-right}
-use Rattle.laws.proofs.Ranks.{clash, among-append, Distinct, distinct-right, distinct-apart}
+use Rattle.laws.proofs.Tests.{or-left, or-right, clash}
+use Rattle.laws.proofs.Lists.{among-append}
+use Rattle.laws.proofs.Rising.{Distinct, distinct-right, distinct-apart}
 use Rattle.laws.proofs.Closed.{among-self}
 use Rattle.laws.proofs.Trees.{trees, Together, here, later}
 

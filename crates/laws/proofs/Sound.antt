@@ -6,19 +6,18 @@ use mathlib.Core.List.{List, [], _∷_, map}
 use Prim.Native.Nat.{ℕ, _<_}
 use native.Mathlib.Omega.{arith}
 use lib.ListN.{length, getD}
-use Rattle.lineage.specs.Lists.{among}
+use Rattle.lineage.specs.Lists.{among, Every}
 use Rattle.lineage.specs.Graph.{Graph, Ends, namesOf, groupList, childrenOf, levelsOf, condense}
 use Rattle.lineage.specs.Labels.{Labelling, inOrder, Order, labelling}
 use Rattle.lineage.specs.Index.{Index, indexOf}
-use Rattle.lineage.specs.Lists.{Every}
-use Rattle.laws.specs.Tests.{SoundLabelling, SoundGroups, Sound}
+use Rattle.laws.specs.Sound.{SoundLabelling, SoundGroups, Sound}
 use Rattle.laws.proofs.Rising.{rises-distinct}
 use Rattle.laws.proofs.Forests.{entered}
 use Rattle.laws.proofs.Walks.{forest}
 use Rattle.laws.proofs.Relabel.{all-entered, entered-low, entered-count, labelling-same}
 use Rattle.laws.proofs.Labelled.{labels-sound}
-use Rattle.laws.proofs.Condensed.{groups-rise, g-low, reached, reached-high, reached-falls, kids-in, groups-sound}
-use Rattle.laws.proofs.Regraph.{member-name, rising-groups, kid-in, graph, graph-ends, names-made, groups-made, kids-made, levels-made}
+use Rattle.laws.proofs.Condensed.{groups-rise, g-low, reached, reached-high, reached-falls, children-in, groups-sound}
+use Rattle.laws.proofs.Regraph.{member-name, rising-groups, child-in, graph, graph-ends, names-made, groups-made, children-made, levels-made}
 use Rattle.laws.proofs.Orders.{places-low, places-all, orderOf, in-order, is-order}
 
 -- made, then sound
@@ -26,24 +25,24 @@ module _ (G : Graph) (ends : Ends G) where
   abbrev groups : List ℕ
   groups = groupList (namesOf G)
 
-  abbrev kids : List (List ℕ)
-  kids = childrenOf G (namesOf G) groups
+  abbrev children : List (List ℕ)
+  children = childrenOf G (namesOf G) groups
 
-  groups-sized : length groups ≡ length kids
-  groups-sized = sym (groups-sound G ends .kids-long)
+  groups-sized : length groups ≡ length children
+  groups-sized = sym (groups-sound G ends .children-long)
 
-  labelling-sound : (order : List ℕ) → Order (G .n) order → SoundLabelling kids (labelling groups kids order)
+  labelling-sound : (order : List ℕ) → Order (G .n) order → SoundLabelling children (labelling groups children order)
   unfolding labelling
   labelling-sound order o =
       rw groups-sized
-      (labels-sound kids (inOrder order groups) (reached G ends) (length kids) (kids-in G ends)
+      (labels-sound children (inOrder order groups) (reached G ends) (length children) (children-in G ends)
       (λ p h. omega (arith, reached-high G ends p, groups-sized))
       (λ p q h i. reached-falls G ends p q (omega (arith, groups-sized)) i)
       (λ q i. omega (arith, places-low order groups q i, groups-sized))
       (λ q h. let l : q < length groups = omega (arith, groups-sized) in
       places-all order groups (rises-distinct groups (groups-rise (namesOf G))) q l (o .all (getD groups q 0) (g-low G ends q l))))
 
-  labellings-sound : (orders : List (List ℕ)) → Every (Order (G .n)) orders → Every (SoundLabelling kids) (map (labelling groups kids) orders)
+  labellings-sound : (orders : List (List ℕ)) → Every (Order (G .n)) orders → Every (SoundLabelling children) (map (labelling groups children) orders)
   labellings-sound [] os = tt
   labellings-sound (o ∷ orders) os = (labelling-sound o (os .0), labellings-sound orders (os .1))
 
@@ -60,32 +59,32 @@ pub record Maker (I : Index) : Type 0 where
   pub permuted : Every (Order (G .n)) orders
   pub makes : indexOf G orders ≡ I
 
-module _ (names groups levels : List ℕ) (kids : List (List ℕ)) (S : SoundGroups names groups levels kids) where
+module _ (names groups levels : List ℕ) (children : List (List ℕ)) (S : SoundGroups names groups levels children) where
   -- an order for one labelling
-  relabelled : (l : Labelling) → SoundLabelling kids l → (order : List ℕ) × Order (length names) order × (labelling groups kids order ≡ l)
+  relabelled : (l : Labelling) → SoundLabelling children l → (order : List ℕ) × Order (length names) order × (labelling groups children order ≡ l)
   relabelled l L = (
-    orderOf (length names) groups places (rising-groups names groups levels kids S) group-low low all full,
-    is-order (length names) groups places (rising-groups names groups levels kids S) group-low low all full,
-    labelling-same kids l L (kid-in names groups levels kids S) groups _ (sym (S .kids-long))
-        (in-order (length names) groups places (rising-groups names groups levels kids S) group-low low all full),
+    orderOf (length names) groups places (rising-groups names groups levels children S) group-low low all full,
+    is-order (length names) groups places (rising-groups names groups levels children S) group-low low all full,
+    labelling-same children l L (child-in names groups levels children S) groups _ (sym (S .children-long))
+        (in-order (length names) groups places (rising-groups names groups levels children S) group-low low all full),
   )
     where
       places : List ℕ
-      places = entered (forest kids l L .0)
+      places = entered (forest children l L .0)
 
       group-low : (v : ℕ) → among v groups ≡ true → v < length names
-      group-low v i = member-name names groups levels kids S v i .0
+      group-low v i = member-name names groups levels children S v i .0
 
       low : (p : ℕ) → among p places ≡ true → p < length groups
-      low p i = omega (arith, S .kids-long, entered-low kids l L (kid-in names groups levels kids S) p i)
+      low p i = omega (arith, S .children-long, entered-low children l L (child-in names groups levels children S) p i)
 
       all : (p : ℕ) → p < length groups → among p places ≡ true
-      all p h = all-entered kids l L (kid-in names groups levels kids S) p (omega (arith, S .kids-long))
+      all p h = all-entered children l L (child-in names groups levels children S) p (omega (arith, S .children-long))
 
       full : length places ≡ length groups
-      full = omega (arith, S .kids-long, entered-count kids l L (kid-in names groups levels kids S))
+      full = omega (arith, S .children-long, entered-count children l L (child-in names groups levels children S))
 
-  relabelled-all : (ls : List Labelling) → Every (SoundLabelling kids) ls → (orders : List (List ℕ)) × Every (Order (length names)) orders × (map (labelling groups kids) orders ≡ ls)
+  relabelled-all : (ls : List Labelling) → Every (SoundLabelling children) ls → (orders : List (List ℕ)) × Every (Order (length names)) orders × (map (labelling groups children) orders ≡ ls)
   relabelled-all [] Ls = ([], tt, refl)
   relabelled-all (l ∷ ls) Ls =
       let (o, p, e) = relabelled l (Ls .0) in
@@ -104,7 +103,7 @@ module _ (I : Index) (S : Sound I) where
   index-made orders e =
       let ns : namesOf G ≡ I .names = names-made (I .names) (I .groups) (I .levels) (I .children) C in
       let gs : groupList (namesOf G) ≡ I .groups = groups-made (I .names) (I .groups) (I .levels) (I .children) C in
-      let cs : childrenOf G (namesOf G) (groupList (namesOf G)) ≡ I .children = kids-made (I .names) (I .groups) (I .levels) (I .children) C in
+      let cs : childrenOf G (namesOf G) (groupList (namesOf G)) ≡ I .children = children-made (I .names) (I .groups) (I .levels) (I .children) C in
       let vs : levelsOf (childrenOf G (namesOf G) (groupList (namesOf G))) ≡ I .levels = ap levelsOf cs ∙ levels-made (I .names) (I .groups) (I .levels) (I .children) C in
       let ls : map (labelling (groupList (namesOf G)) (childrenOf G (namesOf G) (groupList (namesOf G)))) orders ≡ I .labels =
       ap₂ (λ xs ks. map (labelling xs ks) orders) gs cs ∙ e in

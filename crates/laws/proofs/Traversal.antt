@@ -1,7 +1,7 @@
 -- A traversal is determined by its start, and `traverse` makes it.
 use mathlib.Core.Bool.{Bool, true, false, false≢true, true≢false}
 use mathlib.Core.Logic.{inl, inr}
-use mathlib.Core.Path.{_≡_, refl, sym, ap₂, _∙_}
+use mathlib.Core.Path.{_≡_, refl, sym, ap₂, _∙_, ap}
 use mathlib.Core.List.{List, [], _∷_}
 use Prim.Native.Nat.{ℕ, zero, suc, _<_, _≤_}
 use native.Mathlib.Nat.{not-suc-le-zero}
@@ -12,6 +12,7 @@ use Rattle.lineage.specs.Lists.{among}
 use Rattle.lineage.specs.Labels.{Forest, done, visit, after, along, traverse}
 use Rattle.laws.specs.Visits.{Visits, over, skip, enter}
 use Rattle.laws.proofs.Tests.{or-left, or-right, or-cases}
+use lib.ListN.{length}
 
 pub unique : {next : ℕ → List ℕ} {todo seen : List ℕ} {f g : Forest} → Visits next todo seen f → Visits next todo seen g → f ≡ g
 unique over over = refl
@@ -30,6 +31,11 @@ countIf false n = suc n
 abbrev pub unseen : List ℕ → List ℕ → ℕ
 unseen [] seen = 0
 unseen (q ∷ qs) seen = countIf (among q seen) (unseen qs seen)
+
+-- of a list all is unseen where nothing is seen
+pub unseen-none : (qs : List ℕ) → unseen qs [] ≡ length qs
+unseen-none [] = refl
+unseen-none (q ∷ qs) = ap suc (unseen-none qs)
 
 -- what is seen stays seen
 abbrev pub Kept : List ℕ → List ℕ → Type 0

@@ -7,8 +7,9 @@ use native.Mathlib.Omega.{arith}
 use lib.ListN.{length, getD}
 use Rattle.lineage.specs.Lists.{among, joined}
 use Rattle.lineage.specs.Labels.{Forest, done, visit, finished}
-use Rattle.laws.proofs.Tests.{or-left, or-right}
-use Rattle.laws.proofs.Ranks.{clash, among-append, Distinct, distinct-right, distinct-apart}
+use Rattle.laws.proofs.Tests.{or-left, or-right, clash}
+use Rattle.laws.proofs.Lists.{among-append}
+use Rattle.laws.proofs.Rising.{Distinct, distinct-right, distinct-apart}
 
 -- the trees of a forest, each as it is finished, its root last
 abbrev pub trees : Forest → List (List ℕ)

@@ -1,26 +1,22 @@
 -- A graph's groups are the trees of two traversals: along its edges, then along its turned edges.
-use mathlib.Core.Bool.{Bool, true, false, _||_, false≢true}
+use mathlib.Core.Bool.{Bool, true, false, false≢true}
 use mathlib.Core.Logic.{inl, inr, _↔_}
 use mathlib.Core.Path.{_≡_, refl}
 use mathlib.Core.List.{List, [], _∷_, reverse}
-use Prim.Native.Nat.{ℕ, zero, suc, _<_}
-use native.Mathlib.Nat.{not-suc-le-zero}
-use native.Mathlib.Decide.{ℕ-discrete}
-use native.Mathlib.Omega.{arith}
+use Prim.Native.Nat.{ℕ, _<_}
 use lib.Dec.{eqb}
 use borrow.Author.Tests.{eqb-true, eq-eqb}
 use Rattle.lineage.specs.Lists.{among, upto}
-use Rattle.lineage.specs.Graph.{Graph, Edge, first, later, Reaches}
-use Rattle.lineage.specs.Graph.{stay as stay-there, step as go}
+use Rattle.lineage.specs.Graph.{Graph, Edge, first, later, Reaches, stay as stay-there, step as go}
 use Rattle.lineage.specs.Labels.{Forest, finished}
 use Rattle.laws.specs.Visits.{Visits}
-use Rattle.laws.proofs.Tests.{or-left, or-right, or-cases}
-use Rattle.laws.proofs.Ranks.{among-append}
-use Rattle.laws.proofs.Below.{Leads, stay, step}
+use Rattle.laws.proofs.Tests.{or-right, or-cases}
+use Rattle.laws.specs.Leads.{Leads, stay, step}
 use Rattle.laws.proofs.Closed.{among-self, held, listed, Turned}
 use Rattle.laws.proofs.Trees.{trees, Together, OnlyOne}
 use Rattle.laws.proofs.Roots.{rootOf}
 use Rattle.laws.proofs.Groups.{Mutual, same-tree, one-tree, same-root}
+use Rattle.laws.proofs.Lists.{in-upto}
 
 -- the values whose key is x, in the list's order
 abbrev pub row : List ℕ → List ℕ → ℕ → List ℕ
@@ -71,14 +67,6 @@ module _ {G : Graph} where
   both : {u v : ℕ} → Mutual (next G) u v → Reaches G u v × Reaches G v u
   both m = (leads-reaches (m .0), leads-reaches (m .1))
 
-pub among-upto : (v n : ℕ) → v < n → among v (upto n) ≡ true
-among-upto v zero h = absurd (not-suc-le-zero h)
-among-upto v (suc n) h = rw among-append (at (ℕ-discrete v n) (among-upto v n))
-  where
-    at : Dec (v ≡ n) → (v < n → among v (upto n) ≡ true) → (among v (upto n) || among v (n ∷ [])) ≡ true
-    at (yes e) ih = or-right (among v (upto n)) (or-left _ (eq-eqb v n e))
-    at (no ne) ih = or-left _ (ih (omega arith))
-
 module _ (G : Graph) {f₁ f₂ : Forest} (once : Visits (next G) (upto (G .n)) [] f₁) (twice : Visits (back G) (reverse (finished f₁)) [] f₂) where
   ahead : Turned (next G) (back G)
   ahead = rows-turned (G .sources) (G .targets)
@@ -87,7 +75,7 @@ module _ (G : Graph) {f₁ f₂ : Forest} (once : Visits (next G) (upto (G .n)) 
   again = rows-turned (G .targets) (G .sources)
 
   visited : (v : ℕ) → v < G .n → among v (finished f₁) ≡ true
-  visited v h = held f₁ v (listed once v (among-upto v (G .n) h))
+  visited v h = held f₁ v (listed once v (in-upto (G .n) v h))
 
   -- the vertices u and v stand in the same tree just if each reaches the other
   pub groups-are-trees : (u v : ℕ) → u < G .n → v < G .n → Together (trees f₂) u v ↔ (Reaches G u v × Reaches G v u)

@@ -8,9 +8,8 @@ use lib.Dec.{eqb}
 use Rattle.lineage.specs.Lists.{among}
 use Rattle.lineage.specs.Labels.{Forest, finished, after}
 use Rattle.laws.specs.Visits.{Visits, over, skip, enter}
-use Rattle.laws.proofs.Tests.{or-right}
+use Rattle.laws.proofs.Tests.{or-right, clash, is-false}
 use Rattle.laws.proofs.Traversal.{Kept, kept}
-use Rattle.laws.proofs.Ranks.{clash, is-false}
 use Rattle.laws.proofs.Closed.{among-self, parts, seen-cases, listed, followed}
 
 -- a path of which no vertex was seen
