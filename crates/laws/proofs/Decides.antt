@@ -1,4 +1,5 @@
--- The computed tests decide Sound.
+-- The computed tests decide soundness: each test is true exactly where its fact holds, and so are tests joined and tests of all numbers below a bound.
+-- The left walk's bound suffices since each of its steps goes left; that it does follows from the tests that are read before it.
 use mathlib.Core.Bool.{Bool, true, false, _&&_, false≢true}
 use mathlib.Core.Logic.{_↔_}
 use mathlib.Core.Path.{_≡_, refl, ap, ap₂}
@@ -21,7 +22,7 @@ use Rattle.laws.proofs.Lists.{in-getD, position-low, at-position}
 use Rattle.laws.proofs.Inverse.{rank-most}
 
 -- the test is true exactly where the fact holds
-abbrev pub Decides : Bool → Type 0 → Type 0
+abbrev Decides : Bool → Type 0 → Type 0
 Decides b P = (b ≡ true) ↔ P
 
 -- two tests, the second read where the first holds
@@ -133,9 +134,12 @@ module _ (children : List (List ℕ)) (l : Labelling) where
   abbrev Mins : Type 0
   Mins = (p : ℕ) → p < k → (1 ≤ m p) × (m p ≤ e p)
 
+  abbrev Sizes : Type 0
+  Sizes = (length (l .s) ≡ k) × ((length (l .m) ≡ k) × ((length (l .e) ≡ k) × (length (l .byRank) ≡ k)))
+
   abbrev Fields : Type 0
   Fields =
-      ((length (l .s) ≡ k) × ((length (l .m) ≡ k) × ((length (l .e) ≡ k) × (length (l .byRank) ≡ k))))
+      Sizes
       × (Ranks
       × (((p : ℕ) → p < k → (q : ℕ) → childOf children p q ≡ true → e q < e p)
       × (((p : ℕ) → p < k → s p ≡ least (e p) (map s (getD children p [])))
@@ -146,7 +150,7 @@ module _ (children : List (List ℕ)) (l : Labelling) where
   shorter : Ranks → Mins → (q : ℕ) → q < k → m (at q) - 1 ≤ q
   shorter R M q h = omega (arith, R q h, M (at q) (R q h .0))
 
-  high : (length (l .s) ≡ k) × ((length (l .m) ≡ k) × ((length (l .e) ≡ k) × (length (l .byRank) ≡ k))) → Ranks → (p : ℕ) → p < k → e p - 1 ≤ k
+  high : Sizes → Ranks → (p : ℕ) → p < k → e p - 1 ≤ k
   high sizes R p h = omega (arith, rank-most k (l .byRank) e (sizes .1 .1 .1) (λ r i. R r i .0) (λ r i. R r i .1) p h)
 
   fields : Decides (labelsPass children l) Fields
@@ -162,32 +166,32 @@ module _ (children : List (List ℕ)) (l : Labelling) where
 
   labels-decide : Decides (labelsPass children l) (SoundLabelling children l)
   labels-decide = (
-    (λ t. let f = fields .0 t in
+    (λ t. let ((sl, (ml, (el, al))), (R, (falls, (outer, (M, (blocks, roots)))))) = fields .0 t in
         record {
-          s-long = f .0 .0;
-          m-long = f .0 .1 .0;
-          e-long = f .0 .1 .1 .0;
-          at-long = f .0 .1 .1 .1;
-          at-low = λ r h. f .1 .0 r h .0;
-          e-at = λ r h. f .1 .0 r h .1;
-          falls = λ p q h i. f .1 .1 .0 p h q i;
-          outer-is = f .1 .1 .1 .0;
-          m-low = λ p h. f .1 .1 .1 .1 .0 p h .0;
-          m-high = λ p h. f .1 .1 .1 .1 .0 p h .1;
-          blocks = f .1 .1 .1 .1 .1 .0;
-          roots = f .1 .1 .1 .1 .1 .1;
+          s-long = sl;
+          m-long = ml;
+          e-long = el;
+          at-long = al;
+          at-low = λ r h. R r h .0;
+          e-at = λ r h. R r h .1;
+          falls = λ p q h i. falls p h q i;
+          outer-is = outer;
+          m-low = λ p h. M p h .0;
+          m-high = λ p h. M p h .1;
+          blocks = blocks;
+          roots = roots;
         }),
-    λ S. fields .1 (
-      (S .s-long, (S .m-long, (S .e-long, S .at-long))),
+    λ L. fields .1 (
+      (L .s-long, (L .m-long, (L .e-long, L .at-long))),
       (
-        (λ r h. (S .at-low r h, S .e-at r h)),
+        (λ r h. (L .at-low r h, L .e-at r h)),
         (
-          (λ p h q i. S .falls p q h i),
+          (λ p h q i. L .falls p q h i),
           (
-            S .outer-is,
+            L .outer-is,
             (
-              (λ p h. (S .m-low p h, S .m-high p h)),
-              (S .blocks, S .roots),
+              (λ p h. (L .m-low p h, L .m-high p h)),
+              (L .blocks, L .roots),
             ),
           ),
         ),
@@ -226,28 +230,26 @@ module _ (names groups levels : List ℕ) (children : List (List ℕ)) where
 
   groups-decide : Decides (groupsPass names groups levels children) (SoundGroups names groups levels children)
   groups-decide = (
-    (λ t. let f = group-fields .0 t in
+    (λ t. let ((own, are), ((cl, ll), (rows, levels-are))) = group-fields .0 t in
         record {
-          name-low = λ v h. f .0 .0 v h .0;
-          name-own = λ v h. f .0 .0 v h .1;
-          groups-are = f .0 .1;
-          children-long = f .1 .0 .0;
-          levels-long = f .1 .0 .1;
-          child-low = λ p i h j. f .1 .1 .0 p h .0 i j;
-          child-rises = λ p i h j. f .1 .1 .0 p h .1 i (omega arith);
-          level-is = f .1 .1 .1;
+          name-low = λ v h. own v h .0;
+          name-own = λ v h. own v h .1;
+          groups-are = are;
+          children-long = cl;
+          levels-long = ll;
+          child-low = λ p i h j. rows p h .0 i j;
+          child-rises = λ p i h j. rows p h .1 i (omega arith);
+          level-is = levels-are;
         }),
     λ S. group-fields .1 (
       ((λ v h. (S .name-low v h, S .name-own v h)), S .groups-are),
-      (
-        (S .children-long, S .levels-long),
-        ((λ p h. ((λ i j. S .child-low p i h j), λ i j. S .child-rises p i h (omega arith))), S .level-is),
-      ),
+      ((S .children-long, S .levels-long), ((λ p h. ((λ i j. S .child-low p i h j), λ i j. S .child-rises p i h (omega arith))), S .level-is)),
     ),
   )
 
-pub sound-decides : (I : Index) → Decides (sound I) (Sound I)
+pub sound-decides : (I : Index) → (sound I ≡ true) ↔ Sound I
 unfolding sound
 sound-decides I =
-    let d = both _ _ (groups-decide (I .names) (I .groups) (I .levels) (I .children)) (λ g. every (labelsPass (I .children)) (SoundLabelling (I .children)) (labels-decide (I .children)) (I .labels)) in
-    ((λ h. let f = d .0 h in record { condensed = f .0; labelled = f .1 }), λ S. d .1 (S .condensed, S .labelled))
+    let c : List (List ℕ) = I .children in
+    let (to, from) = both _ _ (groups-decide (I .names) (I .groups) (I .levels) c) (λ g. every (labelsPass c) (SoundLabelling c) (labels-decide c) (I .labels)) in
+    ((λ h. let (g, ls) = to h in record { condensed = g; labelled = ls }), λ S. from (S .condensed, S .labelled))

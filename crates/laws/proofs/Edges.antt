@@ -14,7 +14,7 @@ use Rattle.laws.proofs.Tests.{or-left, or-right, or-cases, and-both, an
 use Rattle.laws.proofs.Lists.{here, there}
 
 -- some edge passes a test
-pub some-sound : (p : ℕ → ℕ → Bool) (S T : List ℕ) → someEdge p S T ≡ true → (s : ℕ) × (t : ℕ) × Edge S T s t × (p s t ≡ true)
+some-sound : (p : ℕ → ℕ → Bool) (S T : List ℕ) → someEdge p S T ≡ true → (s : ℕ) × (t : ℕ) × Edge S T s t × (p s t ≡ true)
 some-sound p [] T h = absurd (false≢true h)
 some-sound p (x ∷ S) [] h = absurd (false≢true h)
 some-sound p (x ∷ S) (y ∷ T) h =
@@ -23,7 +23,7 @@ some-sound p (x ∷ S) (y ∷ T) h =
       | inr i ↦ let (s, t, e, j) = some-sound p S T i in (s, t, later e, j)
     ]
 
-pub some-complete : (p : ℕ → ℕ → Bool) {S T : List ℕ} {s t : ℕ} → Edge S T s t → p s t ≡ true → someEdge p S T ≡ true
+some-complete : (p : ℕ → ℕ → Bool) {S T : List ℕ} {s t : ℕ} → Edge S T s t → p s t ≡ true → someEdge p S T ≡ true
 some-complete p first h = or-left _ h
 some-complete p (later {x = x} {y = y} e) h = or-right (p x y) (some-complete p e h)
 

@@ -11,13 +11,14 @@ use Rattle.lineage.specs.Labels.{Forest, done, visit, finished, after}
 use Rattle.laws.specs.Leads.{Leads}
 use Rattle.laws.specs.Visits.{Visits, over, skip, enter}
 use Rattle.laws.proofs.Tests.{clash}
-use Rattle.laws.proofs.Lists.{among-reverse, here, in-cons, in-append, in-right}
+use Rattle.laws.proofs.Lists.{among-reverse, here, in-cons, in-append, in-right, Kept}
 use Rattle.laws.proofs.Rising.{distinct-apart}
-use Rattle.laws.proofs.Traversal.{Kept, kept}
+use Rattle.laws.proofs.Traversal.{kept}
 use Rattle.laws.proofs.Visited.{seen-cases, held, listed, fresh, distinct, from-one}
 use Rattle.laws.proofs.Closed.{leads-on, Closed, closed-after, stays, Turned, turn}
 use Rattle.laws.proofs.Last.{past, past-beyond, past-self, last-reached}
-use Rattle.laws.proofs.Trees.{trees, Together, both, beyond, OnlyOne, only-one, joined-trees}
+use Rattle.laws.specs.Passes.{trees, Together, both, beyond, OnlyOne}
+use Rattle.laws.proofs.Trees.{only-one, joined-trees}
 
 kept-more : (x : ℕ) (gone seen : List ℕ) → among x seen ≡ true → Kept gone seen → Kept (x ∷ gone) seen
 kept-more x gone seen i k q h = elim (in-cons q x gone h) [ inl e ↦ rw e i | inr j ↦ k q j ]

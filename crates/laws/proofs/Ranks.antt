@@ -137,7 +137,7 @@ module _ (pre seg post : List ℕ) (once : Distinct (pre ++ (seg ++ post))) wher
 -- the same of a traversal
 module _ (f : Forest) (once : Distinct (finished f)) (x : ℕ) (i : among x (finished f) ≡ true) where
   -- m is one more than what was finished before
-  pub m-law : least (rank f x) (map (rank f) (subtree x f)) ≡ suc (length (before x f))
+  m-law : least (rank f x) (map (rank f) (subtree x f)) ≡ suc (length (before x f))
   m-law =
       subst (λ (l : List ℕ). least (suc (position x l)) (map (λ q. suc (position q l)) (subtree x f)) ≡ suc (length (before x f))) (sym (run x f i))
       (least-of-run (before x f) (subtree x f) (behind x f) (rw (run x f i) at once) x (subtree-self x f i))

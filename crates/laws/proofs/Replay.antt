@@ -12,10 +12,10 @@ use Rattle.lineage.specs.Lists.{among, those}
 use Rattle.lineage.specs.Labels.{Forest, done, after}
 use Rattle.laws.specs.Visits.{Visits, over, skip, enter}
 use Rattle.laws.proofs.Tests.{is-false}
-use Rattle.laws.proofs.Lists.{here, there, in-left, in-right, in-append, those-append, those-yes, those-pass, in-one, in-cons}
+use Rattle.laws.proofs.Lists.{here, there, in-left, in-right, in-append, those-append, those-yes, those-pass, in-one, in-cons, Kept}
 use Rattle.laws.proofs.Forests.{Ranking, Fits, none, tree, entered, joinF, join-done, entered-finished, block-up, member-rank, rank-member}
 use Rattle.laws.proofs.Visited.{visited-seen, seen-cases}
-use Rattle.laws.proofs.Traversal.{Kept, kept}
+use Rattle.laws.proofs.Traversal.{kept}
 
 -- groups already seen are passed over
 skips : {next : ℕ → List ℕ} {seen : List ℕ} {f : Forest} (xs todo : List ℕ) → Kept xs seen → Visits next todo seen f → Visits next (xs ++ todo) seen f

@@ -12,7 +12,7 @@ use Rattle.lineage.specs.Lists.{among, those}
 use Rattle.lineage.specs.Labels.{Forest, done, visit, after, along, traverse, forestOf, nobodysChild}
 use Rattle.laws.specs.Visits.{Visits, over, skip, enter}
 use Rattle.laws.proofs.Tests.{clash, is-false}
-use Rattle.laws.proofs.Lists.{here, there, those-all, those-pass}
+use Rattle.laws.proofs.Lists.{here, there, those-all, those-pass, Kept}
 use Rattle.laws.proofs.Rising.{those-le, those-lt}
 use Rattle.lineage.specs.Sound.{childOf}
 
@@ -24,10 +24,6 @@ unique (enter a r t) (skip b s) = clash b a
 unique (enter {p = p} a r t) (enter b s v) =
     let e = unique r s in
     ap₂ (visit p) e (unique t (rw (← e) at v))
-
--- all of the one list is in the other
-abbrev pub Kept : List ℕ → List ℕ → Type 0
-Kept xs ys = (q : ℕ) → among q xs ≡ true → among q ys ≡ true
 
 -- what is seen stays seen
 pub kept : (f : Forest) (seen : List ℕ) → Kept seen (after f seen)

@@ -86,7 +86,7 @@ module _ (children : List (List ℕ)) (l : Labelling) (at-rank : (p r : ℕ) →
       ]
 
 module _ {R : Ranking} where
-  pub finished-count : {ok : ℕ → Bool} {f : Forest} {lo hi : ℕ} → Fits R ok f lo hi → lo + length (finished f) ≡ hi
+  finished-count : {ok : ℕ → Bool} {f : Forest} {lo hi : ℕ} → Fits R ok f lo hi → lo + length (finished f) ≡ hi
   finished-count none = omega arith
   finished-count (tree {p = p} {below = below} {next = next} t h x y u v) = omega (arith, finished-count u, finished-count v, length-append (finished below) (p ∷ finished next))
 
