@@ -4,21 +4,21 @@ use mathlib.Core.Bool.{Bool, true, false, _&&_, false≢true}
 use mathlib.Core.Logic.{_↔_}
 use mathlib.Core.Path.{_≡_, refl, ap, ap₂}
 use mathlib.Core.List.{List, [], _∷_, map}
-use Prim.Native.Nat.{ℕ, zero, suc, _<_, _≤_, _-_}
+use Prim.Native.Nat.{ℕ, zero, suc, _-_, _<_, _≤_}
 use native.Mathlib.Nat.{not-suc-le-zero}
 use native.Mathlib.Decide.{ℕ-discrete}
 use native.Mathlib.Omega.{arith}
 use lib.Dec.{eqb, leb, ltb}
 use lib.ListN.{length, getD, drop}
 use borrow.Author.Tests.{eqb-true, eq-eqb, leb-true, le-leb, lt-leb, ltb-true, lt-ltb}
-use Rattle.lineage.specs.Lists.{among, position, least, greatest, sameList, Every, allBelow, allOf}
+use Rattle.lineage.specs.Lists.{allBelow, among, position, least, greatest, sameList, Every, allOf}
 use Rattle.lineage.specs.Graph.{groupList}
-use Rattle.lineage.specs.Labels.{Labelling, nobodysChild}
+use Rattle.lineage.specs.Labels.{nobodysChild, Labelling}
 use Rattle.lineage.specs.Index.{Index}
-use Rattle.lineage.specs.Sound.{childOf, walkEnds, labelsPass, namesPass, groupsPass, sound}
+use Rattle.lineage.specs.Sound.{childOf, namesPass, rowPasses, groupsPass, walkEnds, labelsPass, sound}
 use Rattle.laws.specs.Sound.{LeftWalk, arrived, left, SoundLabelling, SoundGroups, Sound}
 use Rattle.laws.proofs.Tests.{and-both, and-left, and-right}
-use Rattle.laws.proofs.Lists.{in-getD, position-low, at-position}
+use Rattle.laws.proofs.Lists.{position-low, at-position, in-getD}
 use Rattle.laws.proofs.Inverse.{rank-most}
 
 -- the test is true exactly where the fact holds
@@ -60,7 +60,9 @@ below (suc n) p P d =
     at h i l (yes e) rest = rw e (d n (omega arith) .0 (and-right (allBelow n p) (p n) h))
     at h i l (no e) rest = rest i (omega arith)
 
-members : (p : ℕ → Bool) (P : ℕ → Type 0) → ((q : ℕ) → Decides (p q) (P q)) → (xs : List ℕ) → Decides (allBelow (length xs) (λ i. p (getD xs i 0))) ((q : ℕ) → among q xs ≡ true → P q)
+members :
+    (p : ℕ → Bool) (P : ℕ → Type 0) → ((q : ℕ) → Decides (p q) (P q)) → (xs : List ℕ)
+    → Decides (allBelow (length xs) (λ i. p (getD xs i 0))) ((q : ℕ) → among q xs ≡ true → P q)
 members p P d xs =
     let all = below (length xs) (λ i. p (getD xs i 0)) (λ i. P (getD xs i 0)) (λ i l. d (getD xs i 0)) in
     ((λ h q i. rw (at-position q xs i) at (all .0 h (position q xs) (position-low q xs i))), λ h. all .1 (λ i l. h (getD xs i 0) (in-getD xs i l)))
@@ -89,9 +91,13 @@ module _
         p : ℕ
         p = getD (l .byRank) q 0
 
-        at : (b : Bool) → leb (suc q) lo ≡ b → (walkEnds l test f (getD (l .m) p 0 - 1) lo ≡ true → LeftWalk l test (getD (l .m) p 0 - 1) lo) → LeftWalk l test (suc q) lo
+        at :
+            (b : Bool) → leb (suc q) lo ≡ b → (walkEnds l test f (getD (l .m) p 0 - 1) lo ≡ true → LeftWalk l test (getD (l .m) p 0 - 1) lo)
+            → LeftWalk l test (suc q) lo
         at true e ih = let z : suc q ≡ lo = eqb-true (suc q) lo (rw (e, walkEnds) at h) in rw z arrived
-        at false e ih = let z : (test p && walkEnds l test f (getD (l .m) p 0 - 1) lo) ≡ true = rw (e, walkEnds) at h in left (and-left (test p) _ z) (ih (and-right (test p) _ z))
+        at false e ih =
+            let z : (test p && walkEnds l test f (getD (l .m) p 0 - 1) lo) ≡ true = rw (e, walkEnds) at h in
+            left (and-left (test p) _ z) (ih (and-right (test p) _ z))
 
     stops : (f q : ℕ) → walkEnds l test f q q ≡ true
     unfolding walkEnds
@@ -207,11 +213,13 @@ module _ (names groups levels : List ℕ) (children : List (List ℕ)) where
   abbrev Names : Type 0
   Names = ((v : ℕ) → v < length names → (getD names v 0 ≤ v) × (getD names (getD names v 0) 0 ≡ getD names v 0)) × (groups ≡ groupList names)
 
-  abbrev Rows : Type 0
-  Rows =
-      (p : ℕ) → p < length children
-      → ((i : ℕ) → i < length (row p) → getD (row p) i 0 < length children)
+  abbrev Row : ℕ → Type 0
+  Row p =
+      ((i : ℕ) → i < length (row p) → getD (row p) i 0 < length children)
       × ((i : ℕ) → i < length (row p) - 1 → getD (row p) i 0 < getD (row p) (suc i) 0)
+
+  abbrev Sized : Type 0
+  Sized = (length children ≡ length groups) × (length levels ≡ length children)
 
   abbrev Levels : Type 0
   Levels = (p : ℕ) → p < length children → getD levels p 0 ≡ greatest (map (λ q. suc (getD levels q 0)) (row p))
@@ -220,12 +228,16 @@ module _ (names groups levels : List ℕ) (children : List (List ℕ)) where
   unfolding namesPass
   names-decide = both _ _ (below (length names) _ _ (λ v h. both _ _ (at-most _ _) (λ a. equal _ _))) (λ a. same-list groups (groupList names))
 
-  group-fields : Decides (groupsPass names groups levels children) (Names × (((length children ≡ length groups) × (length levels ≡ length children)) × (Rows × Levels)))
+  row-decides : (p : ℕ) → p < length children → Decides (rowPasses children p) (Row p)
+  row-decides p h = both _ _ (below (length (row p)) _ _ (λ i j. less _ _)) (λ c. below (length (row p) - 1) _ _ (λ i j. less _ _))
+
+  group-fields :
+      Decides (groupsPass names groups levels children) (Names × (Sized × (((p : ℕ) → p < length children → Row p) × Levels)))
   unfolding groupsPass
   group-fields =
       both _ _ names-decide (λ a.
       both _ _ (both _ _ (equal _ _) (λ b. equal _ _)) (λ b.
-      both _ _ (below (length children) _ _ (λ p h. both _ _ (below (length (row p)) _ _ (λ i j. less _ _)) (λ c. below (length (row p) - 1) _ _ (λ i j. less _ _)))) (λ c.
+      both _ _ (below (length children) _ _ row-decides) (λ c.
       below (length children) _ _ (λ p h. equal _ _))))
 
   groups-decide : Decides (groupsPass names groups levels children) (SoundGroups names groups levels children)
@@ -251,5 +263,6 @@ pub sound-decides : (I : Index) → (sound I ≡ true) ↔ Sound I
 unfolding sound
 sound-decides I =
     let c : List (List ℕ) = I .children in
-    let (to, from) = both _ _ (groups-decide (I .names) (I .groups) (I .levels) c) (λ g. every (labelsPass c) (SoundLabelling c) (labels-decide c) (I .labels)) in
+    let labels = every (labelsPass c) (SoundLabelling c) (labels-decide c) (I .labels) in
+    let (to, from) = both _ _ (groups-decide (I .names) (I .groups) (I .levels) c) (λ g. labels) in
     ((λ h. let (g, ls) = to h in record { condensed = g; labelled = ls }), λ S. from (S .condensed, S .labelled))

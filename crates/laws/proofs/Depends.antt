@@ -3,7 +3,7 @@
 use mathlib.Core.Path.{_≡_, ap}
 use mathlib.Core.List.{List}
 use Prim.Native.Nat.{ℕ}
-use Rattle.lineage.specs.Graph.{Graph, Condensed, groupList, condense}
+use Rattle.lineage.specs.Graph.{Graph, groupList, Condensed, condense}
 use Rattle.lineage.specs.Index.{indexBy, indexOf}
 
 pub condense-same : (G H : Graph) → condense G .names ≡ condense H .names → condense G .children ≡ condense H .children → condense G ≡ condense H

@@ -10,13 +10,13 @@ use native.Mathlib.Omega.{arith}
 use lib.Dec.{eqb}
 use lib.ListN.{length, getD}
 use borrow.Author.Tests.{eqb-true, eq-eqb}
-use Rattle.lineage.specs.Lists.{among, upto}
+use Rattle.lineage.specs.Lists.{upto, among}
 use Rattle.lineage.specs.Graph.{groupList, placeOf, leads}
 use Rattle.lineage.specs.Sound.{childOf}
 use Rattle.laws.specs.Leads.{Down}
 use Rattle.laws.specs.Sound.{SoundGroups}
 use Rattle.laws.proofs.Tests.{is-false}
-use Rattle.laws.proofs.Lists.{in-getD, position-low, at-position, those-pass, those-keep, in-upto, upto-low}
+use Rattle.laws.proofs.Lists.{those-pass, those-keep, in-upto, upto-low, position-low, at-position, in-getD}
 use Rattle.laws.proofs.Rising.{Distinct, position-getD, Rises, rises-upto, rises-those, rises-distinct, next-rises}
 use Rattle.laws.proofs.Levels.{Falls, level-falls, leads-bounded}
 

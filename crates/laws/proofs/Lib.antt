@@ -3,9 +3,9 @@ pub mod Tests
 pub mod Lists
 pub mod Rising
 -- Reachability, groups, names, levels.
+pub mod Edges
 pub mod Reaches
 pub mod Names
-pub mod Edges
 pub mod Levels
 pub mod Grouped
 pub mod Condensed

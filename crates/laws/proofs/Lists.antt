@@ -1,10 +1,10 @@
 -- Lists of numbers: members, filters, the numbers below n and tables over them, positions, least and greatest. Each is an induction on the list, with
 -- a case for how the test of the head comes out.
-use mathlib.Core.Bool.{Bool, true, false, not, false≢true, _||_, or-assoc, or-comm, or-false}
+use mathlib.Core.Bool.{Bool, true, false, not, _||_, false≢true, or-false, or-comm, or-assoc}
 use mathlib.Core.Logic.{_⊎_, inl, inr}
 use mathlib.Core.Path.{_≡_, refl, sym, ap, ap₂, _∙_}
-use mathlib.Core.List.{List, [], _∷_, _++_, map, append-nil, reverse, reverse-cons}
-use Prim.Native.Nat.{ℕ, zero, suc, _<_, _+_, _≤_, min}
+use mathlib.Core.List.{List, [], _∷_, _++_, map, reverse, append-nil, reverse-cons}
+use Prim.Native.Nat.{ℕ, zero, suc, _+_, min, _<_, _≤_}
 use native.Mathlib.Nat.{not-suc-le-zero}
 use native.Mathlib.Decide.{ℕ-discrete, decLt}
 use native.Mathlib.Omega.{arith}
@@ -12,7 +12,7 @@ use lib.Dec.{eqb}
 use lib.ListN.{length, getD, length-append, length-map, List·getD-append}
 use lib.Seq.{getD-at, ext-getD}
 use borrow.Author.Tests.{eqb-true, eq-eqb}
-use Rattle.lineage.specs.Lists.{any, least, greatest, among, those, upto, position}
+use Rattle.lineage.specs.Lists.{upto, any, among, those, position, least, greatest}
 use Rattle.laws.proofs.Tests.{or-left, or-right, or-cases, clash, or-false-left, or-false-right}
 
 pub among-append : (x : ℕ) (a b : List ℕ) → among x (a ++ b) ≡ (among x a || among x b)
@@ -105,7 +105,9 @@ pub those-split : (p : ℕ → Bool) (xs : List ℕ) → length (those p xs) + l
 those-split p [] = omega arith
 those-split p (x ∷ xs) = at (p x) refl (those-split p xs)
   where
-    at : (t : Bool) → p x ≡ t → length (those p xs) + length (those (λ y. not (p y)) xs) ≡ length xs → length (those p (x ∷ xs)) + length (those (λ y. not (p y)) (x ∷ xs)) ≡ suc (length xs)
+    at :
+        (t : Bool) → p x ≡ t → length (those p xs) + length (those (λ y. not (p y)) xs) ≡ length xs
+        → length (those p (x ∷ xs)) + length (those (λ y. not (p y)) (x ∷ xs)) ≡ suc (length xs)
     at true e ih = rw (those-yes p x xs e, those-no (λ y. not (p y)) x xs (ap not e)) (omega arith)
     at false e ih = rw (those-no p x xs e, those-yes (λ y. not (p y)) x xs (ap not e)) (omega arith)
 

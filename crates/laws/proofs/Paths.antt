@@ -2,21 +2,21 @@
 -- a group reaches its children, each vertex of a group reaching every other.
 use mathlib.Core.Bool.{true}
 use mathlib.Core.Logic.{_↔_}
-use mathlib.Core.Path.{_≡_, refl, subst, sym, ap, _∙_}
+use mathlib.Core.Path.{_≡_, refl, sym, ap, subst, _∙_}
 use mathlib.Core.List.{List}
 use Prim.Native.Nat.{ℕ, _<_}
 use native.Mathlib.Decide.{ℕ-discrete}
 use native.Mathlib.Omega.{arith}
 use lib.ListN.{length, getD}
 use Rattle.lineage.specs.Lists.{upto}
-use Rattle.lineage.specs.Graph.{Graph, Edge, Ends, Reaches, namesOf, groupList, placeOf, childrenOf, isChild, stay as here, step as go}
+use Rattle.lineage.specs.Graph.{Graph, Edge, Ends, Reaches, stay as here, step as go, namesOf, groupList, placeOf, isChild, childrenOf}
 use Rattle.lineage.specs.Sound.{childOf}
-use Rattle.laws.specs.Leads.{Down, stay, step, OneGroup}
+use Rattle.laws.specs.Leads.{stay, step, Down, OneGroup}
 use Rattle.laws.proofs.Lists.{those-keep, in-upto}
-use Rattle.laws.proofs.Reaches.{reaches-on}
 use Rattle.laws.proofs.Edges.{child-from}
-use Rattle.laws.proofs.Names.{name-group, names-long, name-at, group-on, group-turn, name-one}
-use Rattle.laws.proofs.Grouped.{child-in, place-low, name-of-place}
+use Rattle.laws.proofs.Reaches.{reaches-on}
+use Rattle.laws.proofs.Names.{group-turn, group-on, name-group, name-one, names-long, name-at}
+use Rattle.laws.proofs.Grouped.{place-low, name-of-place, child-in}
 use Rattle.laws.proofs.Condensed.{children-long, children-at, child-path, groups-sound}
 
 module _ (G : Graph) (ends : Ends G) where

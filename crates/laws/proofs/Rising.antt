@@ -4,15 +4,15 @@ use mathlib.Core.Bool.{Bool, true, false, not, false≢true}
 use mathlib.Core.Logic.{_⊎_, inl, inr}
 use mathlib.Core.Path.{_≡_, refl, ap, ap₂}
 use mathlib.Core.List.{List, [], _∷_, _++_}
-use Prim.Native.Nat.{ℕ, zero, suc, _<_, _≤_, _+_}
+use Prim.Native.Nat.{ℕ, zero, suc, _+_, _<_, _≤_}
 use native.Mathlib.Nat.{not-suc-le-zero}
 use native.Mathlib.Omega.{arith}
 use lib.Dec.{eqb}
 use lib.ListN.{length, getD}
 use borrow.Author.Tests.{eq-eqb, ne-eqb}
-use Rattle.lineage.specs.Lists.{among, those, upto, position, firstOf}
+use Rattle.lineage.specs.Lists.{upto, among, those, firstOf, position}
 use Rattle.laws.proofs.Tests.{clash, is-false}
-use Rattle.laws.proofs.Lists.{here, there, in-append, in-getD, those-yes, those-no, those-pass, those-keep, upto-low, in-upto, length-upto, position-low, at-position, among-append, in-left, in-cons, in-one, Kept, those-split, those-all, in-right}
+use Rattle.laws.proofs.Lists.{among-append, here, there, in-cons, in-one, in-left, in-right, in-append, Kept, those-yes, those-no, those-pass, those-keep, those-all, those-split, in-upto, upto-low, length-upto, position-low, at-position, in-getD}
 
 -- no number stands twice
 abbrev pub Distinct : List ℕ → Type 0
@@ -128,13 +128,17 @@ pub those-le : (p q : ℕ → Bool) (xs : List ℕ) → ((x : ℕ) → p x ≡ t
 those-le p q [] w = omega arith
 those-le p q (x ∷ xs) w = at (p x) refl (q x) refl (those-le p q xs w)
   where
-    at : (a : Bool) → p x ≡ a → (b : Bool) → q x ≡ b → length (those p xs) ≤ length (those q xs) → length (those p (x ∷ xs)) ≤ length (those q (x ∷ xs))
+    at :
+        (a : Bool) → p x ≡ a → (b : Bool) → q x ≡ b → length (those p xs) ≤ length (those q xs)
+        → length (those p (x ∷ xs)) ≤ length (those q (x ∷ xs))
     at true e true f ih = rw (those-yes p x xs e, those-yes q x xs f) (omega arith)
     at true e false f ih = clash (w x e) f
     at false e true f ih = rw (those-no p x xs e, those-yes q x xs f) (omega arith)
     at false e false f ih = rw (those-no p x xs e, those-no q x xs f) ih
 
-pub those-lt : (p q : ℕ → Bool) (xs : List ℕ) (a : ℕ) → ((x : ℕ) → p x ≡ true → q x ≡ true) → among a xs ≡ true → q a ≡ true → p a ≡ false → length (those p xs) < length (those q xs)
+pub those-lt :
+    (p q : ℕ → Bool) (xs : List ℕ) (a : ℕ) → ((x : ℕ) → p x ≡ true → q x ≡ true) → among a xs ≡ true → q a ≡ true → p a ≡ false
+    → length (those p xs) < length (those q xs)
 those-lt p q [] a w i t n = absurd (false≢true i)
 those-lt p q (x ∷ xs) a w i t n = at (in-cons a x xs i) (p x) refl (q x) refl (λ j. those-lt p q xs a w j t n)
   where

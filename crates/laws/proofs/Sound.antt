@@ -8,20 +8,22 @@ use Prim.Native.Nat.{ℕ}
 use lib.ListN.{length}
 use Rattle.lineage.specs.Lists.{Every}
 use Rattle.lineage.specs.Graph.{Graph, Ends, Condensed, condense}
-use Rattle.lineage.specs.Labels.{Labelling, Order, labelling}
+use Rattle.lineage.specs.Labels.{Order, Labelling, labelling}
 use Rattle.lineage.specs.Index.{Index, indexBy, indexOf, Made}
 use Rattle.lineage.specs.Sound.{sound}
 use Rattle.laws.specs.Sound.{SoundLabelling, SoundGroups, Sound}
 use Rattle.laws.proofs.Names.{names-long}
 use Rattle.laws.proofs.Condensed.{groups-sound}
-use Rattle.laws.proofs.GraphFound.{graph, graph-ends, condense-made}
 use Rattle.laws.proofs.Labelled.{labelling-sound}
 use Rattle.laws.proofs.OrderFound.{order-found}
+use Rattle.laws.proofs.GraphFound.{graph, graph-ends, condense-made}
 use Rattle.laws.proofs.Decides.{sound-decides}
 
 -- made, then sound
 module _ {names groups levels : List ℕ} {children : List (List ℕ)} (S : SoundGroups names groups levels children) where
-  labellings-sound : (n : ℕ) → n ≡ length names → (orders : List (List ℕ)) → Every (Order n) orders → Every (SoundLabelling children) (map (labelling groups children) orders)
+  labellings-sound :
+      (n : ℕ) → n ≡ length names → (orders : List (List ℕ)) → Every (Order n) orders
+      → Every (SoundLabelling children) (map (labelling groups children) orders)
   labellings-sound n e [] os = tt
   labellings-sound n e (o ∷ orders) os = (labelling-sound S o (rw e at (os .0)), labellings-sound n e orders (os .1))
 

@@ -7,10 +7,10 @@ use native.Mathlib.Omega.{arith}
 use lib.ListN.{getD}
 use Rattle.lineage.specs.Lists.{among, joined}
 use Rattle.lineage.specs.Labels.{Forest, done, visit, finished}
+use Rattle.laws.specs.Passes.{trees, OnlyOne}
 use Rattle.laws.proofs.Tests.{clash}
 use Rattle.laws.proofs.Lists.{among-append, in-left, in-right}
 use Rattle.laws.proofs.Rising.{Distinct, distinct-right, distinct-apart}
-use Rattle.laws.specs.Passes.{trees, OnlyOne}
 
 pub joined-trees : (f : Forest) → joined (trees f) ≡ finished f
 joined-trees done = refl

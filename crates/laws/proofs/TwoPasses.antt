@@ -8,18 +8,18 @@ use Prim.Native.Nat.{ℕ, suc, _<_, _≤_}
 use native.Mathlib.Omega.{arith}
 use lib.Dec.{eqb}
 use borrow.Author.Tests.{eqb-true, eq-eqb}
-use Rattle.lineage.specs.Lists.{among, upto}
-use Rattle.lineage.specs.Graph.{Graph, Edge, first, later, Ends, Reaches, nameOf, stay as stay-there, step as go}
-use Rattle.lineage.specs.Labels.{Forest, finished, traverse}
+use Rattle.lineage.specs.Lists.{upto, among}
+use Rattle.lineage.specs.Graph.{Graph, Edge, first, later, Ends, Reaches, stay as stay-there, step as go, nameOf}
+use Rattle.lineage.specs.Labels.{Forest, traverse, finished}
 use Rattle.laws.specs.Leads.{Leads, stay, step, OneGroup}
 use Rattle.laws.specs.Visits.{Visits}
 use Rattle.laws.specs.Passes.{row, EdgeRows, TwoPasses, pass₁, pass₂, trees, Together, OnlyOne}
-use Rattle.laws.proofs.Lists.{among-reverse, here, there, in-cons, in-upto, length-upto}
+use Rattle.laws.proofs.Lists.{here, there, in-cons, in-upto, length-upto, among-reverse}
+use Rattle.laws.proofs.Names.{name-smallest, name-low, name-group}
 use Rattle.laws.proofs.Traversal.{unseen, unseen-none, made}
-use Rattle.laws.proofs.Visited.{listed, held, from-todo}
+use Rattle.laws.proofs.Visited.{held, listed, from-todo}
 use Rattle.laws.proofs.Closed.{leads-keeps, Turned}
 use Rattle.laws.proofs.Groups.{same-tree, one-tree}
-use Rattle.laws.proofs.Names.{name-smallest, name-low, name-group}
 
 edge-turned : {S T : List ℕ} {u v : ℕ} → Edge S T u v → Edge T S v u
 edge-turned first = first

@@ -6,9 +6,9 @@ use mathlib.Core.List.{List, [], _∷_, _++_, reverse}
 use Prim.Native.Nat.{ℕ, suc, _<_}
 use lib.Dec.{eqb}
 use lib.ListN.{length, getD}
-use Rattle.lineage.specs.Lists.{among, upto}
+use Rattle.lineage.specs.Lists.{upto, among}
 use Rattle.lineage.specs.Graph.{Graph, Edge}
-use Rattle.lineage.specs.Labels.{Forest, done, visit, finished, traverse}
+use Rattle.lineage.specs.Labels.{Forest, done, visit, traverse, finished}
 use Rattle.laws.specs.Visits.{Visits}
 
 -- the values whose key is x, in the lists' sequence
