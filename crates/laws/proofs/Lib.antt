@@ -1,0 +1,37 @@
+-- Tests and lists.
+pub mod Tests
+pub mod Lists
+pub mod Rising
+-- Reachability, groups, names, levels.
+pub mod Edges
+pub mod Reaches
+pub mod Names
+pub mod Levels
+pub mod Grouped
+pub mod Condensed
+pub mod Paths
+-- Traversals.
+pub mod Traversal
+pub mod Visited
+pub mod Closed
+pub mod Ranks
+-- Groups by two traversals.
+pub mod Last
+pub mod Trees
+pub mod Groups
+pub mod TwoPasses
+-- Labels: the labelling under an order, and the order for a labelling.
+pub mod Forests
+pub mod Fitted
+pub mod Walks
+pub mod Inverse
+pub mod Outer
+pub mod Orders
+pub mod Labelled
+pub mod Replay
+pub mod OrderFound
+-- Sound exactly where made.
+pub mod GraphFound
+pub mod Decides
+pub mod Sound
+pub mod Depends
