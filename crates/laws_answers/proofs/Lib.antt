@@ -1,0 +1,15 @@
+pub mod Tries
+pub mod Opened
+pub mod Seen
+pub mod Marks
+pub mod Walked
+pub mod Agree
+pub mod Members
+pub mod Labellings
+pub mod Intervals
+pub mod Nets
+pub mod Rules
+pub mod Answers
+pub mod Downstream
+pub mod MoreOrders
+pub mod Demands
