@@ -1,10 +1,10 @@
 -- Two nets that agree on the groups below k have one walk, since it never leaves them: what is proved of an index holds of the bytes that store it.
 use mathlib.Core.Bool.{Bool, true, false, _||_}
-use mathlib.Core.Path.{_≡_, refl, ap, _∙_}
+use mathlib.Core.Path.{_≡_, refl, _∙_}
 use mathlib.Core.List.{List, [], _∷_}
 use Prim.Native.Nat.{ℕ, zero, suc, _<_}
 use lib.ListN.{set}
-use Rattle.lineage.specs.Walk.{Net, Walked, added, marked, follow, pick, tryWith, openAt}
+use Rattle.lineage.specs.Walk.{Net, Walked, marked, follow, pick, tryWith, openAt}
 use Rattle.laws.proofs.Lists.{here, there}
 use Rattle.laws_answers.specs.Walks.{_∈_}
 
@@ -16,16 +16,12 @@ pub record Agree (N N' : Net) (k : ℕ) : Type 0 where
   pub no : (p : ℕ) → p < k → N .no p ≡ N' .no p
   pub spot : (p : ℕ) → p < k → N .spot p ≡ N' .spot p
 
-follow-same : (f : Bool) (a : Walked) (rest rest' : List ℕ → Walked) → ((m : List ℕ) → rest m ≡ rest' m) → follow f a rest ≡ follow f a rest'
-follow-same true a rest rest' e = refl
-follow-same false a rest rest' e = ap (added (a .opened)) (e (a .marks))
-
 pick-same :
     (y p : Bool) (l : ℕ) (op op' : ℕ → List ℕ → Walked) (h : ℕ) (m : List ℕ) (rest rest' : List ℕ → Walked)
     → op h m ≡ op' h m → ((m' : List ℕ) → rest m' ≡ rest' m') → pick y p l op h m rest ≡ pick y p l op' h m rest'
 pick-same true p l op op' h m rest rest' o e = refl
 pick-same false true l op op' h m rest rest' o e = e m
-pick-same false false l op op' h m rest rest' o e = ap (λ (a : Walked). follow (a .found) a rest) o ∙ follow-same (op' h m .found) (op' h m) rest rest' e
+pick-same false false l op op' h m rest rest' o e = λ i. follow (o i .found) (o i) (λ m'. e m' i)
 
 module _ (N N' : Net) (k : ℕ) (A : Agree N N' k) where
   pub try-same :
@@ -43,4 +39,5 @@ module _ (N N' : Net) (k : ℕ) (A : Agree N N' k) where
   unfolding openAt
   open-same zero g m b = refl
   open-same (suc L) g m b =
-      ap (added 1) (try-same (openAt N L) (openAt N' L) (open-same L) (N .children g) (λ q i. A .within g q b i) (set m (N .spot g) 1) ∙ rw (A .children g b, A .spot g b) refl)
+      let tried = try-same (openAt N L) (openAt N' L) (open-same L) (N .children g) (λ q i. A .within g q b i) (set m (N .spot g) 1) in
+      rw (tried, A .children g b, A .spot g b) refl

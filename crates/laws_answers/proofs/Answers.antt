@@ -1,131 +1,105 @@
 -- Answers over a sound index. Rule 2 says yes only of a group that leads to the target, rules 3 and 4 rule out only groups that do not, and the walk
 -- finds the target exactly where one of x's children leads to it: so an answer is yes exactly where a path down children leads from x to t.
--- Its count and its marks are those of the groups that the walk opens, its deciding number that of the labelling that ended the questioning.
-use mathlib.Core.Bool.{true, false, _||_, cond, false≢true}
-use mathlib.Core.Logic.{inl, inr, _↔_}
-use mathlib.Core.Path.{_≡_, refl, sym, ap, subst, _∙_}
-use mathlib.Core.List.{List, [], _∷_, map}
+-- Its count and its marks are those of the groups that the walk opens, its deciding number that of the first labelling whose test held.
+use mathlib.Core.Bool.{true, false, false≢true}
+use mathlib.Core.Logic.{_↔_}
+use mathlib.Core.Path.{_≡_, refl, _∙_}
+use mathlib.Core.List.{List, [], _∷_}
 use Prim.Native.Nat.{ℕ, _<_}
 use native.Mathlib.Omega.{arith}
-use lib.Dec.{eqb}
-use lib.ListN.{length, getD, length-replicate, getD-replicate}
-use borrow.Author.Tests.{eqb-true, eq-eqb}
-use Rattle.lineage.specs.Lists.{among}
+use lib.ListN.{length, getD}
 use Rattle.lineage.specs.Index.{Index}
-use Rattle.lineage.specs.Question.{inside, outside, rule2, rule3, rule4, netOf, walk, Answer}
+use Rattle.lineage.specs.Question.{inside, outside, firstLabelling, rule3, netOf, walk, Answer}
 use Rattle.laws.specs.Leads.{Down, stay}
 use Rattle.laws.specs.Sound.{Sound}
-use Rattle.laws.proofs.Tests.{or-left, or-right, or-cases, clash, is-false}
-use Rattle.laws.proofs.Lists.{table-is}
-use Rattle.laws_answers.specs.Walks.{End, nowhere, yes-at}
-use Rattle.laws_answers.specs.Answers.{noMarks, inner, level, outer, WalkOf, ThroughOf, Deciding, by-inner, by-outer, by-walk, none-1, none-3, none-6, Opened, unopened, finding, failing, marksOf, Marked}
-use Rattle.laws_answers.proofs.Tries.{ends-yes, walk-yes, walk-no}
-use Rattle.laws_answers.proofs.Opened.{opened-through}
-use Rattle.laws_answers.proofs.Marks.{painted, painted-long, painted-at, painted-more, marked-is, ones-none, ones-painted}
-use Rattle.laws_answers.proofs.Walked.{isYes, numberAt, Held, Ran}
+use Rattle.laws.proofs.Tests.{or-left, or-right, clash}
+use Rattle.laws_answers.specs.Walks.{End, nowhere, yes-at, Walks, Through}
+use Rattle.laws_answers.specs.Answers.{noMarks, Deciding, by-inner, by-outer, by-walk, none-1, none-3, none-6, Opened, unopened, finding, failing, Marked}
+use Rattle.laws_answers.proofs.Tries.{Judges, ends-yes, walk-yes, walk-no}
+use Rattle.laws_answers.proofs.Through.{opened-through}
+use Rattle.laws_answers.proofs.Walked.{isYes, numberAt, Ran}
 use Rattle.laws_answers.proofs.Labellings.{first-is}
-use Rattle.laws_answers.proofs.Nets.{lower, spots, judged, walk-ran}
-use Rattle.laws_answers.proofs.Rules.{Rule, rule-1, rule-2, rule-3, rule-4, rule-5-6, NoneBelow, rule-reason}
+use Rattle.laws_answers.proofs.Nets.{lower, walk-ran, mark-is, marked-of}
+use Rattle.laws_answers.proofs.Intervals.{judged}
+use Rattle.laws_answers.proofs.Rules.{afterWalk, Rule, rule-1, rule-2, rule-3, rule-4, rule-5, rule-6}
 
-module _ (I : Index) (S : Sound I) where
-  abbrev k : ℕ
-  k = length (I .children)
+module _ (I : Index) (S : Sound I) (x t : ℕ) (bx : x < length (I .children)) where
+  abbrev W : Ran (netOf I t) (length (I .children)) (noMarks I) (getD (I .children) x []) (x ∷ []) 0 (walk I t x (noMarks I))
+  W = walk-ran I S x t bx
 
-  abbrev name : ℕ → ℕ
-  name p = getD (I .groups) p 0
+  -- a walk that finds t ends at a child, and the labelling that decided is the first of rule 2 there
+  walk-finds :
+      walk I t x (noMarks I) .found ≡ true
+      → (h : ℕ) × Walks (netOf I t) x (yes-at h) (W .groups) × (walk I t x (noMarks I) .deciding ≡ firstLabelling (inside h t) (I .labels))
+  walk-finds f = at (W .end) (W .run) (W .told .found-is) (W .told .deciding-is)
+    where
+      at :
+          (e : End) → Walks (netOf I t) x e (W .groups) → walk I t x (noMarks I) .found ≡ isYes e → walk I t x (noMarks I) .deciding ≡ numberAt (netOf I t) e
+          → (h : ℕ) × Walks (netOf I t) x (yes-at h) (W .groups) × (walk I t x (noMarks I) .deciding ≡ firstLabelling (inside h t) (I .labels))
+      at nowhere w g d = clash f g
+      at (yes-at h) w g d = (h, w, d)
 
-  -- the marks of groups
-  painted-marks : (o : List ℕ) → ((p : ℕ) → among p o ≡ true → p < k) → painted name o (noMarks I) ≡ marksOf I o
-  painted-marks o low =
-      sym (table-is (λ i. cond (among i (map name o)) 1 0) (painted name o (noMarks I)) (length (I .names)) 0
-      (painted-long name o (noMarks I) ∙ length-replicate (length (I .names)) 0)
-      (λ i h. sym (painted-at name (noMarks I) o (λ p j. spots I S .fits p (low p j)) i ∙ ap (cond (among i (map name o)) 1) (getD-replicate {A = ℕ} (length (I .names)) i 0 0 h))))
+  -- any other ends nowhere, and none decided
+  walk-fails : walk I t x (noMarks I) .found ≡ false → Walks (netOf I t) x nowhere (W .groups) × (walk I t x (noMarks I) .deciding ≡ 0)
+  walk-fails f = at (W .end) (W .run) (W .told .found-is) (W .told .deciding-is)
+    where
+      at :
+          (e : End) → Walks (netOf I t) x e (W .groups) → walk I t x (noMarks I) .found ≡ isYes e → walk I t x (noMarks I) .deciding ≡ numberAt (netOf I t) e
+          → Walks (netOf I t) x nowhere (W .groups) × (walk I t x (noMarks I) .deciding ≡ 0)
+      at nowhere w g d = (w, d)
+      at (yes-at h) w g d = clash g f
 
-  mark-is : (o : List ℕ) → ((p : ℕ) → among p o ≡ true → p < k) → (p : ℕ) → p < k → (getD (marksOf I o) (name p) 0 ≡ 1) ↔ (among p o ≡ true)
-  mark-is o low p b =
-      let e : eqb (getD (marksOf I o) (name p) 0) 1 ≡ among p o = subst (λ (m : List ℕ). eqb (getD m (name p) 0) 1 ≡ among p o) (painted-marks o low) (marked-is (spots I S) p b o low) in
-      (λ h. sym e ∙ eq-eqb (getD (marksOf I o) (name p) 0) 1 h, λ i. eqb-true (getD (marksOf I o) (name p) 0) 1 (e ∙ i))
+  none-marked : {a : Answer} → a .opened ≡ 0 → a .marks ≡ noMarks I → Marked I [] a
+  none-marked = marked-of I S [] (record { once = tt; low = λ p i. absurd (false≢true i) })
 
-  -- more groups, more marks
-  pub marks-more :
-      (o₁ o₂ : List ℕ) → ((p : ℕ) → among p o₁ ≡ true → p < k) → ((p : ℕ) → among p o₂ ≡ true → among p o₁ ≡ true)
-      → (i : ℕ) → getD (marksOf I o₂) i 0 ≡ 1 → getD (marksOf I o₁) i 0 ≡ 1
-  marks-more o₁ o₂ low up i h =
-      rw (← painted-marks o₁ low)
-      (painted-more name (noMarks I) o₁ o₂ (λ p j. spots I S .fits p (low p j)) up i (rw (← painted-marks o₂ (λ p j. low p (up p j))) at h))
+  walk-marked : {a : Answer} → a .opened ≡ walk I t x (noMarks I) .opened → a .marks ≡ walk I t x (noMarks I) .marks → Marked I (W .groups) a
+  walk-marked c m = marked-of I S (W .groups) (W .told .held) (omega (arith, W .count)) (m ∙ W .told .marks-are)
 
-  marked-of : {a : Answer} (o : List ℕ) → Held k o → a .opened ≡ length o → a .marks ≡ painted name o (noMarks I) → Marked I o a
-  marked-of o H c m = record {
-    once = H .once;
-    low = H .low;
-    count = c;
-    marks = m ∙ painted-marks o (H .low);
-    counted = rw m (omega (arith, ones-painted (spots I S) o (H .once) (H .low), ones-none (length (I .names))));
-  }
+  -- the groups that the walk opened are those that are counted and marked
+  pub rule-opened : {a : Answer} → Rule I x t a → (o : List ℕ) × Opened I x t (a .reason) o × Marked I o a
+  rule-opened (rule-1 s) = ([], unopened {r = 1} (omega arith), none-marked refl refl)
+  rule-opened (rule-2 n y) = ([], unopened {r = 2} (omega arith), none-marked refl refl)
+  rule-opened (rule-3 n y l) = ([], unopened {r = 3} (omega arith), none-marked refl refl)
+  rule-opened (rule-4 n y l o) = ([], unopened {r = 4} (omega arith), none-marked refl refl)
+  rule-opened (rule-5 n y p w) = (W .groups, finding (walk-finds w .1), walk-marked refl refl)
+  rule-opened (rule-6 n y p w) = (W .groups, failing (walk-fails w .0), walk-marked refl refl)
 
-  none-held : Held k []
-  none-held = record { once = tt; low = λ p i. absurd (false≢true i) }
+  -- the deciding number is that of the first labelling whose test holds
+  pub rule-deciding : {a : Answer} → Rule I x t a → Deciding I x t (a .reason) (a .deciding)
+  rule-deciding (rule-1 s) = none-1
+  rule-deciding (rule-2 n y) = let (i, j, F) = first-is (inside x t) (I .labels) y in rw j (by-inner F)
+  rule-deciding (rule-3 n y l) = none-3
+  rule-deciding (rule-4 n y l o) = let (i, j, F) = first-is (outside x t) (I .labels) o in rw j (by-outer F)
+  rule-deciding (rule-5 n y p w) =
+      let (h, r, d) = walk-finds w in
+      let (i, j, F) = first-is (inside h t) (I .labels) (ends-yes r) in
+      rw (d, j) (by-walk r F)
+  rule-deciding (rule-6 n y p w) = rw (walk-fails w .1) none-6
 
-  module _ (x t : ℕ) (bx : x < k) where
-    abbrev W : Ran (netOf I t) k (noMarks I) (getD (I .children) x []) (x ∷ []) 0 (walk I t x (noMarks I))
-    W = walk-ran I S x t bx
+  module _ (bt : t < length (I .children)) (some : 0 < length (I .labels)) where
+    abbrev J : Judges (netOf I t) (length (I .children)) t
+    J = judged I S some t bt
 
-    -- the groups opened are those that are counted and marked
-    pub rule-opened : {a : Answer} → Rule I x t a → (o : List ℕ) × Opened I x t (a .reason) o × Marked I o a
-    rule-opened (rule-1 e) = ([], unopened {r = 1} (omega arith), marked-of [] none-held refl refl)
-    rule-opened (rule-2 n e) = ([], unopened {r = 2} (omega arith), marked-of [] none-held refl refl)
-    rule-opened (rule-3 n e f) = ([], unopened {r = 3} (omega arith), marked-of [] none-held refl refl)
-    rule-opened (rule-4 n e f g) = ([], unopened {r = 4} (omega arith), marked-of [] none-held refl refl)
-    rule-opened (rule-5-6 n e f) = (
-      W .groups,
-      at (W .end) (W .run) (W .told .found-is),
-      marked-of (W .groups) (W .told .held) (omega (arith, W .count)) (W .told .marks-are),
-    )
-      where
-        at : (e : End) → WalkOf I x t e (W .groups) → walk I t x (noMarks I) .found ≡ isYes e → Opened I x t (cond (walk I t x (noMarks I) .found) 5 6) (W .groups)
-        at nowhere w f = rw f (failing w)
-        at (yes-at h) w f = rw f (finding w)
+    -- yes exactly where a path down children leads from x to t
+    pub rule-down : {a : Answer} → Rule I x t a → (a .says ≡ true) ↔ Down (I .children) x t
+    rule-down (rule-1 s) = (λ h. rw s stay, λ d. refl)
+    rule-down (rule-2 n y) = (λ h. J .hits x bx y, λ d. refl)
+    rule-down (rule-3 n y l) = (λ h. absurd (false≢true h), λ d. clash (or-left _ l) (J .lets x bx d n))
+    rule-down (rule-4 n y l o) = (λ h. absurd (false≢true h), λ d. clash (or-right (rule3 I x t) o) (J .lets x bx d n))
+    rule-down (rule-5 n y p w) = (λ h. walk-yes (lower I S t) J bx (walk-finds w .1), λ d. refl)
+    rule-down (rule-6 n y p w) = (λ h. absurd (false≢true h), λ d. absurd (walk-no (lower I S t) J bx y (walk-fails w .0) d))
 
-    -- the deciding number is that of the first labelling whose test holds
-    pub rule-deciding : {a : Answer} → Rule I x t a → Deciding I x t (a .reason) (a .deciding)
-    rule-deciding (rule-1 e) = none-1
-    rule-deciding (rule-2 n e) = let (i, j, F) = first-is (inside x t) (I .labels) e in rw j (by-inner F)
-    rule-deciding (rule-3 n e f) = none-3
-    rule-deciding (rule-4 n e f g) = let (i, j, F) = first-is (outside x t) (I .labels) g in rw j (by-outer F)
-    rule-deciding (rule-5-6 n e f) = at (W .end) (W .run) (W .told .found-is) (W .told .deciding-is)
-      where
-        at :
-            (e : End) → WalkOf I x t e (W .groups) → walk I t x (noMarks I) .found ≡ isYes e → walk I t x (noMarks I) .deciding ≡ numberAt (netOf I t) e
-            → Deciding I x t (cond (walk I t x (noMarks I) .found) 5 6) (walk I t x (noMarks I) .deciding)
-        at nowhere w f d = rw (f, d) none-6
-        at (yes-at h) w f d = let (i, j, F) = first-is (inside h t) (I .labels) (ends-yes w) in rw (f, d, j) (by-walk w F)
-
-    module _ (bt : t < k) (some : 0 < length (I .labels)) where
-      -- yes exactly where a path down children leads from x to t
-      pub rule-down : {a : Answer} → Rule I x t a → (a .says ≡ true) ↔ Down (I .children) x t
-      rule-down (rule-1 e) = (λ h. rw e stay, λ d. refl)
-      rule-down (rule-2 n e) = (λ h. judged I S some t bt .hits x bx e, λ d. refl)
-      rule-down (rule-3 n e f) = (λ h. absurd (false≢true h), λ d. clash (or-left _ f) (judged I S some t bt .lets x bx d n))
-      rule-down (rule-4 n e f g) = (λ h. absurd (false≢true h), λ d. clash (or-right (rule3 I x t) g) (judged I S some t bt .lets x bx d n))
-      rule-down (rule-5-6 n e f) = at (W .end) (W .run) (W .told .found-is)
-        where
-          at : (end : End) → WalkOf I x t end (W .groups) → walk I t x (noMarks I) .found ≡ isYes end → (walk I t x (noMarks I) .found ≡ true) ↔ Down (I .children) x t
-          at nowhere w f = (λ h. clash h f, λ d. absurd (walk-no (lower I S) (judged I S some t bt) bx e w d))
-          at (yes-at h) w f = (λ i. walk-yes (lower I S) (judged I S some t bt) bx w, λ d. f)
-
-      -- under reason 6 the marked groups are those reached from x through rules 3 and 4
-      pub rule-no : {a : Answer} → Rule I x t a → a .reason ≡ 6 → (p : ℕ) → p < k → (getD (a .marks) (name p) 0 ≡ 1) ↔ ThroughOf I t x p
-      rule-no R six p b =
-          let (o, O, M) = rule-opened R in
-          let none : NoneBelow I x t 6 = rule-reason I x t R 6 .0 six .1 in
-          let y : rule2 I x t ≡ false = is-false (rule2 I x t) (λ h. none 2 (omega arith) (inner h)) in
-          let pass : (rule3 I x t || rule4 I x t) ≡ false =
-          is-false (rule3 I x t || rule4 I x t) (λ h. elim (or-cases (rule3 I x t) (rule4 I x t) h) [ inl i ↦ none 3 (omega arith) (level i) | inr i ↦ none 4 (omega arith) (outer i) ]) in
-          let w : WalkOf I x t nowhere o = failed-walk (subst (λ (r : ℕ). Opened I x t r o) six O) in
-          let marked = mark-is o (M .low) p b in
-          let through = opened-through (lower I S) (judged I S some t bt) bx y pass w p in
-          (λ h. through .0 (marked .0 (rw (M .marks) at h)), λ v. rw (M .marks) (marked .1 (through .1 v)))
-        where
-          failed-walk : {o : List ℕ} → Opened I x t 6 o → WalkOf I x t nowhere o
-          failed-walk (unopened b) = absurd (omega arith)
-          failed-walk (failing w) = w
+    -- under reason 6 the marked groups are those reached from x through rules 3 and 4
+    pub rule-no :
+        {a : Answer} → Rule I x t a → a .reason ≡ 6
+        → (p : ℕ) → p < length (I .children) → (getD (a .marks) (getD (I .groups) p 0) 0 ≡ 1) ↔ Through (netOf I t .children) (netOf I t .no) x p
+    rule-no (rule-1 s) six p b = absurd (omega arith)
+    rule-no (rule-2 n y) six p b = absurd (omega arith)
+    rule-no (rule-3 n y l) six p b = absurd (omega arith)
+    rule-no (rule-4 n y l o) six p b = absurd (omega arith)
+    rule-no (rule-5 n y q w) six p b = absurd (omega arith)
+    rule-no (rule-6 n y q w) six p b =
+        let M : Marked I (W .groups) (afterWalk false 6 (walk I t x (noMarks I))) = walk-marked refl refl in
+        let marked = mark-is I S (W .groups) (M .low) p b in
+        let through = opened-through (lower I S t) J bx y q (walk-fails w .0) p in
+        (λ h. through .0 (marked .0 (rw (M .marks) at h)), λ v. rw (M .marks) (marked .1 (through .1 v)))

@@ -12,7 +12,7 @@ use Rattle.lineage.specs.Lists.{among, Every}
 use Rattle.lineage.specs.Graph.{Graph, Ends, Reaches, stay, step, condense}
 use Rattle.lineage.specs.Labels.{Order, labelling}
 use Rattle.lineage.specs.Index.{Index, indexOf}
-use Rattle.lineage.specs.Question.{placeIn, answer, downstream}
+use Rattle.lineage.specs.Question.{netOf, placeIn, answer, downstream}
 use Rattle.laws.specs.Leads.{Down}
 use Rattle.laws.specs.Sound.{Sound}
 use Rattle.laws.proofs.Rising.{Rises}
@@ -20,7 +20,8 @@ use Rattle.laws.proofs.Names.{names-long}
 use Rattle.laws.proofs.Grouped.{place-low}
 use Rattle.laws.proofs.Paths.{paths-exactly}
 use Rattle.laws.proofs.Sound.{made-sound}
-use Rattle.laws_answers.specs.Answers.{Member, noMarks, Holds, ThroughOf, Deciding, Opened, Marked, NoMore}
+use Rattle.laws_answers.specs.Walks.{Through}
+use Rattle.laws_answers.specs.Answers.{Member, noMarks, Holds, Deciding, Opened, Marked, NoMore}
 use Rattle.laws_answers.proofs.Members.{every-member, every-more, first-member, member-long, member-map, map-member}
 use Rattle.laws_answers.proofs.Rules.{answer-rule, rule-says, rule-unopened, rule-reason}
 use Rattle.laws_answers.proofs.Answers.{rule-opened, rule-deciding, rule-down, rule-no}
@@ -60,7 +61,7 @@ module _ (I : Index) (S : Sound I) (u v : ℕ) (bu : u < length (I .names)) (bv 
     -- under reason 6 the groups opened are exactly those reached from u's through rules 3 and 4
     pub opened-on-a-no :
         answer I u v .reason ≡ 6
-        → (p : ℕ) → p < length (I .children) → (getD (answer I u v .marks) (getD (I .groups) p 0) 0 ≡ 1) ↔ ThroughOf I (placeIn I v) (placeIn I u) p
+        → (p : ℕ) → p < length (I .children) → (getD (answer I u v .marks) (getD (I .groups) p 0) 0 ≡ 1) ↔ Through (netOf I (placeIn I v) .children) (netOf I (placeIn I v) .no) (placeIn I u) p
     opened-on-a-no = rule-no I S (placeIn I u) (placeIn I v) (place-low (S .condensed) u bu) (place-low (S .condensed) v bv) some (answer-rule I u v)
 
 -- Of a graph, and orders of which there is at least one.

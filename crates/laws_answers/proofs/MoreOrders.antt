@@ -11,17 +11,18 @@ use native.Mathlib.Omega.{arith}
 use lib.ListN.{length}
 use Rattle.lineage.specs.Labels.{Labelling}
 use Rattle.lineage.specs.Index.{Index}
-use Rattle.lineage.specs.Question.{someLabelling, inside, outside, rule3, Answer}
+use Rattle.lineage.specs.Question.{someLabelling, inside, outside, rule3, netOf, Answer}
 use Rattle.laws.specs.Sound.{Sound}
 use Rattle.laws.proofs.Tests.{or-cases, clash, is-false, or-false-left, or-false-right}
 use Rattle.laws.proofs.Rising.{pigeonhole}
-use Rattle.laws_answers.specs.Walks.{_∈_, End}
-use Rattle.laws_answers.specs.Answers.{Member, Holds, same, inner, level, outer, found, otherwise, WalkOf, Opened, unopened, finding, failing, NoMore}
-use Rattle.laws_answers.proofs.Seen.{opened-fewer}
+use Rattle.laws_answers.specs.Walks.{_∈_, End, Walks}
+use Rattle.laws_answers.specs.Answers.{Member, Holds, same, inner, level, outer, found, otherwise, Opened, unopened, finding, failing, NoMore}
+use Rattle.laws_answers.proofs.Fewer.{opened-fewer}
 use Rattle.laws_answers.proofs.Labellings.{some-more}
-use Rattle.laws_answers.proofs.Nets.{lower, judged}
+use Rattle.laws_answers.proofs.Nets.{lower, marks-more}
+use Rattle.laws_answers.proofs.Intervals.{judged}
 use Rattle.laws_answers.proofs.Rules.{Rule, rule-reason}
-use Rattle.laws_answers.proofs.Answers.{marks-more, rule-opened, rule-down}
+use Rattle.laws_answers.proofs.Answers.{rule-opened, rule-down}
 
 -- the same index with other labellings
 abbrev pub withLabels : Index → List Labelling → Index
@@ -58,11 +59,11 @@ module _ (I : Index) (ls₁ ls₂ : List Labelling) (up : (l : Labelling) → Me
       ])
 
   module _ (S₁ : Sound I₁) (S₂ : Sound I₂) (some₁ : 0 < length ls₁) (some₂ : 0 < length ls₂) (bx : x < length (I .children)) (bt : t < length (I .children)) where
-    walks-fewer : {e₁ e₂ : End} {o₁ o₂ : List ℕ} → WalkOf I₁ x t e₁ o₁ → WalkOf I₂ x t e₂ o₂ → (g : ℕ) → g ∈ o₂ → g ∈ o₁
+    walks-fewer : {e₁ e₂ : End} {o₁ o₂ : List ℕ} → Walks (netOf I₁ t) x e₁ o₁ → Walks (netOf I₂ t) x e₂ o₂ → (g : ℕ) → g ∈ o₂ → g ∈ o₁
     walks-fewer w₁ w₂ =
-        opened-fewer (lower I₁ S₁) (judged I₁ S₁ some₁ t bt) (judged I₂ S₂ some₂ t bt) fewer-pass (λ h. some-more (inside h t) ls₁ ls₂ up) bx w₁ w₂
+        opened-fewer (lower I₁ S₁ t) (lower I₂ S₂ t) (judged I₁ S₁ some₁ t bt) (judged I₂ S₂ some₂ t bt) refl fewer-pass (λ h. some-more (inside h t) ls₁ ls₂ up) bx w₁ w₂
 
-    walked-fewer : {r : ℕ} {e : End} {o₁ o₂ : List ℕ} → (r ≤ 4 → ⊥) → Opened I₁ x t r o₁ → WalkOf I₂ x t e o₂ → (g : ℕ) → g ∈ o₂ → g ∈ o₁
+    walked-fewer : {r : ℕ} {e : End} {o₁ o₂ : List ℕ} → (r ≤ 4 → ⊥) → Opened I₁ x t r o₁ → Walks (netOf I₂ t) x e o₂ → (g : ℕ) → g ∈ o₂ → g ∈ o₁
     walked-fewer n (unopened b) w₂ = absurd (n b)
     walked-fewer n (finding w₁) w₂ = walks-fewer w₁ w₂
     walked-fewer n (failing w₁) w₂ = walks-fewer w₁ w₂

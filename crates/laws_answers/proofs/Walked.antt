@@ -41,11 +41,11 @@ pub record Told (N : Net) (k : ℕ) (m₀ : List ℕ) (found : Bool) (deciding :
 pub record Ran (N : Net) (k : ℕ) (m₀ cs o : List ℕ) (n : ℕ) (a : Walked) : Type 0 where
   pub end : End
   pub groups : List ℕ
-  pub run : Tries (N .children) (N .yes) (N .no) cs o end groups
+  pub run : Tries N cs o end groups
   pub told : Told N k m₀ (a .found) (a .deciding) (a .marks) end groups
   pub count : length groups ≡ n + a .opened
 
-module _ (N : Net) {level : ℕ → ℕ} {k : ℕ} {m₀ : List ℕ} (F : Lower (N .children) level k) (S : Spots (N .spot) k m₀) where
+module _ (N : Net) {level : ℕ → ℕ} {k : ℕ} {m₀ : List ℕ} (F : Lower N level k) (S : Spots (N .spot) k m₀) where
   -- op opens groups of levels below L rightly
   abbrev Opens : (ℕ → List ℕ → Walked) → ℕ → Type 0
   Opens op L =
@@ -59,7 +59,7 @@ module _ (N : Net) {level : ℕ → ℕ} {k : ℕ} {m₀ : List ℕ} (F : Lower 
   -- h is opened, and what came of it is followed
   follow-runs :
       (h : ℕ) (cs o : List ℕ) (rest : List ℕ → Walked) → TriesOn cs rest → N .yes h ≡ false → among h o ≡ false → N .no h ≡ false
-      → (a : Walked) (e : End) (o₁ : List ℕ) → Tries (N .children) (N .yes) (N .no) (N .children h) (h ∷ o) e o₁
+      → (a : Walked) (e : End) (o₁ : List ℕ) → Tries N (N .children h) (h ∷ o) e o₁
       → Told N k m₀ (a .found) (a .deciding) (a .marks) e o₁ → length o₁ ≡ length o + a .opened
       → Ran N k m₀ (h ∷ cs) o (length o) (follow (a .found) a rest)
   follow-runs h cs o rest R y u n a nowhere o₁ r T c =

@@ -1,6 +1,6 @@
 -- What an answer's reason, deciding labelling, count and marks are to say (document 01, "A question"), each told by a relation; x and t are the
 -- source's and the target's groups, by place.
-use mathlib.Core.Bool.{Bool, true, false, _||_, cond}
+use mathlib.Core.Bool.{Bool, true, false, cond}
 use mathlib.Core.Path.{_≡_}
 use mathlib.Core.List.{List, [], _∷_, map}
 use Prim.Native.Nat.{ℕ, suc, _<_, _≤_}
@@ -8,9 +8,9 @@ use lib.ListN.{length, getD, replicate}
 use Rattle.lineage.specs.Lists.{among, upto, ones}
 use Rattle.lineage.specs.Labels.{Labelling}
 use Rattle.lineage.specs.Index.{Index}
-use Rattle.lineage.specs.Question.{inside, outside, rule2, rule3, rule4, walk, Answer}
+use Rattle.lineage.specs.Question.{inside, outside, rule2, rule3, rule4, netOf, walk, Answer}
 use Rattle.laws.proofs.Rising.{Distinct}
-use Rattle.laws_answers.specs.Walks.{End, nowhere, yes-at, Walks, Through}
+use Rattle.laws_answers.specs.Walks.{nowhere, yes-at, Walks}
 
 -- a stands in the list
 pub data Member {A : Type 0} (a : A) : List A → Type 0 where
@@ -30,14 +30,6 @@ pub data Holds (I : Index) (x t : ℕ) : ℕ → Type 0 where
   found : walk I t x (noMarks I) .found ≡ true → Holds I x t 5
   otherwise : Holds I x t 6
 
--- the walk of an index from x towards t
-abbrev pub WalkOf : Index → ℕ → ℕ → End → List ℕ → Type 0
-WalkOf I x t e o = Walks (λ p. getD (I .children) p []) (λ h. rule2 I h t) (λ h. rule3 I h t || rule4 I h t) x e o
-
--- reached from x child by child, where every group on the way, both ends included, passes rules 3 and 4
-abbrev pub ThroughOf : Index → ℕ → ℕ → ℕ → Type 0
-ThroughOf I t x p = Through (λ p. getD (I .children) p []) (λ h. rule3 I h t || rule4 I h t) x p
-
 -- the labelling at position i, from 0, passes the test, and none before it does
 pub record First (p : Labelling → Bool) (ls : List Labelling) (i : ℕ) : Type 0 where
   pub within : i < length ls
@@ -48,7 +40,7 @@ pub record First (p : Labelling → Bool) (ls : List Labelling) (i : ℕ) : Type
 pub data Deciding (I : Index) (x t : ℕ) : ℕ → ℕ → Type 0 where
   by-inner : {i : ℕ} → First (inside x t) (I .labels) i → Deciding I x t 2 (suc i)
   by-outer : {i : ℕ} → First (outside x t) (I .labels) i → Deciding I x t 4 (suc i)
-  by-walk : {h i : ℕ} {o : List ℕ} → WalkOf I x t (yes-at h) o → First (inside h t) (I .labels) i → Deciding I x t 5 (suc i)
+  by-walk : {h i : ℕ} {o : List ℕ} → Walks (netOf I t) x (yes-at h) o → First (inside h t) (I .labels) i → Deciding I x t 5 (suc i)
   none-1 : Deciding I x t 1 0
   none-3 : Deciding I x t 3 0
   none-6 : Deciding I x t 6 0
@@ -56,8 +48,8 @@ pub data Deciding (I : Index) (x t : ℕ) : ℕ → ℕ → Type 0 where
 -- the groups opened by reason, the last first: none under 1 to 4, otherwise those of the walk
 pub data Opened (I : Index) (x t : ℕ) : ℕ → List ℕ → Type 0 where
   unopened : {r : ℕ} → r ≤ 4 → Opened I x t r []
-  finding : {h : ℕ} {o : List ℕ} → WalkOf I x t (yes-at h) o → Opened I x t 5 o
-  failing : {o : List ℕ} → WalkOf I x t nowhere o → Opened I x t 6 o
+  finding : {h : ℕ} {o : List ℕ} → Walks (netOf I t) x (yes-at h) o → Opened I x t 5 o
+  failing : {o : List ℕ} → Walks (netOf I t) x nowhere o → Opened I x t 6 o
 
 -- n marks: byte i is 1 if i names one of the groups and 0 otherwise
 abbrev pub marksOf : Index → List ℕ → List ℕ

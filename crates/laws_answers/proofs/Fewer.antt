@@ -4,15 +4,16 @@
 -- the target is the same. So two walks need not be followed side by side.
 use mathlib.Core.Bool.{Bool, true, false}
 use mathlib.Core.Logic.{_⊎_, inl, inr}
-use mathlib.Core.Path.{_≡_, refl}
+use mathlib.Core.Path.{_≡_, refl, subst}
 use mathlib.Core.List.{List, _∷_}
 use Prim.Native.Nat.{ℕ, _<_}
+use Rattle.lineage.specs.Walk.{Net}
 use Rattle.laws.proofs.Tests.{clash, is-false}
 use Rattle.laws.proofs.Lists.{here}
 use Rattle.laws.specs.Leads.{Leads, step}
 use Rattle.laws_answers.specs.Walks.{_∈_, End, Tries, over, hit, met, cut, finds, goes-on, Walks, Through, ends, goes}
 use Rattle.laws_answers.proofs.Tries.{each, Lower, Judges, Low, Ready, keeps, low-children, low-tail, cut-leads-not, met-leads-not, found-leads, failed, closed-leads-not, closed-ready, ready-below, ready-first}
-use Rattle.laws_answers.proofs.Opened.{passes, only-through, through-opened}
+use Rattle.laws_answers.proofs.Through.{passes, only-through, through-opened}
 
 -- what trying cs opens
 data Sees (children : ℕ → List ℕ) (yes? no? : ℕ → Bool) (t : ℕ) : List ℕ → ℕ → Type 0 where
@@ -39,9 +40,13 @@ sees-on (later n w) l = absurd (n l)
 sees-on (self m y) l = (y, inl refl)
 sees-on (down m y w) l = (y, inr w)
 
-module _ {children : ℕ → List ℕ} {level : ℕ → ℕ} {k t : ℕ} {yes? no? : ℕ → Bool} (F : Lower children level k) (J : Judges children k t yes? no?) where
+module _ {N : Net} {level : ℕ → ℕ} {k t : ℕ} (F : Lower N level k) (J : Judges N k t) where
+  -- what trying cs opens
+  abbrev SeesIn : List ℕ → ℕ → Type 0
+  SeesIn cs g = Sees (N .children) (N .yes) (N .no) t cs g
+
   -- what is opened is seen
-  opened-seen : {cs o o' : List ℕ} {e : End} {L : ℕ} → Low F J L cs → Ready F J L o → Tries children yes? no? cs o e o' → (g : ℕ) → g ∈ o' → (g ∈ o) ⊎ Sees children yes? no? t cs g
+  opened-seen : {cs o o' : List ℕ} {e : End} {L : ℕ} → Low F J L cs → Ready F J L o → Tries N cs o e o' → (g : ℕ) → g ∈ o' → (g ∈ o) ⊎ SeesIn cs g
   opened-seen l a over g i = inl i
   opened-seen l a (hit y) g i = inl i
   opened-seen l a (met {h = h} {cs = cs} {o = o} y m r) g i =
@@ -52,7 +57,7 @@ module _ {children : ℕ → List ℕ} {level : ℕ → ℕ} {k t : ℕ} {yes? n
       let b = l h (here h cs) in
       let (q, j, p) = found-leads F J (low-children F J h (b .0)) r in
       elim (opened-seen (low-children F J h (b .0)) (ready-below F J h o (b .1) a) r g i) [
-        | inl u ↦ each (λ q. (q ∈ o) ⊎ Sees children yes? no? t (h ∷ cs) q) h o (inr (self (step j p) y)) (λ q v. inl v) g u
+        | inl u ↦ each (λ q. (q ∈ o) ⊎ SeesIn (h ∷ cs) q) h o (inr (self (step j p) y)) (λ q v. inl v) g u
         | inr w ↦ inr (down (step j p) y w)
       ]
   opened-seen l a (goes-on {h = h} {cs = cs} {o = o} {o₁ = o₁} y m n r s) g i =
@@ -61,14 +66,14 @@ module _ {children : ℕ → List ℕ} {level : ℕ → ℕ} {k t : ℕ} {yes? n
       let leads-not = closed-leads-not F J h o o₁ y r R in
       elim (opened-seen (low-tail F J h cs l) (closed-ready F J h o o₁ y r R a) s g i) [
         | inl j ↦ elim (only-through r g j) [
-          | inl u ↦ each (λ q. (q ∈ o) ⊎ Sees children yes? no? t (h ∷ cs) q) h o (inr (near leads-not (ends n))) (λ q v. inl v) g u
+          | inl u ↦ each (λ q. (q ∈ o) ⊎ SeesIn (h ∷ cs) q) h o (inr (near leads-not (ends n))) (λ q v. inl v) g u
           | inr w ↦ inr (near leads-not (goes n (w .1) (w .2)))
         ]
         | inr w ↦ inr (later leads-not w)
       ]
 
   -- what is seen is opened
-  seen-opened : {cs o o' : List ℕ} {e : End} {L : ℕ} → Low F J L cs → Ready F J L o → Tries children yes? no? cs o e o' → (g : ℕ) → Sees children yes? no? t cs g → g ∈ o'
+  seen-opened : {cs o o' : List ℕ} {e : End} {L : ℕ} → Low F J L cs → Ready F J L o → Tries N cs o e o' → (g : ℕ) → SeesIn cs g → g ∈ o'
   seen-opened l a (hit {h = h} {cs = cs} y) g v = clash y (sees-on v (J .hits h (l h (here h cs) .0) y) .0)
   seen-opened l a (met {h = h} {cs = cs} {o = o} y m r) g v =
       let b = l h (here h cs) in
@@ -110,13 +115,13 @@ sees-fewer a y (down {h = h} l z w) = down l (is-false _ (λ e. clash (y h e) z)
 
 -- every group that the second walk opens is opened by the first
 pub opened-fewer :
-    {children : ℕ → List ℕ} {level : ℕ → ℕ} {k t : ℕ} {yes₁ no₁ yes₂ no₂ : ℕ → Bool}
-    → Lower children level k → Judges children k t yes₁ no₁ → Judges children k t yes₂ no₂
-    → ((h : ℕ) → no₂ h ≡ false → no₁ h ≡ false) → ((h : ℕ) → yes₁ h ≡ true → yes₂ h ≡ true)
-    → {x : ℕ} {o₁ o₂ : List ℕ} {e₁ e₂ : End} → x < k → Walks children yes₁ no₁ x e₁ o₁ → Walks children yes₂ no₂ x e₂ o₂
-    → (g : ℕ) → g ∈ o₂ → g ∈ o₁
-opened-fewer F J₁ J₂ pass ends-more {x} b w₁ w₂ g i =
-    elim (opened-seen F J₂ (low-children F J₂ x b) (ready-first F J₂ x) w₂ g i) [
+    {N₁ N₂ : Net} {level : ℕ → ℕ} {k t : ℕ} → Lower N₁ level k → Lower N₂ level k → Judges N₁ k t → Judges N₂ k t
+    → N₂ .children ≡ N₁ .children → ((h : ℕ) → N₂ .no h ≡ false → N₁ .no h ≡ false) → ((h : ℕ) → N₁ .yes h ≡ true → N₂ .yes h ≡ true)
+    → {x : ℕ} {o₁ o₂ : List ℕ} {e₁ e₂ : End} → x < k → Walks N₁ x e₁ o₁ → Walks N₂ x e₂ o₂ → (g : ℕ) → g ∈ o₂ → g ∈ o₁
+opened-fewer {N₁} {N₂} {t = t} F₁ F₂ J₁ J₂ same pass more {x} b w₁ w₂ g i =
+    elim (opened-seen F₂ J₂ (low-children F₂ J₂ x b) (ready-first F₂ J₂ x) w₂ g i) [
       | inl j ↦ keeps w₁ g j
-      | inr v ↦ seen-opened F J₁ (low-children F J₁ x b) (ready-first F J₁ x) w₁ g (sees-fewer pass ends-more v)
+      | inr v ↦
+          let v₁ : Sees (N₁ .children) (N₂ .yes) (N₂ .no) t (N₁ .children x) g = subst (λ (c : ℕ → List ℕ). Sees c (N₂ .yes) (N₂ .no) t (c x) g) same v in
+          seen-opened F₁ J₁ (low-children F₁ J₁ x b) (ready-first F₁ J₁ x) w₁ g (sees-fewer pass more v₁)
     ]
