@@ -10,17 +10,17 @@ use native.Mathlib.Omega.{arith}
 use lib.ListN.{length, getD, length-map, length-append}
 use lib.Seq.{ext-getD}
 use Rattle.lineage.specs.Lists.{upto, those, joined}
-use Rattle.lineage.specs.Graph.{Graph, Edge, Ends, Reaches, stay, step, nameOf, namesOf, groupList, placeOf, isChild, childrenOf, levelsOf, condense}
+use Rattle.lineage.specs.Graph.{Graph, Edge, Ends, Reaches, stay, step, nameOf, namesOf, groupList, placeOf, isChild, childrenOf, condense, levelsOf}
 use Rattle.lineage.specs.Sound.{childOf}
 use Rattle.laws.specs.Leads.{OneGroup}
 use Rattle.laws.specs.Sound.{SoundGroups}
-use Rattle.laws.proofs.Lists.{getD-mapped, table-is, those-pass, those-keep, in-upto, upto-low}
+use Rattle.laws.proofs.Lists.{those-pass, those-keep, in-upto, upto-low, getD-mapped, table-is}
 use Rattle.laws.proofs.Rising.{rises-upto, rises-those, rises-unique}
 use Rattle.laws.proofs.Edges.{child-to, child-from, edge-left, edge-right, edge-split, edge-map, map-edge, joined-paired, edge-joined, joined-edge}
+use Rattle.laws.proofs.Names
 use Rattle.laws.proofs.Levels.{Levels, level-unique, levels-long}
 use Rattle.laws.proofs.Grouped.{name-in, group-name, place-of-name, place-one, child-in, children-rise, levels-fall}
 use Rattle.laws.proofs.Condensed.{groups-sound}
-use Rattle.laws.proofs.Names
 
 module _ {names groups levels : List ℕ} {children : List (List ℕ)} (S : SoundGroups names groups levels children) where
   abbrev n : ℕ

@@ -13,9 +13,9 @@ use borrow.Author.Tests.{eqb-true, eq-eqb}
 use Rattle.lineage.specs.Lists.{greatest}
 use Rattle.lineage.specs.Graph.{level, levelsOf, leads}
 use Rattle.lineage.specs.Sound.{childOf}
-use Rattle.laws.specs.Leads.{Down, stay, step}
+use Rattle.laws.specs.Leads.{stay, step, Down}
 use Rattle.laws.proofs.Tests.{or-left, or-right, or-cases}
-use Rattle.laws.proofs.Lists.{any-in, in-any, map-same, table-at, table-long, greatest-at}
+use Rattle.laws.proofs.Lists.{map-same, any-in, in-any, table-at, table-long, greatest-at}
 
 -- a number for each place, by the equation of levels
 abbrev pub Levels : List (List ℕ) → (ℕ → ℕ) → Type 0

@@ -10,7 +10,7 @@ use Rattle.lineage.specs.Lists.{upto}
 use Rattle.lineage.specs.Graph.{Graph, Ends, stay, reaches, sameGroup, nameOf, namesOf}
 use Rattle.laws.specs.Leads.{OneGroup}
 use Rattle.laws.proofs.Tests.{and-both, and-left, and-right}
-use Rattle.laws.proofs.Lists.{table-at, table-long, in-upto}
+use Rattle.laws.proofs.Lists.{in-upto, table-at, table-long}
 use Rattle.laws.proofs.Rising.{rises-upto, first-of}
 use Rattle.laws.proofs.Reaches.{reaches-on, reaches-exactly}
 
