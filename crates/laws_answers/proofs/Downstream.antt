@@ -18,9 +18,9 @@ use Rattle.laws.proofs.Rising.{Rises, rises-upto, rises-those}
 use Rattle.laws.proofs.Grouped.{place-low, leads-exactly}
 
 module _ (I : Index) where
-  pub downstream-rises : (u : ℕ) → Rises (downstream I u)
+  pub list-rises : (u : ℕ) → Rises (downstream I u)
   unfolding downstream
-  downstream-rises u = rises-those (isDownstream I u) (upto (length (I .names))) (rises-upto (length (I .names)))
+  list-rises u = rises-those (isDownstream I u) (upto (length (I .names))) (rises-upto (length (I .names)))
 
   module _ (S : Sound I) (u : ℕ) (bu : u < length (I .names)) where
     is-downstream : (v : ℕ) → (isDownstream I u v ≡ true) ↔ Down (I .children) (placeIn I u) (placeIn I v)
@@ -33,9 +33,9 @@ module _ (I : Index) where
         at true e = (λ h. rw (eqb-true u v e) stay, λ d. refl)
         at false e = leads-exactly (S .condensed) (placeIn I u) (placeIn I v) (place-low (S .condensed) u bu)
 
-    pub in-downstream : (v : ℕ) → (among v (downstream I u) ≡ true) ↔ ((v < length (I .names)) × Down (I .children) (placeIn I u) (placeIn I v))
+    pub in-list : (v : ℕ) → (among v (downstream I u) ≡ true) ↔ ((v < length (I .names)) × Down (I .children) (placeIn I u) (placeIn I v))
     unfolding downstream
-    in-downstream v = (
+    in-list v = (
       λ i. let (p, j) = those-pass (isDownstream I u) v (upto (length (I .names))) i in (upto-low (length (I .names)) v j, is-downstream v .0 p),
       λ d. those-keep (isDownstream I u) v (upto (length (I .names))) (is-downstream v .1 (d .1)) (in-upto (length (I .names)) v (d .0)),
     )

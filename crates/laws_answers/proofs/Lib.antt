@@ -13,4 +13,5 @@ pub mod Rules
 pub mod Answers
 pub mod Downstream
 pub mod MoreOrders
+pub mod Built
 pub mod Demands

@@ -31,9 +31,11 @@ module _ (I : Index) (S : Sound I) where
   abbrev name : ℕ → ℕ
   name p = getD (I .groups) p 0
 
+  -- children are groups of lower levels
   pub lower : (t : ℕ) → Lower (netOf I t) (λ p. getD (I .levels) p 0) k
   lower t = record { within = child-in (S .condensed); falls = levels-fall (S .condensed) }
 
+  -- each name is a byte of its own
   spots : Spots name k (noMarks I)
   spots = record {
     fits = λ p b. rw length-replicate (group-name (S .condensed) p b .0);
@@ -41,6 +43,7 @@ module _ (I : Index) (S : Sound I) where
     clear = λ p b. getD-replicate n (name p) 0 0 (group-name (S .condensed) p b .0);
   }
 
+  -- the walk from x, told by lists
   pub walk-ran : (x t : ℕ) → x < k → Ran (netOf I t) k (noMarks I) (getD (I .children) x []) (x ∷ []) 0 (walk I t x (noMarks I))
   unfolding walk
   walk-ran x t b = walk-runs (netOf I t) (lower t) spots x (suc (getD (I .levels) x 0)) b (omega arith)
@@ -65,11 +68,12 @@ module _ (I : Index) (S : Sound I) where
       rw (← painted-marks o₁ low)
       (painted-more name (noMarks I) o₁ o₂ (λ p j. spots .fits p (low p j)) up i (rw (← painted-marks o₂ (λ p j. low p (up p j))) at h))
 
+  -- an answer that counts and marks the groups
   pub marked-of : {a : Answer} (o : List ℕ) → Held k o → a .opened ≡ length o → a .marks ≡ painted name o (noMarks I) → Marked I o a
   marked-of o H c m = record {
     once = H .once;
     low = H .low;
     count = c;
+    left = rw m (omega (arith, ones-painted spots o (H .once) (H .low), ones-none n));
     marks = m ∙ painted-marks o (H .low);
-    counted = rw m (omega (arith, ones-painted spots o (H .once) (H .low), ones-none n));
   }

@@ -12,11 +12,6 @@ use Rattle.lineage.specs.Question.{inside, outside, rule2, rule3, rule4, netOf,
 use Rattle.laws.proofs.Rising.{Distinct}
 use Rattle.laws_answers.specs.Walks.{nowhere, yes-at, Walks}
 
--- a stands in the list
-pub data Member {A : Type 0} (a : A) : List A → Type 0 where
-  front : {bs : List A} → Member a (a ∷ bs)
-  behind : {b : A} {bs : List A} → Member a bs → Member a (b ∷ bs)
-
 -- the marks before a question: n bytes, all 0
 abbrev pub noMarks : Index → List ℕ
 noMarks I = replicate (length (I .names)) 0
@@ -59,9 +54,16 @@ marksOf I o = map (λ i. cond (among i (map (λ p. getD (I .groups) p 0) o)) 1 0
 pub record Marked (I : Index) (o : List ℕ) (a : Answer) : Type 0 where
   pub once : Distinct o
   pub low : (p : ℕ) → among p o ≡ true → p < length (I .children)
+  -- the count is the number of the groups, and of the marks left
   pub count : a .opened ≡ length o
+  pub left : a .opened ≡ ones (a .marks)
+  -- the marks are theirs
   pub marks : a .marks ≡ marksOf I o
-  pub counted : a .opened ≡ ones (a .marks)
+
+-- a stands in the list, of orders or of labellings
+pub data Member {A : Type 0} (a : A) : List A → Type 0 where
+  front : {bs : List A} → Member a (a ∷ bs)
+  behind : {b : A} {bs : List A} → Member a bs → Member a (b ∷ bs)
 
 -- b says what a says, opens no group that a does not open, and counts no more
 pub record NoMore (a b : Answer) : Type 0 where
