@@ -13,7 +13,7 @@ use lib.ListN.{length, getD}
 use borrow.Author.Tests.{leb-true, le-leb, lt-leb}
 use Rattle.lineage.specs.Labels.{Labelling}
 use Rattle.lineage.specs.Index.{Index}
-use Rattle.lineage.specs.Question.{inside, outside, netOf}
+use Rattle.lineage.specs.Question.{inside, outside, rule2, rule3, rule4, netOf}
 use Rattle.lineage.specs.Sound.{childOf}
 use Rattle.laws.specs.Leads.{Down, stay, step}
 use Rattle.laws.specs.Sound.{LeftWalk, arrived, left, SoundLabelling, Sound}
@@ -97,10 +97,24 @@ module _ (I : Index) (S : Sound I) where
   labelled : (l : Labelling) → Member l (I .labels) → SoundLabelling (I .children) l
   labelled l i = every-member (SoundLabelling (I .children)) (S .labelled) i
 
-  -- so the net judges rightly, where there is a labelling at all
+  -- rule 2 says yes only of groups that lead to t, and of t itself where there is a labelling at all
+  rule2-right : (h t : ℕ) → h < k → t < k → rule2 I h t ≡ true → Down (I .children) h t
+  rule2-right h t b c y = let (l, i, d) = some-is (inside h t) (I .labels) y in inside-below l (labelled l i) h t b c d
+
+  rule2-self : 0 < length (I .labels) → (t : ℕ) → t < k → rule2 I t t ≡ true
+  rule2-self some t c = let (l, i) = first-member (I .labels) some in is-some (inside t t) i (inside-self l (labelled l i) t c)
+
+  -- rules 3 and 4 rule out no other group that leads to t
+  rule3-right : (h t : ℕ) → h < k → Down (I .children) h t → h ≢ t → rule3 I h t ≡ false
+  rule3-right h t b w n = lt-leb (level h) (level t) (level-above b w n)
+
+  rule4-right : (h t : ℕ) → h < k → Down (I .children) h t → rule4 I h t ≡ false
+  rule4-right h t b w = none-is (outside h t) (I .labels) (λ l i. not-outside l (labelled l i) h t b w)
+
+  -- so the net judges rightly
   pub judged : 0 < length (I .labels) → (t : ℕ) → t < k → Judges (netOf I t) k t
   judged some t c = record {
-    hits = λ h b y. let (l, i, d) = some-is (inside h t) (I .labels) y in inside-below l (labelled l i) h t b c d;
-    lets = λ h b w n. rw (lt-leb (level h) (level t) (level-above b w n), none-is (outside h t) (I .labels) (λ l i. not-outside l (labelled l i) h t b w));
-    home = let (l, i) = first-member (I .labels) some in is-some (inside t t) i (inside-self l (labelled l i) t c);
+    hits = λ h b y. rule2-right h t b c y;
+    lets = λ h b w n. rw (rule3-right h t b w n, rule4-right h t b w);
+    home = rule2-self some t c;
   }
