@@ -43,6 +43,7 @@ module _ (G : Graph) (ends : Ends G) where
       let low : nameAt p < G .n = omega (arith, Names.names-long G ends) in
       (low, sym (name-at (nameAt p) low) ∙ own)
 
+  -- a row for each place: those places whose group is a child
   pub children-long : length children ≡ length groups
   unfolding childrenOf
   children-long = length-map groups (λ a. those (λ q. isChild G names a (nameAt q)) (upto (length groups)))
@@ -108,6 +109,7 @@ module _ (G : Graph) (ends : Ends G) where
   child-in : (p q : ℕ) → p < length children → childOf children p q ≡ true → q < length children
   child-in p q h i = omega (arith, children-long, child-is p q (listed h) i .1)
 
+  -- so names, group list, levels and children of an edge list pass the tests
   pub groups-sound : SoundGroups names groups (levelsOf children) children
   groups-sound =
       record {

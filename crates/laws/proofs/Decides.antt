@@ -259,6 +259,7 @@ module _ (names groups levels : List ℕ) (children : List (List ℕ)) where
     ),
   )
 
+-- all tests of an index
 pub sound-decides : (I : Index) → (sound I ≡ true) ↔ Sound I
 unfolding sound
 sound-decides I =

@@ -10,6 +10,7 @@ pub condense-same : (G H : Graph) → condense G .names ≡ condense H .names �
 unfolding condense
 condense-same G H ns cs = λ i. record { names = ns i; groups = groupList (ns i); children = cs i }
 
+-- and so the whole index, under the same orders
 pub index-same :
     (G H : Graph) → condense G .names ≡ condense H .names → condense G .children ≡ condense H .children
     → (orders : List (List ℕ)) → indexOf G orders ≡ indexOf H orders

@@ -80,6 +80,7 @@ module _ (R : Ranking) where
             let at : before x (visit p below rest) ≡ finished below ++ (p ∷ before x rest) = rw (ne x i, apart x (there x p (finished rest) i), before) in
             omega (arith, c .m-is x (within x i), ap length at, length-append (finished below) (p ∷ before x rest))
 
+  -- a traversal fits the ranks that count its order of finishing
   pub visits-fits :
       {next : ℕ → List ℕ} {ok : ℕ → Bool} {todo seen : List ℕ} {f : Forest} (lo hi : ℕ)
       → ((p q : ℕ) → among q (next p) ≡ true → R .child p q ≡ true) → Visits next todo seen f

@@ -61,6 +61,7 @@ entered-finished x (visit p below next) =
     (swap (eqb x p) (among x (finished below)) (among x (finished next)))
 
 module _ {R : Ranking} where
+  -- a block goes up; forests on neighbouring blocks join
   pub block-up : {ok : ℕ → Bool} {f : Forest} {lo hi : ℕ} → Fits R ok f lo hi → lo ≤ hi
   block-up none = omega arith
   block-up (tree t h x y u v) = omega (arith, block-up u, block-up v)
@@ -69,6 +70,7 @@ module _ {R : Ranking} where
   join-fits none w = w
   join-fits (tree t h x y u v) w = tree t h x y u (join-fits v w)
 
+  -- a block has as many ranks as the forest has groups
   pub fits-count : {ok : ℕ → Bool} {f : Forest} {lo hi : ℕ} → Fits R ok f lo hi → lo + length (entered f) ≡ hi
   fits-count none = omega arith
   fits-count (tree {below = below} {next = next} t h x y u v) = omega (arith, fits-count u, fits-count v, length-append (entered below) (entered next))

@@ -63,6 +63,7 @@ module _ {names groups levels : List ℕ} {children : List (List ℕ)} (S : Soun
   pub place-of-name : (p : ℕ) → p < length children → placeOf groups (getD groups p 0) ≡ p
   place-of-name p h = let l : p < length groups = omega (arith, S .children-long) in rw (S .groups-are) (place-name names p (rw (S .groups-are) at l))
 
+  -- the group list has no name twice
   pub groups-distinct : Distinct groups
   groups-distinct = rises-distinct groups (rw (S .groups-are) (groups-rise names))
 
@@ -86,6 +87,7 @@ module _ {names groups levels : List ℕ} {children : List (List ℕ)} (S : Soun
   pub levels-fall : Falls children (λ p. getD levels p 0)
   levels-fall = level-falls children (λ p. getD levels p 0) (S .level-is)
 
+  -- so no group is its own child
   pub child-other : (p : ℕ) → p < length children → childOf children p p ≡ false
   child-other p h = is-false (childOf children p p) (λ i. omega (arith, levels-fall p p h i))
 

@@ -59,6 +59,7 @@ module _
     visits : Visits (nextIn children ranked) (those (nobodysChild children) ranked) [] forest
     visits = forest-visits children ranked (upto k) (λ q i. in-upto k q (ranked-low q i)) (omega (arith, length-upto k))
 
+    -- there is no other
     pub forest-unique : (f : Forest) → Visits (nextIn children ranked) (those (nobodysChild children) ranked) [] f → f ≡ forest
     forest-unique f v = unique v visits
 
@@ -198,6 +199,7 @@ module _
     in-entered : (p : ℕ) → p < k → among p (entered forest) ≡ true
     in-entered p h = rw (entered-finished p forest) (finished-all p h)
 
+    -- so the labelling under an order passes the tests
     pub labelling-sound : SoundLabelling children (labelling groups children order)
     labelling-sound =
         record {

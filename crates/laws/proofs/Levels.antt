@@ -62,6 +62,7 @@ module _ (children : List (List ℕ)) where
       down-leads (step {p = p} {q = x} {t = q} i d) (suc f) h l =
           or-right (eqb p q) (any-in (λ y. leads children f y q) x (getD children p []) i (down-leads d f (child-low p x h i) (omega (arith, falls p x h i))))
 
+      -- `leads` finds every path down children
       pub leads-bounded : (f p q : ℕ) → p < length children → a p ≤ f → (leads children f p q ≡ true) ↔ Down children p q
       leads-bounded f p q h l = (leads-down f p q, λ d. down-leads d f h l)
 
@@ -82,6 +83,7 @@ module _ (children : List (List ℕ)) where
         unfolding levelsOf
         level-at p h = table-at (level children (length children)) (length children) p 0 h
 
+        -- the computed levels meet the equation
         pub levels-meet : Levels children (λ p. getD (levelsOf children) p 0)
         unfolding level
         levels-meet p h =
@@ -90,6 +92,7 @@ module _ (children : List (List ℕ)) where
             ∙ ap greatest (map-same (λ q. suc (level children (length children) q)) (λ q. suc (getD (levelsOf children) q 0)) (getD children p [])
             (λ q i. ap suc (sym (level-at q (child-low p q h i)))))
 
+-- a level for each place
 pub levels-long : (children : List (List ℕ)) → length (levelsOf children) ≡ length children
 unfolding levelsOf
 levels-long children = table-long (level children (length children)) (length children)

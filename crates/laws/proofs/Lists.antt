@@ -15,6 +15,7 @@ use borrow.Author.Tests.{eqb-true, eq-eqb}
 use Rattle.lineage.specs.Lists.{upto, any, among, those, position, least, greatest}
 use Rattle.laws.proofs.Tests.{or-left, or-right, or-cases, clash, or-false-left, or-false-right}
 
+-- members of a list joined of two
 pub among-append : (x : ℕ) (a b : List ℕ) → among x (a ++ b) ≡ (among x a || among x b)
 among-append x [] b = refl
 among-append x (y ∷ a) b = rw (among-append x a b) (sym (or-assoc (eqb x y) (among x a) (among x b)))
@@ -227,6 +228,7 @@ of-map f y (x ∷ xs) h =
       | inr i ↦ let (z, j, o) = of-map f y xs i in (z, there z x xs j, o)
     ]
 
+-- members of a list turned round
 pub among-reverse : (x : ℕ) (l : List ℕ) → among x (reverse l) ≡ among x l
 among-reverse x [] = refl
 among-reverse x (y ∷ l) = rw (reverse-cons, among-append, among-reverse x l, or-comm (among x l), or-false (eqb x y))

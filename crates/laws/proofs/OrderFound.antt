@@ -96,6 +96,7 @@ module _
     unfolding labelling
     same-labelling order o = rw (← S .children-long, o, same-forest) labels-same
 
+    -- so some order makes the labelling
     pub order-found : (order : List ℕ) × Order (length names) order × (labelling groups children order ≡ l)
     order-found =
         let (order, o, i) =

@@ -18,12 +18,14 @@ module _ (groups : List ℕ) where
   abbrev isName : ℕ → Bool
   isName v = among v groups
 
+  -- the places of an order are places
   pub places-low : (order : List ℕ) (p : ℕ) → among p (inOrder order groups) ≡ true → p < length groups
   unfolding inOrder
   places-low order p i =
       let (v, j, e) = of-map (placeOf groups) p (those isName order) i in
       rw e (position-low v groups (those-pass isName v order j .0))
 
+  -- and all of them
   pub places-all :
       (order : List ℕ) → Distinct groups → (p : ℕ) → p < length groups → among (getD groups p 0) order ≡ true
       → among p (inOrder order groups) ≡ true
@@ -101,5 +103,6 @@ module _ (groups : List ℕ) where
               (rw (at-position v groups e) at (in-map nameAt (placeOf groups v) places (all (placeOf groups v) (position-low v groups e))))
           at v h false e = in-right v (map nameAt places) others (those-keep (λ x. not (isName x)) v (upto n) (ap not e) (in-upto n v h))
 
+      -- so any sequence of all places is that of some order
       pub order-for : (o : List ℕ) × Order n o × (inOrder o groups ≡ places)
       order-for = (order, is-order, its-places)

@@ -77,6 +77,7 @@ module _ (G : Graph) (ends : Ends G) where
       let j : x < length groups = omega (arith, children-long G ends, child-in (groups-sound G ends) p x (omega (arith, children-long G ends)) i) in
       reaches-on (child-path G ends p x h i) (down-path j d)
 
+  -- a path between vertices is a path down children between their groups
   pub paths-exactly : (u v : ℕ) → u < G .n → v < G .n → Reaches G u v ↔ Down children (place u) (place v)
   paths-exactly u v hu hv = (
     path-down,

@@ -14,6 +14,7 @@ use Rattle.lineage.specs.Graph.{Graph, Edge, Ends, Reaches, stay, step, someEdg
 use Rattle.laws.proofs.Tests.{or-left, or-right, or-cases, and-both, and-left, and-right}
 use Rattle.laws.proofs.Edges.{some-edge, edge-some}
 
+-- paths join
 pub reaches-on : {G : Graph} {u w v : ℕ} → Reaches G u w → Reaches G w v → Reaches G u v
 reaches-on stay q = q
 reaches-on (step e p) q = step e (reaches-on p q)
@@ -96,6 +97,7 @@ module _ (G : Graph) where
     path-via (step {u = u} {w = w} {v = v} e p) =
         join (G .n) w u v (ends .targets-low u w e) (via-grows (G .n) u w (or-right (eqb u w) (edge-from e))) (path-via p)
 
+    -- `reaches` computes whether a path leads from u to v
     pub reaches-exactly : (u v : ℕ) → (reaches G u v ≡ true) ↔ Reaches G u v
     unfolding reaches
     reaches-exactly u v = (via-path (G .n) u v, path-via)

@@ -19,6 +19,7 @@ abbrev pub Distinct : List ℕ → Type 0
 Distinct [] = Unit {0}
 Distinct (x ∷ xs) = (among x xs ≡ false) × Distinct xs
 
+-- joined lists without repeats, where they share no number, and the way back
 pub distinct-append : (a b : List ℕ) → Distinct a → Distinct b → ((x : ℕ) → among x a ≡ true → among x b ≡ false) → Distinct (a ++ b)
 distinct-append [] b da db apart = db
 distinct-append (x ∷ a) b da db apart =
@@ -153,6 +154,7 @@ those-lt p q (x ∷ xs) a w i t n = at (in-cons a x xs i) (p x) refl (q x) refl 
     at (inr j) false e true f ih = rw (those-no p x xs e, those-yes q x xs f) (omega (arith, ih j))
     at (inr j) false e false f ih = rw (those-no p x xs e, those-no q x xs f) (ih j)
 
+-- a filter keeps no more than there are
 pub those-short : (p : ℕ → Bool) (xs : List ℕ) → length (those p xs) ≤ length xs
 those-short p xs = omega (arith, those-split p xs)
 

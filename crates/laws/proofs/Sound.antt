@@ -31,6 +31,7 @@ module _ {names groups levels : List ℕ} {children : List (List ℕ)} (S : Soun
   labellings-sound n e [] os = tt
   labellings-sound n e (o ∷ orders) os = (labelling-sound S o (rw e at (os .0)), labellings-sound n e orders (os .1))
 
+-- the index of an edge list under some orders passes the tests
 pub made-sound : (G : Graph) → Ends G → (orders : List (List ℕ)) → Every (Order (G .n)) orders → Sound (indexOf G orders)
 unfolding indexOf indexBy condense
 made-sound G ends orders os =

@@ -16,6 +16,7 @@ use Rattle.laws.proofs.Tests.{clash, is-false}
 use Rattle.laws.proofs.Lists.{here, there, Kept, those-pass, those-all}
 use Rattle.laws.proofs.Rising.{those-le, those-lt}
 
+-- one start, one forest
 pub unique : {next : ℕ → List ℕ} {todo seen : List ℕ} {f g : Forest} → Visits next todo seen f → Visits next todo seen g → f ≡ g
 unique over over = refl
 unique (skip a r) (skip b s) = unique r s
@@ -75,6 +76,7 @@ module _ (next : ℕ → List ℕ) (places : List ℕ) (closed : (p : ℕ) → K
           (enter e (ih (next p) (p ∷ seen) (closed p) (omega (arith, fewer e)))
           (go _ (omega (arith, fewer e, after-fewer (traverse next f (next p) (p ∷ seen))))))
 
+  -- so `traverse` makes the traversal
   pub made : (f : ℕ) → Made f
   unfolding traverse
   made zero todo seen all h = absurd (not-suc-le-zero h)

@@ -12,6 +12,7 @@ use Rattle.laws.proofs.Tests.{clash}
 use Rattle.laws.proofs.Lists.{among-append, in-left, in-right}
 use Rattle.laws.proofs.Rising.{Distinct, distinct-right, distinct-apart}
 
+-- the trees one after the other are the order of finishing
 pub joined-trees : (f : Forest) → joined (trees f) ≡ finished f
 joined-trees done = refl
 joined-trees (visit p below rest) = append-assoc (finished below) (p ∷ []) (joined (trees rest)) ∙ ap (λ z. finished below ++ (p ∷ z)) (joined-trees rest)

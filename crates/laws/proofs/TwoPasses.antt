@@ -89,6 +89,7 @@ edge-row {u = u} {v = v} (later {x = x} {y = y} {S = S} {T = T} e) = at (eqb x u
     at true e′ i = rw (e′, row) (there v y (row S T u) i)
     at false e′ i = rw (e′, row) i
 
+-- so the rows of an edge list hold its edges
 pub edge-rows : (S T : List ℕ) → EdgeRows S T (row S T)
 edge-rows S T = record { holds = λ u v. (row-edge S T u v, edge-row) }
 
@@ -120,6 +121,7 @@ module _ (G : Graph) (ends : Ends G) where
   unfolding pass₂
   visits₂ = made turned-rows (upto (G .n)) from-vertices (suc (G .n)) _ [] (λ q h. only-vertices q (rw among-reverse at h)) enough
 
+  -- the two together
   pub passes-made : TwoPasses G (row (G .sources) (G .targets)) (row (G .targets) (G .sources)) (pass₁ G) (pass₂ G)
   passes-made =
       record { next-rows = edge-rows (G .sources) (G .targets); back-rows = edge-rows (G .targets) (G .sources); first = visits₁; second = visits₂ }

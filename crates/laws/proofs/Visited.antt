@@ -115,6 +115,7 @@ module _ {next : ℕ → List ℕ} where
         ]
       ]
 
+  -- a traversal from one group visits what is downstream of it
   pub from-one : {x : ℕ} {seen : List ℕ} {f : Forest} → Visits next (x ∷ []) seen f → (t : ℕ) → among t (finished f) ≡ true → Leads next x t
   from-one {x} r t h = let (q, i, l) = from-todo r t h in subst (λ z. Leads next z t) (in-one q x i) l
 

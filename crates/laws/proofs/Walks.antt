@@ -20,6 +20,7 @@ use Rattle.laws.proofs.Lists.{among-append, in-cons, in-append}
 use Rattle.laws.proofs.Ranks.{before}
 use Rattle.laws.proofs.Forests.{Ranking, Fits, none, tree, entered, joinF, block-up, join-fits}
 
+-- a labelling over given children, as functions of places
 abbrev pub rankingOf : List (List ℕ) → Labelling → Ranking
 rankingOf children l = record { k = length children; child = childOf children; e = λ p. getD (l .e) p 0; m = λ p. getD (l .m) p 0 }
 
@@ -55,6 +56,7 @@ module _ {children : List (List ℕ)} {l : Labelling} (L : SoundLabelling childr
   grown (suc b) h n (left {q = q} {lo = lo} t w) =
       tree-left q lo n t (grown b (omega arith) (omega arith) (block q n)) (grown b (omega (arith, shorter q n)) (omega (arith, shorter q n)) w)
 
+  -- all ranks together
   pub forest : (f : Forest) × Fits (rankingOf children l) (nobodysChild children) f 0 (length children)
   forest = grown (length children) (omega arith) (omega arith) (L .roots)
 
@@ -69,10 +71,12 @@ module _ (children : List (List ℕ)) (l : Labelling) (at-rank : (p r : ℕ) →
       let back : getD (l .m) (getD (l .byRank) r 0) 0 - 1 ≡ lo = omega (arith, ap (λ q. getD (l .m) q 0) e) in
       left {q = r} {lo = lo} (rw e t) (rw back arrived)
 
+  -- a forest gives the walk over its roots
   pub fits-walk : {test : ℕ → Bool} {f : Forest} {lo hi : ℕ} → Fits (rankingOf children l) test f lo hi → LeftWalk l test hi lo
   fits-walk none = arrived
   fits-walk (tree {p = p} {lo = lo} {r = r} t h x y u v) = walk-on (fits-walk v) (one-tree p r lo (at-rank p r h y) t x)
 
+  -- and the walk below each of its groups
   pub fits-block :
       {test : ℕ → Bool} {f : Forest} {lo hi : ℕ} → Fits (rankingOf children l) test f lo hi
       → (q : ℕ) → among q (entered f) ≡ true → LeftWalk l (childOf children q) (getD (l .e) q 0 - 1) (getD (l .m) q 0 - 1)
