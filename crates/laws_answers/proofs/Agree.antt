@@ -8,6 +8,7 @@ use Rattle.lineage.specs.Walk.{Net, Walked, marked, follow, pick, tryWith, open
 use Rattle.laws.proofs.Lists.{here, there}
 use Rattle.laws_answers.specs.Walks.{_∈_}
 
+-- the nets have the same children, tests and marks on groups below k, and children stay there
 pub record Agree (N N' : Net) (k : ℕ) : Type 0 where
   pub within : (p q : ℕ) → p < k → q ∈ N .children p → q < k
   pub children : (p : ℕ) → p < k → N .children p ≡ N' .children p
@@ -24,6 +25,7 @@ pick-same false true l op op' h m rest rest' o e = e m
 pick-same false false l op op' h m rest rest' o e = λ i. follow (o i .found) (o i) (λ m'. e m' i)
 
 module _ (N N' : Net) (k : ℕ) (A : Agree N N' k) where
+  -- trying children, where both open groups below k alike
   pub try-same :
       (op op' : ℕ → List ℕ → Walked) → ((h : ℕ) (m : List ℕ) → h < k → op h m ≡ op' h m)
       → (cs : List ℕ) → ((h : ℕ) → h ∈ cs → h < k) → (m : List ℕ) → tryWith N op cs m ≡ tryWith N' op' cs m
@@ -35,6 +37,7 @@ module _ (N N' : Net) (k : ℕ) (A : Agree N N' k) where
       pick-same (N .yes h) (marked N m h || N .no h) (N .deciding h) op op' h m (λ m'. tryWith N op cs m') (λ m'. tryWith N' op' cs m') (o h m l) rest
       ∙ rw (A .yes h l, A .no h l, A .spot h l, A .deciding h l) refl
 
+  -- opening a group
   pub open-same : (L g : ℕ) (m : List ℕ) → g < k → openAt N L g m ≡ openAt N' L g m
   unfolding openAt
   open-same zero g m b = refl

@@ -26,19 +26,24 @@ module _ (G : Graph) (ends : Ends G) (orders : List (List ℕ)) (permuted : Ever
   abbrev built : Made (indexOf G orders)
   built = record { graph = G; ends = ends; orders = orders; permuted = permuted; yields = refl }
 
+  -- it is sound
   pub built-sound : Sound (indexOf G orders)
   built-sound = made-sound G ends orders permuted
 
+  -- its vertices are the graph's
   pub built-long : length (indexOf G orders .names) ≡ G .n
   built-long = made-long built
 
+  -- its paths down children are the graph's paths
   pub built-paths : (u v : ℕ) → u < G .n → v < G .n → Reaches G u v ↔ Down (indexOf G orders .children) (placeIn (indexOf G orders) u) (placeIn (indexOf G orders) v)
   built-paths u v bu bv = made-paths built u v (omega (arith, built-long)) (omega (arith, built-long))
 
+-- an order gives a labelling
 pub built-some : (G : Graph) (orders : List (List ℕ)) → 0 < length orders → 0 < length (indexOf G orders .labels)
 unfolding indexOf
 built-some G orders some = omega (arith, length-map orders (labelling (condense G .groups) (condense G .children)))
 
+-- orders among others give labellings among theirs
 pub built-more :
     (G : Graph) (orders₁ orders₂ : List (List ℕ)) → Every (λ o. Member o orders₂) orders₁
     → (l : Labelling) → Member l (indexOf G orders₁ .labels) → Member l (indexOf G orders₂ .labels)

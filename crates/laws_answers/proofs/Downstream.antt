@@ -18,12 +18,14 @@ use Rattle.laws.proofs.Rising.{Rises, rises-upto, rises-those}
 use Rattle.laws.proofs.Grouped.{place-low, leads-exactly}
 
 module _ (I : Index) where
+  -- the list rises
   pub list-rises : (u : ℕ) → Rises (downstream I u)
   unfolding downstream
   list-rises u = rises-those (isDownstream I u) (upto (length (I .names))) (rises-upto (length (I .names)))
 
   module _ (S : Sound I) (u : ℕ) (bu : u < length (I .names)) where
-    is-downstream : (v : ℕ) → (isDownstream I u v ≡ true) ↔ Down (I .children) (placeIn I u) (placeIn I v)
+    -- the test finds every path
+    pub is-downstream : (v : ℕ) → (isDownstream I u v ≡ true) ↔ Down (I .children) (placeIn I u) (placeIn I v)
     unfolding isDownstream
     is-downstream v = at (eqb u v) refl
       where
@@ -33,6 +35,7 @@ module _ (I : Index) where
         at true e = (λ h. rw (eqb-true u v e) stay, λ d. refl)
         at false e = leads-exactly (S .condensed) (placeIn I u) (placeIn I v) (place-low (S .condensed) u bu)
 
+    -- so the list holds the vertices below n to which a path leads
     pub in-list : (v : ℕ) → (among v (downstream I u) ≡ true) ↔ ((v < length (I .names)) × Down (I .children) (placeIn I u) (placeIn I v))
     unfolding downstream
     in-list v = (

@@ -13,14 +13,17 @@ use Rattle.lineage.specs.Question.{someLabelling, firstFrom, firstLabelling}
 use Rattle.laws.proofs.Tests.{or-left, or-right, or-cases, clash, is-false}
 use Rattle.laws_answers.specs.Answers.{Member, front, behind, First}
 
+-- where some labelling passes, there is one that does
 pub some-is : (p : Labelling → Bool) (ls : List Labelling) → someLabelling p ls ≡ true → (l : Labelling) × Member l ls × (p l ≡ true)
 some-is p [] h = absurd (false≢true h)
 some-is p (l ∷ ls) h = elim (or-cases (p l) _ h) [ inl e ↦ (l, front, e) | inr i ↦ let (l', m, e) = some-is p ls i in (l', behind m, e) ]
 
+-- one that passes is enough
 pub is-some : (p : Labelling → Bool) {l : Labelling} {ls : List Labelling} → Member l ls → p l ≡ true → someLabelling p ls ≡ true
 is-some p front e = or-left _ e
 is-some p (behind {b = b} m) e = or-right (p b) (is-some p m e)
 
+-- where each fails, none passes
 pub none-is : (p : Labelling → Bool) (ls : List Labelling) → ((l : Labelling) → Member l ls → p l ≡ false) → someLabelling p ls ≡ false
 none-is p ls none = is-false _ (λ h. let (l, m, e) = some-is p ls h in clash e (none l m))
 

@@ -20,15 +20,18 @@ abbrev pub painted : (ℕ → ℕ) → List ℕ → List ℕ → List ℕ
 painted spot [] m = m
 painted spot (g ∷ o) m = set (painted spot o m) (spot g) 1
 
+-- no mark lengthens them
 pub painted-long : (spot : ℕ → ℕ) (o m : List ℕ) → length (painted spot o m) ≡ length m
 painted-long spot [] m = refl
 painted-long spot (g ∷ o) m = length-set (painted spot o m) (spot g) 1 ∙ painted-long spot o m
 
+-- a mark more
 pub ones-set : (m : List ℕ) (i : ℕ) → i < length m → eqb (getD m i 0) 1 ≡ false → ones (set m i 1) ≡ suc (ones m)
 ones-set [] i h f = absurd (omega arith)
 ones-set (x ∷ xs) zero h f = rw f (omega arith)
 ones-set (x ∷ xs) (suc i) h f = omega (arith, ones-set xs i (omega arith) f)
 
+-- no mark is left where all bytes are 0
 pub ones-none : (n : ℕ) → ones (replicate n 0) ≡ 0
 ones-none zero = refl
 ones-none (suc n) = omega (arith, ones-none n)

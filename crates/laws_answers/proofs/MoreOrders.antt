@@ -81,6 +81,7 @@ module _ (I : Index) (ls₁ ls₂ : List Labelling) (up : (l : Labelling) → Me
           | no c ↦ omega arith
         ]
 
+    -- the two answers side by side
     pub rules-no-more : {a₁ a₂ : Answer} → Rule I₁ x t a₁ → Rule I₂ x t a₂ → NoMore a₁ a₂
     rules-no-more {a₁} {a₂} R₁ R₂ =
         let (o₁, O₁, M₁) = rule-opened I₁ S₁ x t bx R₁ in

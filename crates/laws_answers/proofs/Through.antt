@@ -11,6 +11,7 @@ use Rattle.laws.proofs.Lists.{here, there}
 use Rattle.laws_answers.specs.Walks.{_∈_, End, nowhere, Tries, over, hit, met, cut, finds, goes-on, Walks, Through, ends, goes}
 use Rattle.laws_answers.proofs.Tries.{each, Lower, Judges, Ready, keeps, closed-ready, walk-failed}
 
+-- the group where such a way starts passes
 pub passes : {children : ℕ → List ℕ} {no? : ℕ → Bool} {h g : ℕ} → Through children no? h g → no? h ≡ false
 passes (ends n) = n
 passes (goes n j w) = n
@@ -62,5 +63,6 @@ module _ {N : Net} {level : ℕ → ℕ} {k t : ℕ} (F : Lower N level k) (J : 
         let done : Ready F J (suc (level x)) o = closed-ready F J x [] o y w (walk-failed F J b w) (λ q i. absurd (false≢true i)) in
         through-opened o done b (omega arith) (keeps w x (here x [])) v
 
+    -- the two together
     pub opened-through : (g : ℕ) → (g ∈ o) ↔ Through (N .children) (N .no) x g
     opened-through g = (walk-only g, walk-all g)

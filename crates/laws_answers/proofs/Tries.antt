@@ -71,6 +71,7 @@ module _ {N : Net} {level : ℕ → ℕ} {k t : ℕ} (F : Lower N level k) (J : 
   abbrev pub Ready : ℕ → List ℕ → Type 0
   Ready L o = (g : ℕ) → g ∈ o → (L ≤ level g) ⊎ Done N t o g
 
+  -- the children of a group, and the rest of a list
   pub low-children : (h : ℕ) → h < k → Low (level h) (N .children h)
   low-children h b q i = (F .within h q b i, F .falls h q b i)
 
@@ -98,6 +99,7 @@ module _ {N : Net} {level : ℕ → ℕ} {k t : ℕ} (F : Lower N level k) (J : 
 
   -- h has been opened in vain: it is done with, and so is all that was opened under it
   module _ (h : ℕ) (o o₁ : List ℕ) (y : N .yes h ≡ false) (r : Tries N (N .children h) (h ∷ o) nowhere o₁) (R : Failed N t (N .children h) (h ∷ o) o₁) where
+    -- it does not lead to t
     pub closed-leads-not : Leads (N .children) h t → ⊥
     closed-leads-not l = elim (leads-cases l) [ inl e ↦ not-t h y e | inr s ↦ R .leads-not (s .0) (s .1) (s .2) ]
 
@@ -108,6 +110,7 @@ module _ {N : Net} {level : ℕ → ℕ} {k t : ℕ} (F : Lower N level k) (J : 
           | inr d ↦ inr d
         ]
 
+    -- and each opened group is on the way down, or done with, as before
     pub closed-ready : {L : ℕ} → Ready L o → Ready L o₁
     closed-ready a g i =
         elim (closed-fresh g i) [
@@ -121,6 +124,7 @@ module _ {N : Net} {level : ℕ → ℕ} {k t : ℕ} (F : Lower N level k) (J : 
       each (λ q. (level h ≤ level q) ⊎ Done N t (h ∷ o) q) h o (inl (omega arith))
       (λ q i. elim (a q i) [ inl c ↦ inl (omega arith) | inr d ↦ inr (grown (λ p u. there p h o u) d) ])
 
+  -- a child that is met again does not lead to t
   pub met-leads-not : {L : ℕ} (h : ℕ) (o : List ℕ) → level h < L → Ready L o → h ∈ o → Leads (N .children) h t → ⊥
   met-leads-not h o b a m l = elim (a h m) [ inl c ↦ omega arith | inr d ↦ d .leads-not l ]
 
@@ -158,11 +162,14 @@ module _ {N : Net} {level : ℕ → ℕ} {k t : ℕ} (F : Lower N level k) (J : 
   pub ready-first : (x : ℕ) → Ready (level x) (x ∷ [])
   ready-first x = each (λ q. (level x ≤ level q) ⊎ Done N t (x ∷ []) q) x [] (inl (omega arith)) (λ q i. absurd (false≢true i))
 
+  -- a walk that ends at a child is right
   pub walk-yes : {x g : ℕ} {o : List ℕ} → x < k → Walks N x (yes-at g) o → Leads (N .children) x t
   walk-yes {x} b w = let (q, i, p) = found-leads (low-children x b) w in step i p
 
+  -- a walk that ends nowhere has tried in vain
   pub walk-failed : {x : ℕ} {o : List ℕ} → x < k → Walks N x nowhere o → Failed N t (N .children x) (x ∷ []) o
   walk-failed {x} b w = failed (low-children x b) (ready-first x) w
 
+  -- and is right
   pub walk-no : {x : ℕ} {o : List ℕ} → x < k → N .yes x ≡ false → Walks N x nowhere o → Leads (N .children) x t → ⊥
   walk-no {x} {o} b y w = closed-leads-not x [] o y w (walk-failed b w)
