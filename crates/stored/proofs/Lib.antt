@@ -1,0 +1,5 @@
+-- The laws of the stored form.
+pub mod Checks
+pub mod Forms
+pub mod Checked
+pub mod Laid
