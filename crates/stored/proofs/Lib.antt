@@ -3,3 +3,5 @@ pub mod Checks
 pub mod Forms
 pub mod Checked
 pub mod Laid
+pub mod Stretches
+pub mod Held

@@ -63,17 +63,8 @@ fn counts_fit(form: usize, n: usize, k: usize, c: usize, d: usize) -> bool
     (n <= row.vertices) & ((k <= n) & ((c <= row.entries) & ((1 <= d) & (d <= MOST_LABELLINGS))))
 }
 
-// The bytes of so many numbers.
-fn bytes_of(width: usize, count: usize) -> usize
-    requires { ⌜ Width width ⌝ }
-    requires { ⌜ count ≤ 4000000 ⌝ }
-    ensures { λ r. ⌜ (r ≡ width * count) × (r ≤ 16000000) ⌝ }
-{
-    width * count
-}
-
 // The numbers of the labels: four for each group and labelling.
-fn label_count(k: usize, d: usize) -> usize
+pub fn label_count(k: usize, d: usize) -> usize
     requires { ⌜ (k ≤ 200000) × (d ≤ 5) ⌝ }
     ensures { λ r. ⌜ (r ≡ d * (4 * k)) × (r ≤ 4000000) ⌝ }
 {
@@ -87,12 +78,12 @@ pub fn lay_out(width: usize, n: usize, k: usize, c: usize, d: usize) -> Layout
     ensures { λ r. ⌜ r ≡ layoutBy width (counts n k c d) ⌝ }
 {
     let names = HEADER_LENGTH;
-    let groups = names + bytes_of(width, n);
-    let levels = groups + bytes_of(width, k);
-    let starts = levels + bytes_of(width, k);
-    let children = starts + bytes_of(width, k + 1);
-    let labels = children + bytes_of(width, c);
-    let total = labels + bytes_of(width, label_count(k, d));
+    let groups = names + numbers::bytes_of(width, n);
+    let levels = groups + numbers::bytes_of(width, k);
+    let starts = levels + numbers::bytes_of(width, k);
+    let children = starts + numbers::bytes_of(width, k + 1);
+    let labels = children + numbers::bytes_of(width, c);
+    let total = labels + numbers::bytes_of(width, label_count(k, d));
     Layout {
         width,
         n,
