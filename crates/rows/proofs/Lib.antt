@@ -8,3 +8,4 @@ pub mod Orders
 pub mod Laid
 pub mod Turned
 pub mod Turning
+pub mod Stripping
