@@ -9,3 +9,4 @@ pub mod Laid
 pub mod Turned
 pub mod Turning
 pub mod Stripping
+pub mod Stripped
