@@ -1,15 +1,17 @@
 -- Laid-out rows one after the other are the values: what holds of the values holds of the rows, and the other way round.
-use mathlib.Core.Path.{_≡_, refl, sym, ap, ap₂, _∙_}
-use mathlib.Core.List.{List, [], _∷_, _++_, map, append-nil, append-assoc}
+use mathlib.Core.Bool.{true}
+use mathlib.Core.Path.{_≡_, ap, _∙_}
+use mathlib.Core.List.{List, _++_}
 use Prim.Native.Nat.{ℕ, zero, suc, _+_, _-_, _≤_, _<_}
 use native.Mathlib.Decide.{decLt, le-ind}
 use native.Mathlib.Omega.{arith}
 use lib.ListN.{length, getD, take, drop, length-append, List·getD-append}
 use lib.Seq.{getD-append-add, take-add, take-all}
-use Rattle.lineage.specs.Lists.{upto, joined, part}
+use Rattle.lineage.specs.Lists.{among, position, part}
 use Rattle.lineage.specs.Stored.{rowAt}
+use Rattle.laws.proofs.Lists.{position-low, at-position, in-getD}
 use Rattle.numbers.proofs.Regions.{part-at, part-length}
-use Rattle.rows.specs.Rows.{Below, Laid}
+use Rattle.rows.specs.Rows.{Below, Laid, Rows}
 
 -- a list of two parts
 pub below-append : (n : ℕ) (a b : List ℕ) → Below n a → Below n b → Below n (a ++ b)
@@ -51,3 +53,14 @@ module _ {starts values : List ℕ} {n : ℕ} (laid : Laid starts values n) wher
       upTo : (x : ℕ) → x ≤ n → Below b (take (getD starts x 0) values)
       upTo zero h = rw (laid .first) (λ i l. absurd (omega arith))
       upTo (suc x) h = rw (take-row x h) (below-append b (take (getD starts x 0) values) (rowAt starts values x) (upTo x (omega arith)) (low x h))
+
+-- a number of a list of numbers below n
+pub below-in : (n : ℕ) (xs : List ℕ) → Below n xs → (v : ℕ) → among v xs ≡ true → v < n
+below-in n xs low v h = rw (at-position v xs h) at (low (position v xs) (position-low v xs h))
+
+pub in-below : (n : ℕ) (xs : List ℕ) → ((v : ℕ) → among v xs ≡ true → v < n) → Below n xs
+in-below n xs low i h = low (getD xs i 0) (in-getD xs i h)
+
+-- the values of rows whose numbers are below b
+pub values-below : {starts values : List ℕ} {n : ℕ} {row : ℕ → List ℕ} → Rows starts values n row → (b : ℕ) → ((x v : ℕ) → x < n → among v (row x) ≡ true → v < b) → Below b values
+values-below {row = row} r b low = rows-below (r .laid) b (λ x h. rw (r .row-is x h) (in-below b (row x) (λ v i. low x v h i)))

@@ -10,3 +10,5 @@ pub mod Turned
 pub mod Turning
 pub mod Stripping
 pub mod Stripped
+pub mod Contents
+pub mod Singles
