@@ -1,0 +1,6 @@
+-- The laws of the traversal.
+pub mod Machine
+pub mod Frames
+pub mod Tasks
+pub mod Going
+pub mod Ended
