@@ -8,7 +8,7 @@ pub mod Orders
 pub mod Laid
 pub mod Turned
 pub mod Turning
-pub mod Stripping
-pub mod Stripped
 pub mod Contents
 pub mod Singles
+pub mod Stripping
+pub mod Stripped

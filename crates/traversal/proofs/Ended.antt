@@ -1,45 +1,22 @@
--- The traversal at its end: no task is left, so what is out is what lineage's `traverse` finishes, with its lows. It is deep enough, since no row leads out of 0, .. , n - 1.
-use mathlib.Core.Bool.{true}
-use mathlib.Core.Path.{_≡_, refl, sym, ap, _∙_, subst}
-use mathlib.Core.List.{List, [], _∷_, _++_}
-use Prim.Native.Nat.{ℕ, suc, _+_, _-_, _*_, _≤_, _<_}
+-- The traversal at its end: no task is left, so what is out is what lineage's `traverse` finishes, with its lows.
+use mathlib.Core.Path.{_≡_, sym, ap, _∙_, subst}
+use mathlib.Core.List.{List, []}
+use Prim.Native.Nat.{ℕ, suc, _+_, _*_, _≤_}
 use native.Mathlib.Omega.{arith}
-use lib.ListN.{length, getD, take, drop, replicate, length-take, length-drop}
-use lib.Seq.{getD-take, getD-drop}
-use Rattle.lineage.specs.Lists.{among, upto, part}
+use lib.ListN.{replicate}
+use Rattle.lineage.specs.Lists.{part}
 use Rattle.lineage.specs.Stored.{rowAt}
-use Rattle.lineage.specs.Labels.{Forest, traverse, finished}
-use Rattle.laws.specs.Visits.{Visits}
-use Rattle.laws.proofs.Lists.{in-upto, length-upto}
-use Rattle.laws.proofs.Traversal.{made, unseen-none}
+use Rattle.lineage.specs.Labels.{traverse}
 use Rattle.numbers.specs.Regions.{Kept}
 use Rattle.numbers.proofs.Regions.{kept-then, kept-wider}
-use Rattle.rows.specs.Rows.{Below}
 use Rattle.rows.proofs.Regions.{kept-apart, outside-kept}
 use Rattle.rows.proofs.Laid.{below-in}
-use Rattle.traversal.specs.Lows.{lows, Traversed}
+use Rattle.traversal.specs.Lows.{Traversed}
 use Rattle.traversal.specs.Fit.{TraverseFit}
-use Rattle.traversal.proofs.Machine.{State, Runs, nothing, tries, run-end}
+use Rattle.traversal.proofs.Reach.{rows-low, traverse-visits}
+use Rattle.traversal.proofs.Machine.{Runs, nothing, tries, run-end}
 use Rattle.traversal.proofs.Tasks.{tasks, under, tasks-over}
 use Rattle.traversal.proofs.Going.{Going, stateOf, held}
-
--- a part of numbers below n
-part-below : (n : ℕ) (xs : List ℕ) (a b : ℕ) → Below n xs → Below n (part xs a b)
-unfolding part
-part-below n xs a b low i h =
-    let l : i < b = omega (arith, length-take b (drop a xs)) in
-    rw (getD-take b (drop a xs) i 0 l, getD-drop a xs i 0) (low (a + i) (omega (arith, length-take b (drop a xs), length-drop a xs)))
-
-module _ (starts values roots : List ℕ) (n : ℕ) (values-low : Below n values) (roots-low : Below n roots) where
-  next-low : (p q : ℕ) → among q (rowAt starts values p) ≡ true → q < n
-  unfolding rowAt
-  next-low p q i = below-in n (rowAt starts values p) (part-below n values (getD starts p 0) (getD starts (suc p) 0 - getD starts p 0) values-low) q i
-
-  -- `traverse` goes deep enough
-  pub traverse-visits : Visits (rowAt starts values) roots [] (traverse (rowAt starts values) (suc n) roots [])
-  traverse-visits =
-      made (rowAt starts values) (upto n) (λ p q i. in-upto n q (next-low p q i)) (suc n) roots [] (λ q i. in-upto n q (below-in n roots roots-low q i))
-      (omega (arith, unseen-none (upto n), length-upto n))
 
 module _ {w₀ w : List ℕ} {starts values c roots q n base d k e at end : ℕ} (fit : TraverseFit w₀ starts values c roots q n base) (g : Going w₀ w starts values c roots q n base d k e at end) where
   run-through : d ≡ 0 → end ≤ e → Runs (rowAt (part w₀ starts (n + 1)) (part w₀ values c)) (tries (part w₀ roots q)) (record { marks = part w₀ base n; out = []; low = [] }) (stateOf w base n k)
@@ -55,10 +32,9 @@ module _ {w₀ w : List ℕ} {starts values c roots q n base d k e at end : ℕ}
       part w₀ base n ≡ replicate n 0 → d ≡ 0 → end ≤ e
       → Kept w₀ w base (6 * n) × Traversed (traverse (rowAt (part w₀ starts (n + 1)) (part w₀ values c)) (suc n) (part w₀ roots q) []) w base n k
   ended clear z h =
-      let s =
-      run-end (next-low (part w₀ starts (n + 1)) (part w₀ values c) (part w₀ roots q) n (fit .values-low) (fit .roots-low))
-      (traverse-visits (part w₀ starts (n + 1)) (part w₀ values c) (part w₀ roots q) n (fit .values-low) (fit .roots-low))
-      (below-in n (part w₀ roots q) (fit .roots-low)) clear (run-through z h) in
+      let next-low = rows-low (part w₀ starts (n + 1)) (part w₀ values c) (fit .values-low) in
+      let roots-low = below-in n (part w₀ roots q) (fit .roots-low) in
+      let s = run-end next-low (traverse-visits n (part w₀ roots q) next-low roots-low) roots-low clear (run-through z h) in
       (g .kept, record { most = omega (arith, held fit g); out = ap (λ t. t .out) s; low = ap (λ t. t .low) s })
 
 -- what is lent still fits once the marks are cleared, and is what it was

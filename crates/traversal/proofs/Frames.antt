@@ -2,12 +2,11 @@
 use mathlib.Core.Path.{_≡_, refl, ap, ap₂, _∙_}
 use mathlib.Core.List.{List, [], _∷_, _++_}
 use Prim.Native.Nat.{ℕ, zero, suc, _+_, _*_, _-_, _≤_, _<_}
-use native.Mathlib.Numerals.{add-one}
 use native.Mathlib.Omega.{arith}
 use lib.ListN.{length, getD, set, length-set}
 use Rattle.lineage.specs.Lists.{part}
 use Rattle.numbers.specs.Regions.{Kept}
-use Rattle.numbers.proofs.Regions.{part-length, part-at, part-set, part-over, part-under, kept-set, kept-then}
+use Rattle.numbers.proofs.Regions.{part-at, part-set, part-over, part-under, kept-set, kept-then}
 use Rattle.rows.proofs.Regions.{part-more}
 use Rattle.traversal.specs.Frames.{opened, closed, rowPlace, rowEnd}
 

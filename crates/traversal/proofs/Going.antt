@@ -1,26 +1,26 @@
 -- The traversal on its way. Whatever the machine comes to from the tasks of the stack, it comes to from the roots: each turn is one step of the machine. Depth, what
 -- is out and what is unseen never come to more than n, so every region has room.
 use mathlib.Core.Path.{_≡_, refl, sym, ap, _∙_, subst, subst₂}
-use mathlib.Core.List.{List, [], _∷_, _++_, append-nil}
+use mathlib.Core.List.{List, [], _∷_, _++_}
 use Prim.Native.Nat.{ℕ, zero, suc, _+_, _*_, _-_, _^_, _≤_, _<_}
 use native.Mathlib.Decide.{ℕ-discrete}
 use native.Mathlib.Nat.{mul-le-mul-right}
 use native.Mathlib.Numerals.{add-one}
 use native.Mathlib.Omega.{arith}
-use lib.ListN.{length, getD, set, replicate, length-set}
+use lib.ListN.{length, getD, set}
 use lib.Seq.{getD-set-same, getD-set-other}
 use Rattle.lineage.specs.Lists.{part}
 use Rattle.lineage.specs.Stored.{rowAt}
 use Rattle.numbers.specs.Regions.{Kept}
 use Rattle.numbers.proofs.Regions.{part-length, part-at, kept-same, kept-then}
-use Rattle.rows.specs.Rows.{Below, Laid}
+use Rattle.rows.specs.Rows.{Below}
 use Rattle.rows.proofs.Regions.{kept-apart, read-at}
 use Rattle.rows.proofs.Laid.{start-low}
 use Rattle.traversal.specs.Frames.{opened, closed, rowPlace, rowEnd}
 use Rattle.traversal.specs.Fit.{TraverseFit}
-use Rattle.traversal.proofs.Machine.{Task, try, finish, State, Runs, nothing, pass, go-in, go-out, tries}
+use Rattle.traversal.proofs.Machine.{try, finish, State, Runs, pass, go-in, go-out, tries}
 use Rattle.traversal.proofs.Frames.{opened-kept, opened-marks, opened-stack, opened-back, opened-entry, opened-over, closed-kept, closed-under, closed-out, closed-low}
-use Rattle.traversal.proofs.Tasks.{rowList, end-same, under, tasks, tasks-first, tasks-more, tasks-next, tasks-over}
+use Rattle.traversal.proofs.Tasks.{rowList, under, tasks, tasks-first, tasks-more, tasks-next, tasks-over}
 
 -- how many marks are 0
 abbrev pub fresh : List ℕ → ℕ
