@@ -1,26 +1,25 @@
 -- From pass to pass. The sequence lies between the two areas, and each pass reads one area and writes the other, so the sequence and the table of places are as
 -- they were, and each pass finds what the one before laid out.
-use mathlib.Core.Bool.{true}
 use mathlib.Core.Path.{_≡_, sym, ap, _∙_, subst}
 use mathlib.Core.List.{List}
-use Prim.Native.Nat.{ℕ, _+_, _*_, _^_, _≤_, _<_}
+use Prim.Native.Nat.{ℕ, _+_, _≤_}
 use native.Mathlib.Omega.{arith}
 use lib.ListN.{length}
-use Rattle.lineage.specs.Lists.{upto, among, those, part}
+use Rattle.lineage.specs.Lists.{upto, part}
 use Rattle.lineage.specs.Graph.{Graph, isChild}
 use Rattle.lineage.specs.Stored.{rowAt}
 use Rattle.laws.specs.Passes.{row}
-use Rattle.laws.proofs.Lists.{those-pass, upto-low}
 use Rattle.numbers.specs.Regions.{Kept}
 use Rattle.numbers.proofs.Regions.{part-length, kept-then, kept-wider}
-use Rattle.rows.specs.Regions.{Apart, under, over, Outside}
+use Rattle.rows.specs.Regions.{under, over}
 use Rattle.rows.specs.Rows.{Below, Rows, mapped, turnedRow, singles, strippedRow}
 use Rattle.rows.specs.Fit.{PairsFit, RowsFit, TurnFit}
 use Rattle.rows.proofs.Regions.{kept-apart, apart-within}
 use Rattle.rows.proofs.Laid.{values-below}
 use Rattle.children.specs.Places.{childPlaces}
 use Rattle.children.specs.Window.{sequenceAt, childrenAt, windowSize, ChildrenFit, ChildrenAt, ParentsAt, ChildrenFound}
-use Rattle.children.proofs.Rows.{upto-order, rows-same, rows-turned}
+use Rattle.children.proofs.Rows.{upto-order, rows-same, rows-turned, those-below}
+use Rattle.children.proofs.Ends.{sources-below, targets-below}
 use Rattle.children.proofs.Places.{comingFrom, coming-low, stripped-children, turned-parents}
 
 -- passes have written in the window, and the sequence is there
@@ -41,9 +40,12 @@ above-sequence {base = base} {k} {e} s K = record {
   sequence = K .below (sequenceAt base k e) k (omega arith) ∙ s .sequence;
 }
 
-module _ {sources targets w₀ : List ℕ} {place n k base : ℕ} (fit : ChildrenFit sources targets w₀ place n k base) where
+module _ {G : Graph} {w₀ : List ℕ} {place k base : ℕ} (fit : ChildrenFit G w₀ place k base) where
+  abbrev n : ℕ
+  n = G .n
+
   abbrev e : ℕ
-  e = length sources
+  e = length (G .sources)
 
   abbrev sequence : ℕ
   sequence = sequenceAt base k e
@@ -51,12 +53,10 @@ module _ {sources targets w₀ : List ℕ} {place n k base : ℕ} (fit : Childre
   abbrev starts : ℕ
   starts = childrenAt base k e
 
-  abbrev G : Graph
-  G = record { n = n; sources = sources; targets = targets }
-
   abbrev P : List ℕ
   P = part w₀ place n
 
+  -- the window lies in the buffer, and the table of places is as it was
   long : {w : List ℕ} → Sequenced w₀ w base k e → base + windowSize k e ≤ length w
   long s = omega (arith, fit .room, s .kept .long)
 
@@ -66,7 +66,7 @@ module _ {sources targets w₀ : List ℕ} {place n k base : ℕ} (fit : Childre
   -- rows in the children's area can be turned
   turn-fits :
       {w : List ℕ} (c : ℕ) {row : ℕ → List ℕ} → Sequenced w₀ w base k e → c ≤ e → ChildrenAt w base k e c row
-      → ((x v : ℕ) → x < k → among v (row x) ≡ true → v < k) → TurnFit w starts (starts + k + 1) c k sequence base
+      → Below k (part w (starts + k + 1) c) → TurnFit w starts (starts + k + 1) c k sequence base
   turn-fits c s h r low = record {
     rows-fit = record {
       values-fit = record {
@@ -77,7 +77,7 @@ module _ {sources targets w₀ : List ℕ} {place n k base : ℕ} (fit : Childre
       starts-there = record { fits = omega (arith, long s); apart = over (omega arith) };
       laid = r .laid;
     };
-    values-low = values-below r k low;
+    values-low = low;
     sequence-there = record { fits = omega (arith, long s); apart = over (omega arith) };
     order = rw (s .sequence) (upto-order k);
   }
@@ -87,39 +87,39 @@ module _ {sources targets w₀ : List ℕ} {place n k base : ℕ} (fit : Childre
     sequenced₁ : Sequenced w₀ w₁ base k e
     sequenced₁ = record { kept = kept-wider base (windowSize k e) (omega arith) (omega arith) counting; sequence = counted }
 
-    pub edges-fit : PairsFit targets sources w₁ place n k starts
+    pub edges-fit : PairsFit (G .targets) (G .sources) w₁ place n k starts
     edges-fit = record {
       keys-fit = record {
-        keys-low = fit .targets-low;
+        keys-low = targets-below G (fit .ends);
         table-there = record {
           fits = omega (arith, fit .place-there .fits, counting .long);
-          apart = apart-within starts (k + 1 + length targets) (omega arith) (omega (arith, fit .paired)) (fit .place-there .apart);
+          apart = apart-within starts (k + 1 + length (G .targets)) (omega arith) (omega (arith, fit .ends .paired)) (fit .place-there .apart);
         };
         table-low = rw (place-same sequenced₁) (fit .place-low);
-        room = omega (arith, long sequenced₁, fit .paired);
-        few = omega (arith, fit .few-edges, fit .paired);
+        room = omega (arith, long sequenced₁, fit .ends .paired);
+        few = omega (arith, fit .few-edges, fit .ends .paired);
       };
-      paired = fit .paired;
-      values-low = fit .sources-low;
+      paired = fit .ends .paired;
+      values-low = sources-below G (fit .ends);
     }
 
     -- the edges are laid out by target
     module _
-        {w₂ : List ℕ} (laying : Kept w₁ w₂ starts (k + 1 + length targets))
-        (edges : Rows (part w₂ starts (k + 1)) (part w₂ (starts + k + 1) (length targets)) k (row (mapped (part w₁ place n) targets) (mapped (part w₁ place n) sources)))
+        {w₂ : List ℕ} (laying : Kept w₁ w₂ starts (k + 1 + length (G .targets)))
+        (edges : Rows (part w₂ starts (k + 1)) (part w₂ (starts + k + 1) (length (G .targets))) k (row (mapped (part w₁ place n) (G .targets)) (mapped (part w₁ place n) (G .sources))))
       where
         sequenced₂ : Sequenced w₀ w₂ base k e
-        sequenced₂ = above-sequence sequenced₁ (subst (λ m. Kept w₁ w₂ starts (k + 1 + m)) (sym (fit .paired)) laying)
+        sequenced₂ = above-sequence sequenced₁ (subst (λ m. Kept w₁ w₂ starts (k + 1 + m)) (sym (fit .ends .paired)) laying)
 
         edges-are : ChildrenAt w₂ base k e e (comingFrom G P)
         edges-are =
-            subst (λ m. Rows (part w₂ starts (k + 1)) (part w₂ (starts + k + 1) m) k (comingFrom G P)) (sym (fit .paired))
-            (subst (λ z. Rows (part w₂ starts (k + 1)) (part w₂ (starts + k + 1) (length targets)) k (comingFrom G z)) (place-same sequenced₁) edges)
+            subst (λ m. Rows (part w₂ starts (k + 1)) (part w₂ (starts + k + 1) m) k (comingFrom G P)) (sym (fit .ends .paired))
+            (subst (λ z. Rows (part w₂ starts (k + 1)) (part w₂ (starts + k + 1) (length (G .targets))) k (comingFrom G z)) (place-same sequenced₁) edges)
 
         pub edges-turn : TurnFit w₂ starts (starts + k + 1) e k sequence base
         edges-turn =
             turn-fits e sequenced₂ (omega arith) edges-are
-            (λ q p h i. coming-low G P k (rw (part-length w₀ place n (fit .place-there .fits)) (fit .sources-low)) (fit .place-low) q p i)
+            (values-below edges-are k (λ q p h i. coming-low G P k (rw (part-length w₀ place n (fit .place-there .fits)) (sources-below G (fit .ends))) (fit .place-low) q p i))
 
         -- and turned
         module _
@@ -155,7 +155,7 @@ module _ {sources targets w₀ : List ℕ} {place n k base : ℕ} (fit : Childre
                 children-are = rows-same stripped (λ p h. ap (singles p p) (turned-are .row-is p h) ∙ stripped-children G P k p)
 
                 pub children-turn : TurnFit w₄ starts (starts + k + 1) c k sequence base
-                children-turn = turn-fits c sequenced₄ few children-are (λ p q h i. upto-low k q (those-pass (isChild G P p) q (upto k) i .1))
+                children-turn = turn-fits c sequenced₄ few children-are (those-below (isChild G P) (upto k) (upto-order k) children-are)
 
                 -- and turned again
                 pub found :

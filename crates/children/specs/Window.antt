@@ -5,13 +5,13 @@ use mathlib.Core.List.{List}
 use Prim.Native.Nat.{ℕ, _+_, _*_, _^_, _≤_, _<_}
 use lib.ListN.{length}
 use Rattle.lineage.specs.Lists.{upto, part}
-use Rattle.lineage.specs.Graph.{Graph}
+use Rattle.lineage.specs.Graph.{Graph, Ends}
 use Rattle.numbers.specs.Regions.{Kept}
 use Rattle.rows.specs.Regions.{Outside}
 use Rattle.rows.specs.Rows.{Below, Rows}
 use Rattle.children.specs.Places.{childPlaces, parentPlaces}
 
--- where the sequence lies, where the children's starts, and how many words there are
+-- where the sequence lies, where the children start, and how many words there are in all
 abbrev pub sequenceAt : ℕ → ℕ → ℕ → ℕ
 sequenceAt base k e = base + k + 1 + e
 
@@ -21,15 +21,13 @@ childrenAt base k e = sequenceAt base k e + k
 abbrev pub windowSize : ℕ → ℕ → ℕ
 windowSize k e = 3 * k + 2 + 2 * e
 
--- edges between n vertices; for each vertex a place below k, outside the window; and the window lies in the buffer
-pub record ChildrenFit (sources targets w : List ℕ) (place n k base : ℕ) : Type 0 where
-  pub paired : length sources ≡ length targets
-  pub sources-low : Below n sources
-  pub targets-low : Below n targets
-  pub place-there : Outside w place n base (windowSize k (length sources))
-  pub place-low : Below k (part w place n)
-  pub room : base + windowSize k (length sources) ≤ length w
-  pub few-edges : length sources < 2 ^ 32
+-- edges between vertices; for each vertex a place below k, outside the window; and the window lies in the buffer
+pub record ChildrenFit (G : Graph) (w : List ℕ) (place k base : ℕ) : Type 0 where
+  pub ends : Ends G
+  pub place-there : Outside w place (G .n) base (windowSize k (length (G .sources)))
+  pub place-low : Below k (part w place (G .n))
+  pub room : base + windowSize k (length (G .sources)) ≤ length w
+  pub few-edges : length (G .sources) < 2 ^ 32
   pub few-groups : k ≤ 2 ^ 32
 
 -- the rows of children, c in all, in a window for e edges
@@ -40,7 +38,7 @@ ChildrenAt w base k e c row = Rows (part w (childrenAt base k e) (k + 1)) (part 
 abbrev pub ParentsAt : List ℕ → ℕ → ℕ → ℕ → (ℕ → List ℕ) → Type 0
 ParentsAt w base k c row = Rows (part w base (k + 1)) (part w (base + k + 1) c) k row
 
--- what lies in the window in the end
+-- what the pass leaves: nothing but the window differs, and in it lie the sequence, the children and the parents, c in all
 pub record ChildrenFound (G : Graph) (w w' : List ℕ) (place k base c : ℕ) : Type 0 where
   pub kept : Kept w w' base (windowSize k (length (G .sources)))
   pub few : c ≤ length (G .sources)

@@ -1,8 +1,9 @@
 // The children of every group, and its parents, laid out in work memory.
 ghost use Rattle.children.specs.Window.{ChildrenFit, ChildrenFound};
 
-// Lays out the children and the parents of each of k groups, told by their places, and returns how many children there are in all. Edges by target give for each group the
-// places that its edges come from; turned, for each group the places that its edges lead to, rising; stripped, its children; and turned again, its parents.
+// Lays out the children and the parents of each of k groups, told by their places, and returns how many children there are in all. The edges laid out by
+// target give for each group the places that its edges come from; turned, the places that its edges lead to, rising, repeats side by side; stripped, its
+// children; and turned again, its parents.
 pub fn children(
     sources: &[u32],
     targets: &[u32],
@@ -12,7 +13,7 @@ pub fn children(
     k: usize,
     base: usize,
 ) -> usize
-    requires { ⌜ ChildrenFit (now sources) (now targets) (now w) place n k base ⌝ }
+    requires { ⌜ ChildrenFit (record { n = n; sources = now sources; targets = now targets }) (now w) place k base ⌝ }
     ensures { λ c. ⌜ ChildrenFound (record { n = n; sources = now (sources .entry); targets = now (targets .entry) }) (now (w .entry)) (now (w .exit)) place k base c ⌝ }
 {
     let e = sources.len();
