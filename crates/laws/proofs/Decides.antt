@@ -18,7 +18,7 @@ use Rattle.lineage.specs.Sound.{childOf, walkEnds, labelsPass, namesPass, group
 use Rattle.laws.specs.Sound.{LeftWalk, arrived, left, SoundLabelling, SoundGroups, Sound}
 use Rattle.laws.proofs.Tests.{and-both, and-left, and-right}
 use Rattle.laws.proofs.Lists.{in-getD, position-low, at-position}
-use Rattle.laws.proofs.Inverse.{e-high}
+use Rattle.laws.proofs.Inverse.{rank-most}
 
 -- the test is true exactly where the fact holds
 abbrev pub Decides : Bool → Type 0 → Type 0
@@ -147,7 +147,7 @@ module _ (children : List (List ℕ)) (l : Labelling) where
   shorter R M q h = omega (arith, R q h, M (at q) (R q h .0))
 
   high : (length (l .s) ≡ k) × ((length (l .m) ≡ k) × ((length (l .e) ≡ k) × (length (l .byRank) ≡ k))) → Ranks → (p : ℕ) → p < k → e p - 1 ≤ k
-  high sizes R p h = omega (arith, e-high k (l .byRank) e (sizes .1 .1 .1) (λ r i. R r i .0) (λ r i. R r i .1) p h)
+  high sizes R p h = omega (arith, rank-most k (l .byRank) e (sizes .1 .1 .1) (λ r i. R r i .0) (λ r i. R r i .1) p h)
 
   fields : Decides (labelsPass children l) Fields
   unfolding labelsPass

@@ -11,7 +11,7 @@ use lib.Dec.{eqb}
 use lib.ListN.{length, getD, length-append, length-map, List·getD-append}
 use lib.Seq.{getD-at, ext-getD}
 use borrow.Author.Tests.{eqb-true, eq-eqb}
-use Rattle.lineage.specs.Lists.{least, greatest, among, those, upto, position}
+use Rattle.lineage.specs.Lists.{any, least, greatest, among, those, upto, position}
 use Rattle.laws.proofs.Tests.{or-left, or-right, or-cases, clash, or-false-left, or-false-right}
 
 pub among-append : (x : ℕ) (a b : List ℕ) → among x (a ++ b) ≡ (among x a || among x b)
@@ -24,6 +24,13 @@ here x xs = or-left _ (eq-eqb x x refl)
 
 pub there : (x y : ℕ) (xs : List ℕ) → among x xs ≡ true → among x (y ∷ xs) ≡ true
 there x y xs h = or-right (eqb x y) h
+
+-- a member of a list is its head or in its tail
+pub in-cons : (x y : ℕ) (xs : List ℕ) → among x (y ∷ xs) ≡ true → (x ≡ y) ⊎ (among x xs ≡ true)
+in-cons x y xs h = elim (or-cases (eqb x y) _ h) [ inl e ↦ inl (eqb-true x y e) | inr i ↦ inr i ]
+
+pub in-one : (x y : ℕ) → among x (y ∷ []) ≡ true → x ≡ y
+in-one x y h = elim (in-cons x y [] h) [ inl e ↦ e | inr i ↦ absurd (false≢true i) ]
 
 pub in-left : (x : ℕ) (a b : List ℕ) → among x a ≡ true → among x (a ++ b) ≡ true
 in-left x a b h = rw (among-append x a b) (or-left _ h)
@@ -102,6 +109,20 @@ those-split p (x ∷ xs) = at (p x) refl (those-split p xs)
     at : (t : Bool) → p x ≡ t → length (those p xs) + length (those (λ y. not (p y)) xs) ≡ length xs → length (those p (x ∷ xs)) + length (those (λ y. not (p y)) (x ∷ xs)) ≡ suc (length xs)
     at true e ih = rw (those-yes p x xs e, those-no (λ y. not (p y)) x xs (ap not e)) (omega arith)
     at false e ih = rw (those-no p x xs e, those-yes (λ y. not (p y)) x xs (ap not e)) (omega arith)
+
+-- some member passes
+pub any-in : (p : ℕ → Bool) (x : ℕ) (xs : List ℕ) → among x xs ≡ true → p x ≡ true → any p xs ≡ true
+any-in p x [] i t = i
+any-in p x (y ∷ xs) i t =
+    elim (or-cases (eqb x y) _ i) [ inl e ↦ or-left _ (rw (eqb-true x y e) at t) | inr j ↦ or-right (p y) (any-in p x xs j t) ]
+
+pub in-any : (p : ℕ → Bool) (xs : List ℕ) → any p xs ≡ true → (x : ℕ) × (among x xs ≡ true) × (p x ≡ true)
+in-any p [] h = absurd (false≢true h)
+in-any p (y ∷ xs) h =
+    elim (or-cases (p y) _ h) [
+      | inl t ↦ (y, here y xs, t)
+      | inr j ↦ let (x, i, t) = in-any p xs j in (x, there x y xs i, t)
+    ]
 
 -- the numbers below n
 pub in-upto : (n v : ℕ) → v < n → among v (upto n) ≡ true
@@ -235,3 +256,8 @@ greatest-at f q (x ∷ xs) i =
       | inl e ↦ omega (arith, ap f (eqb-true q x e))
       | inr j ↦ omega (arith, greatest-at f q xs j)
     ]
+
+pub greatest-in : (xs : List ℕ) (i : ℕ) → i < length xs → getD xs i 0 ≤ greatest xs
+greatest-in [] i h = absurd (not-suc-le-zero h)
+greatest-in (x ∷ xs) zero h = omega arith
+greatest-in (x ∷ xs) (suc i) h = omega (arith, greatest-in xs i (omega arith))
