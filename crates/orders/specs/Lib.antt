@@ -1,0 +1,2 @@
+-- What the contracts of this crate say of build's input.
+pub mod Input
