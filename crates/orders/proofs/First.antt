@@ -82,3 +82,6 @@ module _ {p : ℕ → Bool} where
   -- none of the n passes
   pub none-all : {i : ℕ} (n : ℕ) → NoneBelow p i → n ≤ i → i ≤ n → i ≡ firstOf p (upto n) n
   none-all {i} n s h k = let e : i ≡ n = omega arith in e ∙ sym (first-none p n n (λ j l. s .none j (omega arith)))
+
+  pub none-not-any : {i : ℕ} (n : ℕ) → NoneBelow p i → n ≤ i → false ≡ any p (upto n)
+  none-not-any n s h = sym (is-false (any p (upto n)) (λ t. let (x, i, y) = in-any p (upto n) t in clash y (s .none x (omega (arith, upto-low n x i)))))

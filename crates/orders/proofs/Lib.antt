@@ -1,3 +1,5 @@
 -- The laws of this crate's passes.
 pub mod First
 pub mod Edges
+pub mod Stamping
+pub mod Permutations
