@@ -3,3 +3,4 @@ pub mod First
 pub mod Edges
 pub mod Stamping
 pub mod Permutations
+pub mod Ranking

@@ -18,7 +18,7 @@ use Rattle.rows.proofs.Regions.{kept-more}
 use Rattle.orders.specs.Stamped.{Stamped, lacks}
 
 -- one number more of a part
-part-snoc : (s : List ℕ) (at j : ℕ) → at + j < length s → part s at (j + 1) ≡ part s at j ++ (getD s (at + j) 0 ∷ [])
+pub part-snoc : (s : List ℕ) (at j : ℕ) → at + j < length s → part s at (j + 1) ≡ part s at j ++ (getD s (at + j) 0 ∷ [])
 unfolding part
 part-snoc s at j h = rw (add-one j, take-suc (drop at s) j 0 (omega (arith, length-drop at s)), getD-drop at s j 0)
 

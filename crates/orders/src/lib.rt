@@ -3,10 +3,13 @@ ghost use mathlib.Core.Path.{_≡_};
 ghost use Prim.Native.Nat.{_+_, _*_, _^_, _≤_, _<_};
 ghost use lib.ListN.{length};
 ghost use Rattle.lineage.specs.Lists.{upto, any, firstOf, part};
+ghost use Rattle.lineage.specs.Graph.{groupList};
+ghost use Rattle.lineage.specs.Labels.{inOrder};
 ghost use Rattle.lineage.specs.Calls.{badEdge, badOrder};
 ghost use Rattle.numbers.specs.Regions.{Kept};
 ghost use Rattle.orders.specs.Input.{graphOf};
 ghost use Rattle.orders.specs.Stamped.{Stamped, lacks};
+ghost use Rattle.orders.specs.Fit.{RankedFit};
 
 // The first edge with an end that is n or more; where there is none, the number of edges.
 pub fn bad_edge(n: usize, sources: &[u32], targets: &[u32]) -> usize
@@ -78,4 +81,33 @@ pub fn bad_order(orders: &[u32], d: usize, n: usize, w: &mut [u32], base: usize)
         i += 1;
     }
     i
+}
+
+// The places of all groups as their names stand in the order at `at`; returns how many they are.
+pub fn ranked(
+    orders: &[u32],
+    at: usize,
+    n: usize,
+    w: &mut [u32],
+    names: usize,
+    place: usize,
+    base: usize,
+) -> usize
+    requires { ⌜ RankedFit (now orders) (now w) at n names place base ⌝ }
+    ensures { λ _. ⌜ Kept (now (w .entry)) (now (w .exit)) base n ⌝ }
+    ensures { λ r. ⌜ r ≤ n ⌝ }
+    ensures { λ r. ⌜ part (now (w .exit)) base r ≡ inOrder (part (now (orders .entry)) at n) (groupList (part (now (w .entry)) names n)) ⌝ }
+{
+    let mut k = 0;
+    let mut j = 0;
+    while j < n {
+        let v = orders[at + j];
+        let i = v as usize;
+        if w[names + i] == v {
+            w[base + k] = w[place + i];
+            k += 1;
+        }
+        j += 1;
+    }
+    k
 }
