@@ -4,3 +4,4 @@ pub mod Edges
 pub mod Stamping
 pub mod Permutations
 pub mod Ranking
+pub mod Rooting

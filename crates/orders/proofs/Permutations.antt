@@ -1,11 +1,9 @@
 -- Orders as permutations. Order i stamps with i + 1 words that are i or less, so afterwards a word is i + 1 exactly where its number stands in the order.
 use mathlib.Core.Bool.{Bool, true, false, not, cond}
-use mathlib.Core.Logic.{inl, inr}
 use mathlib.Core.Path.{_≡_, refl, sym, _∙_}
 use mathlib.Core.List.{List, [], _∷_, map}
 use Prim.Native.Nat.{ℕ, _+_, _*_, _≤_, _<_}
 use native.Mathlib.Nat.{suc-mul, mul-le-mul-right}
-use native.Mathlib.Decide.{decLt}
 use native.Mathlib.Omega.{arith}
 use lib.ListN.{length, getD, replicate, getD-replicate}
 use borrow.Author.Tests.{eq-eqb, ne-eqb, not-false}
@@ -15,8 +13,7 @@ use Rattle.lineage.specs.Calls.{orderAt, badOrder}
 use Rattle.numbers.specs.Regions.{Kept}
 use Rattle.numbers.proofs.Regions.{part-length, kept-same, kept-then}
 use Rattle.laws.proofs.Tests.{clash, is-false}
-use Rattle.laws.proofs.Lists.{here, there, in-cons, in-getD, any-in, in-upto, upto-low, length-upto}
-use Rattle.laws.proofs.Rising.{rises-upto, rises-distinct, pigeonhole}
+use Rattle.laws.proofs.Lists.{here, there, any-in, in-upto, upto-low}
 use Rattle.orders.specs.Stamped.{Stamped, lacks}
 use Rattle.orders.proofs.First.{NoneBelow, none-begin, none-more}
 
@@ -89,22 +86,3 @@ module _ (n d : ℕ) (orders : List ℕ) (whole : length orders ≡ d * n) where
   orders-of e =
       every-mapped (Order n) (orderAt n orders) (upto d)
       (λ i j. order-of i (upto-low d i j) (is-false (badOrder n orders i) (λ t. clash (any-in (badOrder n orders) i (upto d) j t) e)))
-
--- n numbers among which every number below n stands are all below n: with another one they would be too many
-pub order-low : (n : ℕ) (order : List ℕ) → Order n order → (j : ℕ) → j < n → getD order j 0 < n
-order-low n order o j h = at (decLt (getD order j 0) n)
-  where
-    at : Dec (getD order j 0 < n) → getD order j 0 < n
-    at (yes l) = l
-    at (no l) =
-        absurd (omega (
-          arith,
-          o .long,
-          length-upto n,
-          pigeonhole (getD order j 0 ∷ upto n) order
-              (is-false _ (λ i. l (upto-low n (getD order j 0) i)), rises-distinct (upto n) (rises-upto n))
-              (λ x i. elim (in-cons x (getD order j 0) (upto n) i) [
-                | inl e ↦ rw e (in-getD order j (omega (arith, o .long)))
-                | inr k ↦ o .all x (upto-low n x k)
-              ]),
-        ))

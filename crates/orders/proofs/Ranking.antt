@@ -11,12 +11,12 @@ use Rattle.lineage.specs.Labels.{inOrder}
 use Rattle.numbers.specs.Regions.{Kept}
 use Rattle.numbers.proofs.Regions.{part-length, part-at}
 use Rattle.laws.proofs.Tests.{is-false}
-use Rattle.laws.proofs.Lists.{those-append, those-yes, those-no}
+use Rattle.laws.proofs.Lists.{in-getD, those-append, those-yes, those-no}
 use Rattle.laws.proofs.Grouped.{listed-name, name-listed}
+use Rattle.rows.proofs.Orders.{order-low}
 use Rattle.rows.proofs.Regions.{read-at, Written, written-none, written-more}
 use Rattle.orders.specs.Fit.{RankedFit}
 use Rattle.orders.proofs.Stamping.{part-snoc}
-use Rattle.orders.proofs.Permutations.{order-low}
 
 -- one vertex more of an order: the name of a group, or not
 module _ (order groups : List ℕ) (v : ℕ) where
@@ -55,7 +55,7 @@ module _
     (f : RankedFit orders w₀ at n names place base) (i : Ranking orders w₀ w at n names base j k) (h : j < n)
   where
     low : getD orders (at + j) 0 < n
-    low = rw (part-at orders at n j h) (order-low n (part orders at n) (f .order) j h)
+    low = rw (part-at orders at n j h) (order-low n (part orders at n) (f .order) (getD (part orders at n) j 0) (in-getD (part orders at n) j (omega (arith, f .order .long))))
 
     pub ranking-vertex : Vertex orders w at n names place base j k
     ranking-vertex =

@@ -7,6 +7,7 @@ use Rattle.lineage.specs.Lists.{part}
 use Rattle.lineage.specs.Graph.{groupList, placeOf}
 use Rattle.lineage.specs.Labels.{Order}
 use Rattle.rows.specs.Regions.{Outside}
+use Rattle.rows.specs.Rows.{Below}
 
 -- an order of the n vertices at `at`; of each vertex the name and the place of its group
 pub record RankedFit (orders w : List ℕ) (at n names place base : ℕ) : Type 0 where
@@ -16,3 +17,10 @@ pub record RankedFit (orders w : List ℕ) (at n names place base : ℕ) : Type 
   pub place-there : Outside w place n base n
   pub places : (v : ℕ) → v < n → getD (part w place n) v 0 ≡ placeOf (groupList (part w names n)) (getD (part w names n) v 0)
   pub room : base + n ≤ length w
+
+-- where the rows of k places start, and a sequence of places
+pub record RootsFit (w : List ℕ) (starts k sequence base : ℕ) : Type 0 where
+  pub starts-there : Outside w starts (k + 1) base k
+  pub sequence-there : Outside w sequence k base k
+  pub places : Below k (part w sequence k)
+  pub room : base + k ≤ length w

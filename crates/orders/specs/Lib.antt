@@ -2,3 +2,4 @@
 pub mod Input
 pub mod Stamped
 pub mod Fit
+pub mod Roots

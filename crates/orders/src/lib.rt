@@ -2,14 +2,15 @@
 ghost use mathlib.Core.Path.{_≡_};
 ghost use Prim.Native.Nat.{_+_, _*_, _^_, _≤_, _<_};
 ghost use lib.ListN.{length};
-ghost use Rattle.lineage.specs.Lists.{upto, any, firstOf, part};
+ghost use Rattle.lineage.specs.Lists.{upto, any, those, firstOf, part};
 ghost use Rattle.lineage.specs.Graph.{groupList};
 ghost use Rattle.lineage.specs.Labels.{inOrder};
 ghost use Rattle.lineage.specs.Calls.{badEdge, badOrder};
 ghost use Rattle.numbers.specs.Regions.{Kept};
 ghost use Rattle.orders.specs.Input.{graphOf};
 ghost use Rattle.orders.specs.Stamped.{Stamped, lacks};
-ghost use Rattle.orders.specs.Fit.{RankedFit};
+ghost use Rattle.orders.specs.Fit.{RankedFit, RootsFit};
+ghost use Rattle.orders.specs.Roots.{rowEmpty};
 
 // The first edge with an end that is n or more; where there is none, the number of edges.
 pub fn bad_edge(n: usize, sources: &[u32], targets: &[u32]) -> usize
@@ -110,4 +111,26 @@ pub fn ranked(
         j += 1;
     }
     k
+}
+
+// Of a sequence of k places those whose row is empty, the rows being told by where they start; returns how many they are.
+pub fn roots(w: &mut [u32], starts: usize, k: usize, sequence: usize, base: usize) -> usize
+    requires { ⌜ RootsFit (now w) starts k sequence base ⌝ }
+    ensures { λ _. ⌜ Kept (now (w .entry)) (now (w .exit)) base k ⌝ }
+    ensures { λ r. ⌜ r ≤ k ⌝ }
+    ensures { λ r. ⌜ part (now (w .exit)) base r ≡ those (rowEmpty (part (now (w .entry)) starts (k + 1))) (part (now (w .entry)) sequence k) ⌝ }
+{
+    let mut c = 0;
+    let mut j = 0;
+    while j < k {
+        let q = w[sequence + j];
+        let row = q as usize;
+        let next = row + 1;
+        if w[starts + next] == w[starts + row] {
+            w[base + c] = q;
+            c += 1;
+        }
+        j += 1;
+    }
+    c
 }
