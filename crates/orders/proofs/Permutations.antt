@@ -1,7 +1,7 @@
 -- Orders as permutations. Order i stamps with i + 1 words that are i or less, so afterwards a word is i + 1 exactly where its number stands in the order.
 use mathlib.Core.Bool.{Bool, true, false, not, cond}
 use mathlib.Core.Path.{_≡_, refl, sym, _∙_}
-use mathlib.Core.List.{List, [], _∷_, map}
+use mathlib.Core.List.{List, map}
 use Prim.Native.Nat.{ℕ, _+_, _*_, _≤_, _<_}
 use native.Mathlib.Nat.{suc-mul, mul-le-mul-right}
 use native.Mathlib.Omega.{arith}
@@ -13,17 +13,10 @@ use Rattle.lineage.specs.Calls.{orderAt, badOrder}
 use Rattle.numbers.specs.Regions.{Kept}
 use Rattle.numbers.proofs.Regions.{part-length, kept-same, kept-then}
 use Rattle.laws.proofs.Tests.{clash, is-false}
-use Rattle.laws.proofs.Lists.{here, there, any-in, in-upto, upto-low}
+use Rattle.laws.proofs.Lists.{any-in, in-upto, upto-low}
 use Rattle.orders.specs.Stamped.{Stamped, lacks}
+use Rattle.orders.proofs.Lists.{any-same, every-mapped}
 use Rattle.orders.proofs.First.{NoneBelow, none-begin, none-more}
-
-any-same : (p q : ℕ → Bool) (xs : List ℕ) → ((x : ℕ) → among x xs ≡ true → p x ≡ q x) → any p xs ≡ any q xs
-any-same p q [] all = refl
-any-same p q (x ∷ xs) all = rw (all x (here x xs), any-same p q xs (λ y i. all y (there y x xs i)))
-
-every-mapped : {A : Type 0} (P : A → Type 0) (f : ℕ → A) (xs : List ℕ) → ((x : ℕ) → among x xs ≡ true → P (f x)) → Every P (map f xs)
-every-mapped P f [] all = tt
-every-mapped P f (x ∷ xs) all = (all x (here x xs), every-mapped P f xs (λ y i. all y (there y x xs i)))
 
 -- order i lies in an order list of d orders
 pub order-room : (i d n : ℕ) → i < d → i * n + n ≤ d * n

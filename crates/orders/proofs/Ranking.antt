@@ -4,19 +4,21 @@ use mathlib.Core.Path.{_≡_, refl, sym, ap, _∙_}
 use mathlib.Core.List.{List, [], _∷_, _++_, map, map-append, append-nil}
 use Prim.Native.Nat.{ℕ, _+_, _≤_, _<_}
 use native.Mathlib.Omega.{arith}
+use lib.Dec.{eqb}
 use lib.ListN.{length, getD, set}
-use Rattle.lineage.specs.Lists.{among, those, part}
+use borrow.Author.Tests.{eq-eqb}
+use Rattle.lineage.specs.Lists.{upto, among, those, part}
 use Rattle.lineage.specs.Graph.{groupList, placeOf}
 use Rattle.lineage.specs.Labels.{inOrder}
 use Rattle.numbers.specs.Regions.{Kept}
 use Rattle.numbers.proofs.Regions.{part-length, part-at}
 use Rattle.laws.proofs.Tests.{is-false}
-use Rattle.laws.proofs.Lists.{in-getD, those-append, those-yes, those-no}
-use Rattle.laws.proofs.Grouped.{listed-name, name-listed}
+use Rattle.laws.proofs.Lists.{in-getD, in-upto, those-append, those-yes, those-no, those-keep}
+use Rattle.laws.proofs.Grouped.{listed-name}
 use Rattle.rows.proofs.Orders.{order-low}
 use Rattle.rows.proofs.Regions.{read-at, Written, written-none, written-more}
 use Rattle.orders.specs.Fit.{RankedFit}
-use Rattle.orders.proofs.Stamping.{part-snoc}
+use Rattle.orders.proofs.Lists.{part-snoc}
 
 -- one vertex more of an order: the name of a group, or not
 module _ (order groups : List ℕ) (v : ℕ) where
@@ -33,6 +35,11 @@ module _ (order groups : List ℕ) (v : ℕ) where
   unfolding inOrder
   in-order-past i =
       ap (map (placeOf groups)) (kept-names ∙ ap (those (λ x. among x groups) order ++_) (those-no (λ x. among x groups) v [] i) ∙ append-nil (those (λ x. among x groups) order))
+
+-- a vertex that is its own name is in the group list
+name-listed : (names : List ℕ) (v : ℕ) → v < length names → getD names v 0 ≡ v → among v (groupList names) ≡ true
+unfolding groupList
+name-listed names v h e = those-keep (λ x. eqb (getD names x 0) x) v (upto (length names)) (eq-eqb (getD names v 0) v e) (in-upto (length names) v h)
 
 -- j vertices of the order are gone through, and the places of k groups written
 pub record Ranking (orders w₀ w : List ℕ) (at n names base j k : ℕ) : Type 0 where

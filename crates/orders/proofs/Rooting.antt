@@ -1,5 +1,4 @@
--- Going through a sequence of places, those whose row is empty are kept. Where row q holds the places that have q among their children, an empty row says that
--- q is nobody's child.
+-- Going through a sequence of places, those whose row is empty are kept.
 use mathlib.Core.Bool.{Bool, true, false, not}
 use mathlib.Core.Logic.{inl, inr}
 use mathlib.Core.Path.{_≡_, refl, sym, ap, _∙_}
@@ -16,7 +15,7 @@ use Rattle.laws.proofs.Lists.{those-append, those-yes, those-no}
 use Rattle.rows.proofs.Regions.{read-at, Written, written-none, written-more}
 use Rattle.orders.specs.Fit.{RootsFit}
 use Rattle.orders.specs.Roots.{rowEmpty}
-use Rattle.orders.proofs.Stamping.{part-snoc}
+use Rattle.orders.proofs.Lists.{part-snoc}
 
 -- j places of the sequence are gone through, and c of them written
 pub record Rooting (w₀ w : List ℕ) (starts k sequence base j c : ℕ) : Type 0 where

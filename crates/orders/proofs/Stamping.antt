@@ -4,11 +4,10 @@ use mathlib.Core.Path.{_≡_, refl, sym, ap, _∙_}
 use mathlib.Core.List.{List, [], _∷_, _++_}
 use Prim.Native.Nat.{ℕ, _+_, _≤_, _<_}
 use native.Mathlib.Decide.{ℕ-discrete}
-use native.Mathlib.Numerals.{add-one}
 use native.Mathlib.Omega.{arith}
 use lib.Dec.{eqb}
-use lib.ListN.{length, getD, set, drop, length-set, length-drop}
-use lib.Seq.{getD-set-same, getD-set-other, getD-drop, take-suc}
+use lib.ListN.{length, getD, set}
+use lib.Seq.{getD-set-same, getD-set-other}
 use borrow.Author.Tests.{ne-eqb, eq-eqb}
 use Rattle.lineage.specs.Lists.{upto, any, among, part}
 use Rattle.numbers.specs.Regions.{Kept}
@@ -16,11 +15,7 @@ use Rattle.numbers.proofs.Regions.{part-length, part-at, part-set, kept-same}
 use Rattle.laws.proofs.Lists.{among-append, in-right, here, any-in, in-upto}
 use Rattle.rows.proofs.Regions.{kept-more}
 use Rattle.orders.specs.Stamped.{Stamped, lacks}
-
--- one number more of a part
-pub part-snoc : (s : List ℕ) (at j : ℕ) → at + j < length s → part s at (j + 1) ≡ part s at j ++ (getD s (at + j) 0 ∷ [])
-unfolding part
-part-snoc s at j h = rw (add-one j, take-suc (drop at s) j 0 (omega (arith, length-drop at s)), getD-drop at s j 0)
+use Rattle.orders.proofs.Lists.{part-snoc}
 
 among-other : (v u : ℕ) (xs : List ℕ) → (v ≡ u → ⊥) → among v (xs ++ (u ∷ [])) ≡ among v xs
 among-other v u xs ne = among-append v xs (u ∷ []) ∙ rw (ne-eqb v u ne) (or-false (among v xs))
