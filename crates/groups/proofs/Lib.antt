@@ -1,0 +1,5 @@
+-- The laws of this crate's passes.
+pub mod Least
+pub mod Runs
+pub mod Trees
+pub mod Naming

@@ -1,0 +1,3 @@
+-- What the contracts of this crate say of trees and names, and of what is lent.
+pub mod Trees
+pub mod Fit
