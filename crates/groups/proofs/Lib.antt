@@ -3,3 +3,6 @@ pub mod Least
 pub mod Runs
 pub mod Trees
 pub mod Naming
+pub mod Forests
+pub mod Vertices
+pub mod TreeNames

@@ -5,6 +5,12 @@ use mathlib.Core.List.{List, [], _∷_, map}
 use Prim.Native.Nat.{ℕ, zero, suc, _-_}
 use lib.ListN.{length, getD}
 use Rattle.lineage.specs.Lists.{upto, among, least, part}
+use Rattle.lineage.specs.Labels.{Forest, finished}
+use Rattle.laws.proofs.Ranks.{before}
+
+-- the second list of a traversal
+abbrev pub lows : Forest → List ℕ
+lows f = map (λ v. suc (length (before v f))) (finished f)
 
 -- going left from q, past one tree after another; f bounds the steps, ts are the trees to the right of q
 abbrev pub treesFrom : List ℕ → List ℕ → ℕ → ℕ → List (List ℕ) → List (List ℕ)
