@@ -6,3 +6,4 @@ pub mod Naming
 pub mod Forests
 pub mod Vertices
 pub mod TreeNames
+pub mod Listing

@@ -8,16 +8,18 @@ use native.Mathlib.Decide.{decLe}
 use native.Mathlib.Omega.{arith}
 use lib.ListN.{length, getD}
 use Rattle.lineage.specs.Lists.{upto, among, least, joined}
-use Rattle.lineage.specs.Graph.{Graph, Ends, nameOf, namesOf}
+use Rattle.lineage.specs.Graph.{Graph, Ends, stay, nameOf, namesOf}
 use Rattle.lineage.specs.Labels.{Forest, finished}
 use Rattle.laws.specs.Passes.{TwoPasses, trees, Together, both, beyond}
 use Rattle.laws.proofs.Lists.{here, there, in-cons, in-left, in-right, in-append, in-getD, in-upto, upto-low, map-same}
 use Rattle.laws.proofs.Rising.{Distinct, distinct-apart, distinct-right}
+use Rattle.laws.proofs.Names.{name-smallest, name-low, name-own, names-long, name-at}
 use Rattle.laws.proofs.Visited.{distinct}
 use Rattle.laws.proofs.Trees.{joined-trees}
 use Rattle.laws.proofs.TwoPasses.{name-is-least}
 use Rattle.rows.proofs.Orders.{order-low}
 use Rattle.groups.specs.Trees.{lows, treesOf, leastOf, nameIn, treeNames}
+use Rattle.groups.specs.Fit.{Named}
 use Rattle.groups.proofs.Naming.{name-here, name-there}
 use Rattle.groups.proofs.Forests.{trees-are}
 use Rattle.groups.proofs.Vertices.{order₂}
@@ -80,3 +82,15 @@ module _ {G : Graph} (ends : Ends G) {next back : ℕ → List ℕ} {f₁ f₂ :
   names-are =
       let o = order₂ ends P in
       rw (trees-are f₂ (distinct (P .second)), o .long) (map-same (nameIn (trees f₂)) (nameOf G) (upto (G .n)) (λ v i. name-in-tree v (upto-low (G .n) v i)))
+
+-- no name is above its vertex, and a name is its own name
+pub names-named : (G : Graph) → Ends G → Named (namesOf G)
+names-named G ends = record {
+  low = λ v h. let l = in-graph v h in omega (arith, name-at G ends v l, name-smallest G ends v v l (stay, stay));
+  own = λ v h.
+      let l = in-graph v h in
+      rw (name-at G ends v l) (name-at G ends (nameOf G v) (name-low G ends v l) ∙ name-own G ends v l);
+}
+  where
+    in-graph : (v : ℕ) → v < length (namesOf G) → v < G .n
+    in-graph v h = omega (arith, names-long G ends)

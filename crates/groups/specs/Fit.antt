@@ -1,7 +1,7 @@
 -- What is lent to each pass fits together: the regions that it reads lie outside its window, and the window lies in the buffer.
 use mathlib.Core.Path.{_≡_}
 use mathlib.Core.List.{List}
-use Prim.Native.Nat.{ℕ, suc, _+_, _≤_, _<_}
+use Prim.Native.Nat.{ℕ, suc, _+_, _^_, _≤_, _<_}
 use lib.ListN.{length, getD}
 use Rattle.lineage.specs.Lists.{part}
 use Rattle.lineage.specs.Labels.{Order}
@@ -21,3 +21,15 @@ pub record NamesFit (w : List ℕ) (out low n base : ℕ) : Type 0 where
   pub order : Order n (part w out n)
   pub begins : (q : ℕ) → q < n → (0 < getD (part w low n) q 0) × (getD (part w low n) q 0 ≤ suc q)
   pub room : base + n ≤ length w
+
+-- names: none above its vertex, each its own name
+pub record Named (names : List ℕ) : Type 0 where
+  pub low : (v : ℕ) → v < length names → getD names v 0 ≤ v
+  pub own : (v : ℕ) → v < length names → getD names (getD names v 0) 0 ≡ getD names v 0
+
+-- names of n vertices
+pub record ListFit (w : List ℕ) (names n base : ℕ) : Type 0 where
+  pub names-there : Outside w names n base (n + n)
+  pub named : Named (part w names n)
+  pub room : base + (n + n) ≤ length w
+  pub few : n ≤ 2 ^ 32

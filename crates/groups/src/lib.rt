@@ -3,10 +3,12 @@ ghost use mathlib.Core.Path.{_≡_};
 ghost use Prim.Native.Nat.{_+_, _≤_, _<_, min};
 ghost use lib.ListN.{length};
 ghost use Rattle.lineage.specs.Lists.{part};
+ghost use Rattle.lineage.specs.Graph.{groupList};
 ghost use Rattle.numbers.specs.Regions.{Kept};
 ghost use Rattle.orders.specs.Stamped.{Stamped};
 ghost use Rattle.groups.specs.Trees.{leastOf, treeNames};
-ghost use Rattle.groups.specs.Fit.{RunFit, NamesFit};
+ghost use Rattle.groups.specs.Fit.{RunFit, NamesFit, ListFit};
+ghost use Rattle.groups.specs.Places.{placesOf};
 
 fn lesser(a: u32, b: u32) -> u32
     ensures { λ r. ⌜ r ≡ min a b ⌝ }
@@ -60,4 +62,31 @@ pub fn names(w: &mut [u32], out: usize, low: usize, n: usize, base: usize)
         name_run(w, at, size, name, base, n);
         q = begin;
     }
+}
+
+// All names, rising, in the first n words of the window; in the next n of each vertex the place of its group. Returns how many names there are. A name is met before
+// the other vertices of its group, so its place is known by then.
+pub fn group_list(w: &mut [u32], names: usize, n: usize, base: usize) -> usize
+    requires { ⌜ ListFit (now w) names n base ⌝ }
+    ensures { λ _. ⌜ Kept (now (w .entry)) (now (w .exit)) base (n + n) ⌝ }
+    ensures { λ r. ⌜ r ≤ n ⌝ }
+    ensures { λ r. ⌜ part (now (w .exit)) base r ≡ groupList (part (now (w .entry)) names n) ⌝ }
+    ensures { λ _. ⌜ part (now (w .exit)) (base + n) n ≡ placesOf (part (now (w .entry)) names n) ⌝ }
+{
+    let places = base + n;
+    let mut k = 0;
+    let mut v = 0;
+    while v < n {
+        let name = w[names + v];
+        let own = name as usize;
+        if own == v {
+            w[base + k] = name;
+            w[places + v] = k as u32;
+            k += 1;
+        } else {
+            w[places + v] = w[places + own];
+        }
+        v += 1;
+    }
+    k
 }
