@@ -14,10 +14,10 @@ use Rattle.lineage.specs.Lists.{among, position, part}
 use Rattle.lineage.specs.Labels.{Forest, done, visit, finished, subtree}
 use Rattle.laws.specs.Passes.{trees}
 use Rattle.laws.proofs.Tests.{clash}
-use Rattle.laws.proofs.Lists.{there, in-getD, in-left, getD-mapped, position-past}
+use Rattle.laws.proofs.Lists.{there, in-getD, in-left, position-past}
 use Rattle.laws.proofs.Rising.{Distinct, distinct-apart, distinct-right, position-getD}
 use Rattle.laws.proofs.Ranks.{before, behind, run, subtree-self}
-use Rattle.groups.specs.Trees.{lows, treesFrom, treesOf}
+use Rattle.groups.specs.Trees.{Lows, treesFrom, treesOf}
 use Rattle.groups.proofs.Trees.{trees-step}
 
 -- what was finished before the root of the first tree was entered, and before what stands in a later tree was
@@ -37,14 +37,14 @@ unfolding part
 part-behind pre mid post n e = rw (drop-append-seam pre (mid ++ post), ← e) (take-append-seam mid post)
 
 module _ (out low : List ℕ) (begins : (q : ℕ) → q < length out → (0 < getD low q 0) × (getD low q 0 ≤ suc q)) where
-  -- the number of each vertex of a forest whose order of finishing stands behind c others
-  abbrev Lows : ℕ → Forest → Type 0
-  Lows c f = (r : ℕ) → r < length (finished f) → getD low (c + r) 0 ≡ suc (c + length (before (getD (finished f) r 0) f))
+  -- the numbers of a forest's vertices, the forest's order of finishing standing behind c others
+  abbrev LowsFrom : ℕ → Forest → Type 0
+  LowsFrom c f = (r : ℕ) → r < length (finished f) → getD low (c + r) 0 ≡ suc (c + length (before (getD (finished f) r 0) f))
 
   -- the first tree, behind pre
   module _
       (p : ℕ) (below next : Forest) (pre post : List ℕ) (d : Distinct (finished (visit p below next)))
-      (e : out ≡ pre ++ (finished (visit p below next) ++ post)) (lows : Lows (length pre) (visit p below next))
+      (e : out ≡ pre ++ (finished (visit p below next) ++ post)) (lows : LowsFrom (length pre) (visit p below next))
     where
       abbrev first : List ℕ
       first = finished below ++ (p ∷ [])
@@ -58,7 +58,7 @@ module _ (out low : List ℕ) (begins : (q : ℕ) → q < length out → (0 < ge
       next-whole : out ≡ (pre ++ first) ++ (finished next ++ post)
       next-whole = whole ∙ sym (append-assoc pre first (finished next ++ post))
 
-      next-lows : Lows (length (pre ++ first)) next
+      next-lows : LowsFrom (length (pre ++ first)) next
       next-lows r h =
           let x : ℕ = getD (finished next) r 0 in
           let at : length (pre ++ first) + r ≡ length pre + (length (finished below) + suc r) = omega (arith, length-append pre first, long) in
@@ -96,7 +96,7 @@ module _ (out low : List ℕ) (begins : (q : ℕ) → q < length out → (0 < ge
           ∙ ap (λ t. treesFrom out low (length pre) (length pre) (t ∷ ts)) tree
 
   walk-forest :
-      (f : Forest) (pre post : List ℕ) (ts : List (List ℕ)) → Distinct (finished f) → out ≡ pre ++ (finished f ++ post) → Lows (length pre) f
+      (f : Forest) (pre post : List ℕ) (ts : List (List ℕ)) → Distinct (finished f) → out ≡ pre ++ (finished f ++ post) → LowsFrom (length pre) f
       → let q = length pre + length (finished f) in treesFrom out low q q ts ≡ treesFrom out low (length pre) (length pre) (trees f ++ ts)
   walk-forest done pre post ts d e lows = let z : length pre + 0 ≡ length pre = omega arith in ap (λ q. treesFrom out low q q ts) z
   walk-forest (visit p below next) pre post ts d e lows =
@@ -107,24 +107,23 @@ module _ (out low : List ℕ) (begins : (q : ℕ) → q < length out → (0 < ge
       (next-whole p below next pre post d e lows) (next-lows p below next pre post d e lows)
       ∙ past-first p below next pre post d e lows (trees next ++ ts)
 
-module _ (f : Forest) (d : Distinct (finished f)) where
-  low-at : (r : ℕ) → r < length (finished f) → getD (lows f) r 0 ≡ suc (length (before (getD (finished f) r 0) f))
-  low-at r h = getD-mapped (λ v. suc (length (before v f))) (finished f) r 0 0 h
-
+module _ (f : Forest) (low : List ℕ) (d : Distinct (finished f)) (lows : Lows f low) where
   -- a vertex stands behind all that was finished before it was entered
-  pub lows-begin : (q : ℕ) → q < length (finished f) → (0 < getD (lows f) q 0) × (getD (lows f) q 0 ≤ suc q)
+  pub lows-begin : (q : ℕ) → q < length (finished f) → (0 < getD low q 0) × (getD low q 0 ≤ suc q)
   lows-begin q h =
       let x : ℕ = getD (finished f) q 0 in
       let i : among x (finished f) ≡ true = in-getD (finished f) q h in
       let parts = run x f i in
-      let behind-it : among x (before x f) ≡ false = distinct-apart (before x f) (subtree x f ++ behind x f) (rw parts at d) x (in-left x (subtree x f) (behind x f) (subtree-self x f i)) in
-      let at : position x (finished f) ≡ length (before x f) + position x (subtree x f ++ behind x f) = ap (position x) parts ∙ position-past x (before x f) (subtree x f ++ behind x f) behind-it in
-      (omega (arith, low-at q h), omega (arith, low-at q h, position-getD (finished f) d q h))
+      let apart : among x (before x f) ≡ false =
+      distinct-apart (before x f) (subtree x f ++ behind x f) (rw parts at d) x (in-left x (subtree x f) (behind x f) (subtree-self x f i)) in
+      let at : position x (finished f) ≡ length (before x f) + position x (subtree x f ++ behind x f) =
+      ap (position x) parts ∙ position-past x (before x f) (subtree x f ++ behind x f) apart in
+      (omega (arith, lows q h), omega (arith, lows q h, position-getD (finished f) d q h))
 
   -- the left walk meets the forest's trees
-  pub trees-are : treesOf (finished f) (lows f) ≡ trees f
+  pub trees-are : treesOf (finished f) low ≡ trees f
   unfolding treesOf
   trees-are =
-      ap (λ q. treesFrom (finished f) (lows f) q q []) (sym (zero-add (length (finished f))))
-      ∙ walk-forest (finished f) (lows f) lows-begin f [] [] [] d (sym (append-nil (finished f))) (λ r h. simp zero-add (low-at r h))
+      ap (λ q. treesFrom (finished f) low q q []) (sym (zero-add (length (finished f))))
+      ∙ walk-forest (finished f) low lows-begin f [] [] [] d (sym (append-nil (finished f))) (λ r h. simp zero-add (lows r h))
       ∙ append-nil (trees f)

@@ -18,7 +18,7 @@ use Rattle.laws.proofs.Visited.{distinct}
 use Rattle.laws.proofs.Trees.{joined-trees}
 use Rattle.laws.proofs.TwoPasses.{name-is-least}
 use Rattle.rows.proofs.Orders.{order-low}
-use Rattle.groups.specs.Trees.{lows, treesOf, leastOf, nameIn, treeNames}
+use Rattle.groups.specs.Trees.{Lows, leastOf, nameIn, treeNames}
 use Rattle.groups.specs.Fit.{Named}
 use Rattle.groups.proofs.Naming.{name-here, name-there}
 use Rattle.groups.proofs.Forests.{trees-are}
@@ -77,11 +77,11 @@ module _ {G : Graph} (ends : Ends G) {next back : ℕ → List ℕ} {f₁ f₂ :
       let low : nameIn ts v < G .n = order-low (G .n) (finished f₂) o (nameIn ts v) (rw same at (together-in t .1)) in
       sym (name-is-least ends P v (nameIn ts v) h low t (λ u j k. name-below (rw same (distinct (P .second))) k))
 
-  pub names-are : treeNames (finished f₂) (lows f₂) ≡ namesOf G
+  pub names-are : (low : List ℕ) → Lows f₂ low → treeNames (finished f₂) low ≡ namesOf G
   unfolding treeNames namesOf
-  names-are =
+  names-are low lows =
       let o = order₂ ends P in
-      rw (trees-are f₂ (distinct (P .second)), o .long) (map-same (nameIn (trees f₂)) (nameOf G) (upto (G .n)) (λ v i. name-in-tree v (upto-low (G .n) v i)))
+      rw (trees-are f₂ low (distinct (P .second)) lows, o .long) (map-same (nameIn (trees f₂)) (nameOf G) (upto (G .n)) (λ v i. name-in-tree v (upto-low (G .n) v i)))
 
 -- no name is above its vertex, and a name is its own name
 pub names-named : (G : Graph) → Ends G → Named (namesOf G)

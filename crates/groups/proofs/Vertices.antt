@@ -12,10 +12,23 @@ use Rattle.lineage.specs.Labels.{Order, Forest, finished}
 use Rattle.laws.specs.Visits.{Visits}
 use Rattle.laws.specs.Passes.{TwoPasses}
 use Rattle.laws.proofs.Lists.{in-upto, upto-low, length-upto, among-reverse}
-use Rattle.laws.proofs.Rising.{rises-upto, rises-distinct, pigeonhole}
+use Rattle.laws.proofs.Rising.{Distinct, rises-upto, rises-distinct, pigeonhole}
 use Rattle.laws.proofs.Visited.{held, listed, distinct, from-todo}
 use Rattle.laws.proofs.Closed.{leads-keeps}
 use Rattle.rows.proofs.Orders.{order-low}
+
+-- all numbers below n, and no other, each once
+pub order-of : (n : ℕ) (xs : List ℕ) → Distinct xs → ((v : ℕ) → among v xs ≡ true → v < n) → ((v : ℕ) → v < n → among v xs ≡ true) → Order n xs
+order-of n xs once low all = record {
+  long =
+      omega (
+        arith,
+        length-upto n,
+        pigeonhole xs (upto n) once (λ v i. in-upto n v (low v i)),
+        pigeonhole (upto n) xs (rises-distinct (upto n) (rises-upto n)) (λ v i. all v (upto-low n v i)),
+      );
+  all = all;
+}
 
 module _
     (n : ℕ) {next : ℕ → List ℕ} {todo : List ℕ} {f : Forest} (r : Visits next todo [] f)
@@ -27,17 +40,8 @@ module _
     each : (v : ℕ) → v < n → among v (finished f) ≡ true
     each v h = held f v (listed r v (all v h))
 
-    pub visits-order : Order n (finished f)
-    visits-order = record {
-      long =
-          omega (
-            arith,
-            length-upto n,
-            pigeonhole (finished f) (upto n) (distinct r) (λ v i. in-upto n v (only v i)),
-            pigeonhole (upto n) (finished f) (rises-distinct (upto n) (rises-upto n)) (λ v i. each v (upto-low n v i)),
-          );
-      all = each;
-    }
+    visits-order : Order n (finished f)
+    visits-order = order-of n (finished f) (distinct r) only each
 
 edge-turned : {S T : List ℕ} {u v : ℕ} → Edge S T u v → Edge T S v u
 edge-turned first = first

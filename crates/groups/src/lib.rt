@@ -10,7 +10,8 @@ ghost use Rattle.groups.specs.Trees.{leastOf, treeNames};
 ghost use Rattle.groups.specs.Fit.{RunFit, NamesFit, ListFit};
 ghost use Rattle.groups.specs.Places.{placesOf};
 
-fn lesser(a: u32, b: u32) -> u32
+// The lesser of two numbers.
+pub fn lesser(a: u32, b: u32) -> u32
     ensures { λ r. ⌜ r ≡ min a b ⌝ }
 {
     if a <= b { a } else { b }

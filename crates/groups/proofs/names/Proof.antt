@@ -48,7 +48,7 @@ sub-size : tie.Need-sub-size Inv-loop μ-loop
 sub-size c = omega (arith, tree (c .before))
 
 least-word-requires : tie.Need-least-word-requires Inv-loop μ-loop
-least-word-requires c κs = let t = tree (c .before .before) in (omega arith, t .run-fit .run-there .fits)
+least-word-requires c κs = let t = tree (c .before .before) in (omega arith, omega (arith, t .run-fit .run-there .fits))
 
 name-run-requires : tie.Need-name-run-requires Inv-loop μ-loop
 name-run-requires c κs = tree (c .before .before .before .before) .run-fit
