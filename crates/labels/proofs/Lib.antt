@@ -1,0 +1,3 @@
+-- The laws of this crate's passes.
+pub mod Rows
+pub mod Ranking
