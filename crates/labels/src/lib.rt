@@ -64,3 +64,56 @@ fn row_outer(w: &[u32], at: usize, size: usize, base: usize, k: usize, e: u32) -
     }
     s
 }
+
+// The level of each place, upwards through the ranks: by then the levels of its children are known.
+pub fn levels(
+    w: &mut [u32],
+    out: usize,
+    k: usize,
+    starts: usize,
+    values: usize,
+    c: usize,
+    base: usize,
+)
+    requires { ⌜ UpFit (now w) out k starts values c base ⌝ }
+    ensures { λ _. ⌜ Kept (now (w .entry)) (now (w .exit)) base k ⌝ }
+    ensures { λ _. ⌜ part (now (w .exit)) base k ≡ levelsOf (rowsOf k (part (now (w .entry)) starts (k + 1)) (part (now (w .entry)) values c)) ⌝ }
+{
+    let mut r = 0;
+    while r < k {
+        let p = w[out + r] as usize;
+        let next = p + 1;
+        let from = w[starts + p] as usize;
+        let end = w[starts + next] as usize;
+        w[base + p] = row_level(w, values + from, end - from, base, k);
+        r += 1;
+    }
+}
+
+// s of each place, upwards through the ranks: by then the s of its children are known.
+pub fn outer(
+    w: &mut [u32],
+    out: usize,
+    e: usize,
+    k: usize,
+    starts: usize,
+    values: usize,
+    c: usize,
+    base: usize,
+)
+    requires { ⌜ OuterFit (now w) out e k starts values c base ⌝ }
+    ensures { λ _. ⌜ Kept (now (w .entry)) (now (w .exit)) base k ⌝ }
+    ensures { λ _. ⌜ part (now (w .exit)) base k
+        ≡ map (outer (rowsOf k (part (now (w .entry)) starts (k + 1)) (part (now (w .entry)) values c)) (part (now (w .entry)) e k) k) (upto k) ⌝ }
+{
+    let mut r = 0;
+    while r < k {
+        let p = w[out + r] as usize;
+        let next = p + 1;
+        let from = w[starts + p] as usize;
+        let end = w[starts + next] as usize;
+        let own = w[e + p];
+        w[base + p] = row_outer(w, values + from, end - from, base, k, own);
+        r += 1;
+    }
+}
