@@ -3,3 +3,4 @@ pub mod Rows
 pub mod Ranking
 pub mod Upwards
 pub mod Turns
+pub mod Labelled
