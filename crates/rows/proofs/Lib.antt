@@ -8,3 +8,7 @@ pub mod Orders
 pub mod Laid
 pub mod Turned
 pub mod Turning
+pub mod Contents
+pub mod Singles
+pub mod Stripping
+pub mod Stripped

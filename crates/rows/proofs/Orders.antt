@@ -1,17 +1,17 @@
 -- An order lists every number below n once: a sum over it is the sum over 0, .. , n - 1. The argument takes the greatest number out, and goes on with the rest.
 use mathlib.Core.Bool.{Bool, true, false, false≢true}
 use mathlib.Core.Logic.{inl, inr}
-use mathlib.Core.Path.{_≡_, refl, sym, ap, _∙_}
+use mathlib.Core.Path.{_≡_, refl, sym, ap}
 use mathlib.Core.List.{List, [], _∷_, _++_}
-use Prim.Native.Nat.{ℕ, zero, suc, _+_, _≤_, _<_}
+use Prim.Native.Nat.{ℕ, zero, suc, _+_, _<_}
 use native.Mathlib.Omega.{arith}
 use lib.Dec.{eqb}
-use lib.ListN.{length, length-append}
-use borrow.Author.Tests.{eqb-true, eq-eqb}
+use lib.ListN.{length-append}
+use borrow.Author.Tests.{eqb-true}
 use Rattle.lineage.specs.Lists.{among, upto}
 use Rattle.lineage.specs.Labels.{Order}
 use Rattle.laws.proofs.Tests.{or-cases}
-use Rattle.laws.proofs.Lists.{here, there, in-append, in-left, in-right}
+use Rattle.laws.proofs.Lists.{in-append, in-left, in-right}
 
 -- f of each number of the list, added up
 abbrev pub total : (ℕ → ℕ) → List ℕ → ℕ
