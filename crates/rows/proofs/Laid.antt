@@ -1,4 +1,4 @@
--- Laid-out rows one after the other are the values: so the values are below a number where those of every row are.
+-- Laid-out rows one after the other are the values: what holds of the values holds of the rows, and the other way round.
 use mathlib.Core.Bool.{true}
 use mathlib.Core.Path.{_≡_, ap, _∙_}
 use mathlib.Core.List.{List, _++_}
@@ -43,7 +43,11 @@ module _ {starts values : List ℕ} {n : ℕ} (laid : Laid starts values n) wher
       let e : getD starts (suc x) 0 ≡ getD starts x 0 + (getD starts (suc x) 0 - getD starts x 0) = omega (arith, laid .rising x h) in
       ap (λ z. take z values) e ∙ take-add (getD starts x 0) (getD starts (suc x) 0 - getD starts x 0) values
 
-  -- the values are below b where those of every row are
+  -- the numbers of a row are below b where the values are, and the values where those of every row are
+  pub row-below : (b : ℕ) → Below b values → (x : ℕ) → x < n → Below b (rowAt starts values x)
+  unfolding rowAt
+  row-below b low x h = part-below b values (getD starts x 0) (getD starts (suc x) 0 - getD starts x 0) low
+
   pub rows-below : (b : ℕ) → ((x : ℕ) → x < n → Below b (rowAt starts values x)) → Below b values
   rows-below b low = rw (take-all (getD starts n 0) values (omega (arith, laid .last))) at (upTo n (omega arith))
     where
