@@ -8,9 +8,9 @@ use native.Mathlib.Omega.{arith}
 use lib.ListN.{length, getD, drop, drop-of-length-le}
 use Rattle.lineage.specs.Lists.{upto, among, joined, part}
 use Rattle.numbers.specs.Regions.{Kept}
-use Rattle.numbers.proofs.Regions.{part-at, part-length, kept-same, kept-then}
-use Rattle.laws.proofs.Lists.{among-append, in-getD, table-is}
-use Rattle.rows.specs.Rows.{Below}
+use Rattle.numbers.proofs.Regions.{part-length, kept-same, kept-then}
+use Rattle.laws.proofs.Lists.{among-append, table-is}
+use Rattle.rows.proofs.Laid.{part-below, in-below}
 use Rattle.rows.proofs.Orders.{order-low}
 use Rattle.rows.proofs.Regions.{kept-apart, read-at}
 use Rattle.orders.specs.Stamped.{Stamped}
@@ -82,16 +82,9 @@ module _ {w₀ : List ℕ} {out low n base : ℕ} (f : NamesFit w₀ out low n b
         fits = omega (arith, begin, i .inside, i .kept .long, f .out-there .fits);
         apart = apart-part b (q - b) (omega (arith, begin, i .inside)) (f .out-there .apart);
       };
-      run-low = rw run-is (λ j h. run-low j h);
+      run-low = rw run-is (part-below n (part w₀ out n) b (q - b) (in-below n (part w₀ out n) (order-low n (part w₀ out n) (f .order))));
       room = omega (arith, f .room, i .kept .long);
     }
-      where
-        run-low : Below n (part (part w₀ out n) b (q - b))
-        run-low j h =
-            let size = part-length (part w₀ out n) b (q - b) (omega (arith, begin, i .inside, long)) in
-            let l : b + j < n = omega (arith, begin, i .inside) in
-            rw (← part-at (part w₀ out n) b (q - b) j (omega arith))
-            (order-low n (part w₀ out n) (f .order) (getD (part w₀ out n) (b + j) 0) (in-getD (part w₀ out n) (b + j) (omega (arith, long))))
 
     pub naming-tree : Tree w out low n base q r
     naming-tree = record {

@@ -1,10 +1,9 @@
 -- Naming a run of vertices: the run lies outside the window, so it is read as it was lent.
 use mathlib.Core.Path.{_≡_, sym, ap, _∙_}
 use mathlib.Core.List.{List}
-use Prim.Native.Nat.{ℕ, _+_, _≤_, _<_}
+use Prim.Native.Nat.{ℕ, _+_, _<_}
 use native.Mathlib.Omega.{arith}
 use lib.ListN.{length, getD, set}
-use Rattle.lineage.specs.Lists.{part}
 use Rattle.numbers.proofs.Regions.{part-at, part-length}
 use Rattle.rows.proofs.Regions.{read-at}
 use Rattle.orders.proofs.Stamping.{Stamping, stamping-more}

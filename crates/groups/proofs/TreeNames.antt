@@ -1,8 +1,8 @@
 -- The trees of the second traversal are the groups, and a group's name is its least vertex: so the least vertex of its tree is the name of each vertex's group.
 use mathlib.Core.Bool.{Bool, true, false, false≢true}
 use mathlib.Core.Logic.{_⊎_, inl, inr}
-use mathlib.Core.Path.{_≡_, refl, sym, ap, subst, _∙_}
-use mathlib.Core.List.{List, [], _∷_, _++_, map}
+use mathlib.Core.Path.{_≡_, refl, sym, _∙_}
+use mathlib.Core.List.{List, [], _∷_}
 use Prim.Native.Nat.{ℕ, _<_, _≤_, min}
 use native.Mathlib.Decide.{decLe}
 use native.Mathlib.Omega.{arith}
@@ -11,7 +11,7 @@ use Rattle.lineage.specs.Lists.{upto, among, least, joined}
 use Rattle.lineage.specs.Graph.{Graph, Ends, stay, nameOf, namesOf}
 use Rattle.lineage.specs.Labels.{Forest, finished}
 use Rattle.laws.specs.Passes.{TwoPasses, trees, Together, both, beyond}
-use Rattle.laws.proofs.Lists.{here, there, in-cons, in-left, in-right, in-append, in-getD, in-upto, upto-low, map-same}
+use Rattle.laws.proofs.Lists.{here, there, in-cons, in-left, in-right, in-append, upto-low, map-same}
 use Rattle.laws.proofs.Rising.{Distinct, distinct-apart, distinct-right}
 use Rattle.laws.proofs.Names.{name-smallest, name-low, name-own, names-long, name-at}
 use Rattle.laws.proofs.Visited.{distinct}

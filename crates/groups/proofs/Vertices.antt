@@ -2,10 +2,9 @@
 -- groups.
 use mathlib.Core.Bool.{true}
 use mathlib.Core.Path.{_≡_}
-use mathlib.Core.List.{List, [], reverse}
+use mathlib.Core.List.{List, []}
 use Prim.Native.Nat.{ℕ, _<_}
 use native.Mathlib.Omega.{arith}
-use lib.ListN.{length}
 use Rattle.lineage.specs.Lists.{upto, among}
 use Rattle.lineage.specs.Graph.{Graph, Edge, first, later, Ends}
 use Rattle.lineage.specs.Labels.{Order, Forest, finished}

@@ -1,13 +1,13 @@
 -- What the passes leave is the labelling: e the ranks, m what the traversal's second list has at each rank, s from the children. And a labelling's traversal fits
 -- them: it finishes every group once, children before their parents.
 use mathlib.Core.Bool.{true}
-use mathlib.Core.Path.{_≡_, refl, sym, ap, _∙_}
+use mathlib.Core.Path.{_≡_, sym, ap, _∙_}
 use mathlib.Core.List.{List, map}
 use Prim.Native.Nat.{ℕ, suc, _<_}
 use native.Mathlib.Omega.{arith}
 use lib.ListN.{length, getD}
 use Rattle.lineage.specs.Lists.{upto, among, position, least}
-use Rattle.lineage.specs.Labels.{Order, inOrder, Forest, finished, subtree, forestOf, outer, Labelling, labelsBy}
+use Rattle.lineage.specs.Labels.{Order, inOrder, Forest, finished, subtree, forestOf, outer, labelsBy}
 use Rattle.lineage.specs.Sound.{childOf}
 use Rattle.laws.specs.Sound.{SoundGroups}
 use Rattle.laws.proofs.Lists.{upto-low, at-position, position-low, map-same, table-at}

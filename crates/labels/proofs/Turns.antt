@@ -14,7 +14,6 @@ use Rattle.laws.proofs.Lists.{in-getD, position-low, map-same, greatest-at, tab
 use Rattle.laws.proofs.Levels.{levels-meet, levels-long}
 use Rattle.laws.proofs.Outer.{outer-meets}
 use Rattle.rows.proofs.Regions.{read-at}
-use Rattle.labels.specs.Labels.{ranksOf, rowsOf}
 use Rattle.labels.specs.Fit.{UpFit, OuterFit}
 use Rattle.labels.proofs.Upwards.{Filling, byRank, children, row, children-long, children-at, row-low, child-low, child-falls, place-low, row-is, row-fit, known}
 

@@ -1,7 +1,7 @@
 -- Upwards through the ranks: the children of a place have lower ranks, so what is asked of them is known when the place is come to; at the end it is known of all.
 use mathlib.Core.Bool.{true}
-use mathlib.Core.Path.{_≡_, refl, sym, ap, ap₂, _∙_}
-use mathlib.Core.List.{List, [], map}
+use mathlib.Core.Path.{_≡_, sym, ap, ap₂, _∙_}
+use mathlib.Core.List.{List, []}
 use Prim.Native.Nat.{ℕ, suc, _+_, _-_, _≤_, _<_}
 use native.Mathlib.Decide.{ℕ-discrete}
 use native.Mathlib.Numerals.{add-one}
@@ -9,18 +9,18 @@ use native.Mathlib.Omega.{arith}
 use lib.Arith.{lt-of-le-ne}
 use lib.ListN.{length, getD, set}
 use lib.Seq.{getD-set-same, getD-set-other, ext-getD}
-use Rattle.lineage.specs.Lists.{upto, among, position, part}
+use Rattle.lineage.specs.Lists.{among, position, part}
 use Rattle.lineage.specs.Stored.{rowAt}
 use Rattle.lineage.specs.Sound.{childOf}
 use Rattle.numbers.specs.Regions.{Kept}
-use Rattle.numbers.proofs.Regions.{part-at, part-length, part-set, kept-same}
+use Rattle.numbers.proofs.Regions.{part-length, part-set, kept-same}
 use Rattle.laws.proofs.Lists.{in-getD, at-position, position-low, table-at, table-long}
-use Rattle.rows.specs.Rows.{Below}
+use Rattle.rows.specs.Rows.{rowsIn}
 use Rattle.rows.proofs.Orders.{order-low}
-use Rattle.rows.proofs.Laid.{start-low, row-below}
+use Rattle.rows.proofs.Laid.{start-low, row-below, below-in}
 use Rattle.rows.proofs.Regions.{kept-apart, kept-more, read-at}
 use Rattle.groups.proofs.Regions.{part-part}
-use Rattle.labels.specs.Labels.{rowsOf}
+use Rattle.labels.specs.Labels.{childrenIn}
 use Rattle.labels.specs.Fit.{RowFit, UpFit}
 use Rattle.labels.proofs.Ranking.{position-most}
 
@@ -47,25 +47,25 @@ module _ {w₀ : List ℕ} {out k starts values c base : ℕ} (f : UpFit w₀ ou
   byRank = part w₀ out k
 
   abbrev pub children : List (List ℕ)
-  children = rowsOf k (part w₀ starts (k + 1)) (part w₀ values c)
+  children = childrenIn w₀ starts values c k
 
   abbrev pub row : ℕ → List ℕ
-  row p = rowAt (part w₀ starts (k + 1)) (part w₀ values c) p
+  row = rowsIn w₀ starts values c k
 
   long : length byRank ≡ k
   long = part-length w₀ out k (f .out-there .fits)
 
   pub children-long : length children ≡ k
-  unfolding rowsOf
+  unfolding childrenIn
   children-long = table-long row k
 
   pub children-at : (p : ℕ) → p < k → getD children p [] ≡ row p
-  unfolding rowsOf
+  unfolding childrenIn
   children-at p h = table-at row k p [] h
 
   -- a child is a place, of a lower rank
   pub row-low : (p q : ℕ) → p < k → among q (row p) ≡ true → q < k
-  row-low p q h i = omega (arith, at-position q (row p) i, row-below (f .laid) k (f .values-low) p h (position q (row p)) (position-low q (row p) i))
+  row-low p q h i = below-in k (row p) (row-below (f .laid) k (f .values-low) p h) q i
 
   pub child-low : (p q : ℕ) → p < length children → childOf children p q ≡ true → q < length children
   child-low p q h i = let l : p < k = omega (arith, children-long) in omega (arith, children-long, row-low p q l (rw (children-at p l) at i))

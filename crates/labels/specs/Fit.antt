@@ -3,12 +3,11 @@ use mathlib.Core.Bool.{true}
 use mathlib.Core.Path.{_≡_}
 use mathlib.Core.List.{List}
 use Prim.Native.Nat.{ℕ, _+_, _^_, _≤_, _<_}
-use lib.ListN.{length, getD}
+use lib.ListN.{length}
 use Rattle.lineage.specs.Lists.{among, position, part}
 use Rattle.lineage.specs.Labels.{Order}
-use Rattle.lineage.specs.Stored.{rowAt}
 use Rattle.rows.specs.Regions.{Outside}
-use Rattle.rows.specs.Rows.{Below, Laid}
+use Rattle.rows.specs.Rows.{Below, Laid, rowsIn}
 use Rattle.labels.specs.Labels.{ranksOf}
 
 -- a traversal of all k places
@@ -34,8 +33,7 @@ pub record UpFit (w : List ℕ) (out k starts values c base : ℕ) : Type 0 wher
   pub laid : Laid (part w starts (k + 1)) (part w values c) k
   pub values-low : Below k (part w values c)
   pub falls :
-      (p q : ℕ) → p < k → among q (rowAt (part w starts (k + 1)) (part w values c) p) ≡ true
-      → position q (part w out k) < position p (part w out k)
+      (p q : ℕ) → p < k → among q (rowsIn w starts values c k p) ≡ true → position q (part w out k) < position p (part w out k)
   pub room : base + k ≤ length w
   pub few : k < 2 ^ 32
 

@@ -4,6 +4,7 @@ use Prim.Native.Nat.{ℕ, suc}
 use lib.ListN.{getD}
 use Rattle.lineage.specs.Lists.{upto, position}
 use Rattle.lineage.specs.Stored.{rowAt}
+use Rattle.rows.specs.Rows.{rowsIn}
 
 -- e of each of k places: its rank, counted from 1
 abbrev pub ranksOf : ℕ → List ℕ → List ℕ
@@ -13,7 +14,7 @@ ranksOf k byRank = map (λ p. suc (position p byRank)) (upto k)
 abbrev pub innersOf : ℕ → List ℕ → List ℕ → List ℕ
 innersOf k byRank low = map (λ p. getD low (position p byRank) 0) (upto k)
 
--- the children of k places, from rows
-unfoldable pub rowsOf : ℕ → List ℕ → List ℕ → List (List ℕ)
+-- the children of k places, whose rows lie in w
+unfoldable pub childrenIn : List ℕ → ℕ → ℕ → ℕ → ℕ → List (List ℕ)
 unfolding rowAt
-rowsOf k starts values = map (rowAt starts values) (upto k)
+childrenIn w starts values c k = map (rowsIn w starts values c k) (upto k)

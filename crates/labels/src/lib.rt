@@ -1,13 +1,13 @@
 // Ranks, inner intervals, levels and outer intervals, from a traversal of the groups.
 ghost use mathlib.Core.Path.{_≡_};
 ghost use mathlib.Core.List.{map};
-ghost use Prim.Native.Nat.{ℕ, suc, _+_, _^_, _≤_, _<_, max};
+ghost use Prim.Native.Nat.{ℕ, suc, _+_, _^_, _<_, max};
 ghost use lib.ListN.{getD};
 ghost use Rattle.lineage.specs.Lists.{upto, least, greatest, part};
 ghost use Rattle.lineage.specs.Graph.{levelsOf};
 ghost use Rattle.lineage.specs.Labels.{outer};
 ghost use Rattle.numbers.specs.Regions.{Kept};
-ghost use Rattle.labels.specs.Labels.{ranksOf, innersOf, rowsOf};
+ghost use Rattle.labels.specs.Labels.{ranksOf, innersOf, childrenIn};
 ghost use Rattle.labels.specs.Fit.{RanksFit, RowFit, UpFit, OuterFit};
 
 // e of each place, then m of each place: the rank, counted from 1, and the number at that rank. From the last rank to the first.
@@ -77,7 +77,7 @@ pub fn levels(
 )
     requires { ⌜ UpFit (now w) out k starts values c base ⌝ }
     ensures { λ _. ⌜ Kept (now (w .entry)) (now (w .exit)) base k ⌝ }
-    ensures { λ _. ⌜ part (now (w .exit)) base k ≡ levelsOf (rowsOf k (part (now (w .entry)) starts (k + 1)) (part (now (w .entry)) values c)) ⌝ }
+    ensures { λ _. ⌜ part (now (w .exit)) base k ≡ levelsOf (childrenIn (now (w .entry)) starts values c k) ⌝ }
 {
     let mut r = 0;
     while r < k {
@@ -103,8 +103,7 @@ pub fn outer(
 )
     requires { ⌜ OuterFit (now w) out e k starts values c base ⌝ }
     ensures { λ _. ⌜ Kept (now (w .entry)) (now (w .exit)) base k ⌝ }
-    ensures { λ _. ⌜ part (now (w .exit)) base k
-        ≡ map (outer (rowsOf k (part (now (w .entry)) starts (k + 1)) (part (now (w .entry)) values c)) (part (now (w .entry)) e k) k) (upto k) ⌝ }
+    ensures { λ _. ⌜ part (now (w .exit)) base k ≡ map (outer (childrenIn (now (w .entry)) starts values c k) (part (now (w .entry)) e k) k) (upto k) ⌝ }
 {
     let mut r = 0;
     while r < k {

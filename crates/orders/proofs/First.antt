@@ -1,6 +1,6 @@
 -- Looking through 0, 1, .. , n - 1 for the first that passes a test: n where none does. That one of them passes, and which, is read off what is found.
 use mathlib.Core.Bool.{Bool, true, false}
-use mathlib.Core.Path.{_≡_, refl, sym, ap, _∙_}
+use mathlib.Core.Path.{_≡_, refl, sym, _∙_}
 use mathlib.Core.List.{List, [], _∷_, _++_}
 use Prim.Native.Nat.{ℕ, zero, suc, _+_, _<_, _≤_}
 use native.Mathlib.Nat.{not-suc-le-zero}
@@ -9,7 +9,7 @@ use native.Mathlib.Omega.{arith}
 use lib.Dec.{ltb}
 use borrow.Author.Count.{below-none, below-more}
 use borrow.Author.Tests.{lt-ltb, le-ltb}
-use Rattle.lineage.specs.Lists.{upto, any, among, firstOf}
+use Rattle.lineage.specs.Lists.{upto, any, firstOf}
 use Rattle.laws.proofs.Tests.{clash, is-false}
 use Rattle.laws.proofs.Lists.{any-in, in-any, in-upto, upto-low}
 use Rattle.laws.proofs.Rising.{rises-upto, first-of}

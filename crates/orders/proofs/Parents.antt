@@ -1,13 +1,13 @@
 -- Where row q holds the places that have q among their children, an empty row says that q is nobody's child.
 use mathlib.Core.Bool.{Bool, true, false, false≢true}
 use mathlib.Core.Logic.{inl, inr}
-use mathlib.Core.Path.{_≡_, refl, sym, ap, _∙_}
+use mathlib.Core.Path.{_≡_, refl, ap}
 use mathlib.Core.List.{List, [], _∷_}
-use Prim.Native.Nat.{ℕ, zero, suc, _+_, _-_, _≤_, _<_}
+use Prim.Native.Nat.{ℕ, zero, suc, _+_, _-_, _<_}
 use native.Mathlib.Omega.{arith}
 use lib.ListN.{length, getD}
-use borrow.Author.Tests.{eq-eqb, ne-eqb, not-true, not-false}
-use Rattle.lineage.specs.Lists.{upto, among, those, joined, part}
+use borrow.Author.Tests.{eq-eqb, ne-eqb}
+use Rattle.lineage.specs.Lists.{upto, among, those, joined}
 use Rattle.lineage.specs.Labels.{nobodysChild}
 use Rattle.lineage.specs.Stored.{rowAt}
 use Rattle.lineage.specs.Sound.{childOf}

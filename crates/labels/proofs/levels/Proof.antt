@@ -1,11 +1,10 @@
 -- `labels::levels` meets its contract. The invariant: the places at the ranks passed have their levels. The children of the place at hand stand at such ranks.
 use mathlib.Core.Path.{refl}
-use Prim.Native.Nat.{_+_, _-_, _≤_}
+use Prim.Native.Nat.{_-_, _≤_}
 use native.Mathlib.Omega.{arith}
 use borrow.Author.Needs.{needs}
-use Rattle.lineage.specs.Lists.{part}
 use Rattle.lineage.specs.Graph.{levelsOf}
-use Rattle.labels.specs.Labels.{rowsOf}
+use Rattle.labels.specs.Labels.{childrenIn}
 use Rattle.labels.proofs.Upwards.{Filling, Place, filling-none, filling-place, row-fit, filling-more, filling-all}
 use Rattle.labels.proofs.Turns.{levels-count, level-is, level-small}
 use Rattle.labels.proofs.levels.Statement.{statement}
@@ -13,7 +12,7 @@ use Rattle.labels.proofs.levels.Tie as tie
 
 abbrev Inv-loop : tie.InvT-loop
 Inv-loop w₀ out k starts values c base r₀ w r =
-    (r ≤ k) × Filling w₀ w (levelsOf (rowsOf k (part w₀ starts (k + 1)) (part w₀ values c))) out k base r
+    (r ≤ k) × Filling w₀ w (levelsOf (childrenIn w₀ starts values c k)) out k base r
 
 abbrev μ-loop : tie.MeasureT-loop
 μ-loop w₀ out k starts values c base r₀ w r = k - r

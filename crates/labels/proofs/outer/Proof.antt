@@ -7,7 +7,7 @@ use lib.ListN.{length, getD}
 use borrow.Author.Needs.{needs}
 use Rattle.lineage.specs.Lists.{upto, part}
 use Rattle.lineage.specs.Labels.{outer}
-use Rattle.labels.specs.Labels.{rowsOf}
+use Rattle.labels.specs.Labels.{childrenIn}
 use Rattle.labels.proofs.Upwards.{Filling, Place, filling-none, filling-place, row-fit, filling-more, filling-all}
 use Rattle.labels.proofs.Turns.{outer-count, outer-is}
 use Rattle.labels.proofs.outer.Statement.{statement}
@@ -15,7 +15,7 @@ use Rattle.labels.proofs.outer.Tie as tie
 
 abbrev Inv-loop : tie.InvT-loop
 Inv-loop w₀ out e k starts values c base r₀ w r =
-    (r ≤ k) × Filling w₀ w (map (outer (rowsOf k (part w₀ starts (k + 1)) (part w₀ values c)) (part w₀ e k) k) (upto k)) out k base r
+    (r ≤ k) × Filling w₀ w (map (outer (childrenIn w₀ starts values c k) (part w₀ e k) k) (upto k)) out k base r
 
 abbrev μ-loop : tie.MeasureT-loop
 μ-loop w₀ out e k starts values c base r₀ w r = k - r
