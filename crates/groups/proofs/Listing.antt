@@ -99,9 +99,11 @@ module _ {w₀ w : List ℕ} {names n base v k : ℕ} (f : ListFit w₀ names n 
       at (yes z) = rw (z, getD-set-same words v x 0 (omega arith)) e
       at (no ne) = rw (getD-set-other words v u x 0 ne) (all u (omega arith))
 
+  -- the names up to v are those before it, and v if it is one
   split : those own (upto (v + 1)) ≡ those own (upto v) ++ those own (v ∷ [])
   split = rw (add-one v) (those-append own (upto v) (v ∷ []))
 
+  -- the place of a name is how many names stand before it
   place-own : getD given v 0 ≡ v → k ≡ placeOf (groupList given) (getD given v 0)
   unfolding groupList
   place-own e =

@@ -7,7 +7,7 @@ use Prim.Native.Nat.{ℕ, _<_, _≤_, min}
 use native.Mathlib.Decide.{decLe}
 use native.Mathlib.Omega.{arith}
 use lib.ListN.{length, getD}
-use Rattle.lineage.specs.Lists.{upto, among, least, joined}
+use Rattle.lineage.specs.Lists.{upto, among, least, joined, part}
 use Rattle.lineage.specs.Graph.{Graph, Ends, stay, nameOf, namesOf}
 use Rattle.lineage.specs.Labels.{Forest, finished}
 use Rattle.laws.specs.Passes.{TwoPasses, trees, Together, both, beyond}
@@ -94,3 +94,8 @@ names-named G ends = record {
   where
     in-graph : (v : ℕ) → v < length (namesOf G) → v < G .n
     in-graph v h = omega (arith, names-long G ends)
+
+-- 0, 1 and 2 reach each other, 3 is only reached: two trees, with the roots 0 and 3
+example : treeNames (1 ∷ 2 ∷ 0 ∷ 3 ∷ []) (1 ∷ 1 ∷ 1 ∷ 4 ∷ []) ≡ 0 ∷ 0 ∷ 0 ∷ 3 ∷ []
+unfolding treeNames part
+example = refl

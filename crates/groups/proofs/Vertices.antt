@@ -17,8 +17,8 @@ use Rattle.laws.proofs.Closed.{leads-keeps}
 use Rattle.rows.proofs.Orders.{order-low}
 
 -- all numbers below n, and no other, each once
-pub order-of : (n : ℕ) (xs : List ℕ) → Distinct xs → ((v : ℕ) → among v xs ≡ true → v < n) → ((v : ℕ) → v < n → among v xs ≡ true) → Order n xs
-order-of n xs once low all = record {
+pub order-from : (n : ℕ) (xs : List ℕ) → Distinct xs → ((v : ℕ) → among v xs ≡ true → v < n) → ((v : ℕ) → v < n → among v xs ≡ true) → Order n xs
+order-from n xs once low all = record {
   long =
       omega (
         arith,
@@ -40,8 +40,9 @@ module _
     each v h = held f v (listed r v (all v h))
 
     visits-order : Order n (finished f)
-    visits-order = order-of n (finished f) (distinct r) only each
+    visits-order = order-from n (finished f) (distinct r) only each
 
+-- the same of the two traversals that find the groups
 edge-turned : {S T : List ℕ} {u v : ℕ} → Edge S T u v → Edge T S v u
 edge-turned first = first
 edge-turned (later e) = later (edge-turned e)

@@ -22,7 +22,7 @@ pub record NamesFit (w : List ℕ) (out low n base : ℕ) : Type 0 where
   pub begins : (q : ℕ) → q < n → (0 < getD (part w low n) q 0) × (getD (part w low n) q 0 ≤ suc q)
   pub room : base + n ≤ length w
 
--- names: none above its vertex, each its own name
+-- no name is above its vertex, and a name is its own name
 pub record Named (names : List ℕ) : Type 0 where
   pub low : (v : ℕ) → v < length names → getD names v 0 ≤ v
   pub own : (v : ℕ) → v < length names → getD names (getD names v 0) 0 ≡ getD names v 0

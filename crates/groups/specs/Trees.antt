@@ -9,7 +9,7 @@ use Rattle.lineage.specs.Lists.{upto, among, least, part}
 use Rattle.lineage.specs.Labels.{Forest, finished}
 use Rattle.laws.proofs.Ranks.{before}
 
--- this is the second list of a traversal
+-- the list is the second list of a traversal
 abbrev pub Lows : Forest → List ℕ → Type 0
 Lows f low = (r : ℕ) → r < length (finished f) → getD low r 0 ≡ suc (length (before (getD (finished f) r 0) f))
 

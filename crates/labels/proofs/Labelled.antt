@@ -17,7 +17,7 @@ use Rattle.laws.proofs.Grouped.{child-in}
 use Rattle.laws.proofs.Labelled.{finished-all, finished-low, finished-once, e-is, labelling-sound}
 use Rattle.rows.proofs.Orders.{order-low}
 use Rattle.groups.specs.Trees.{Lows}
-use Rattle.groups.proofs.Vertices.{order-of}
+use Rattle.groups.proofs.Vertices.{order-from}
 use Rattle.labels.specs.Labels.{ranksOf, innersOf}
 
 module _ (k : ℕ) (children : List (List ℕ)) (f : Forest) (low : List ℕ) (o : Order k (finished f)) (once : Distinct (finished f)) (lows : Lows f low) where
@@ -48,7 +48,7 @@ module _
     (order : List ℕ) (o : Order (length names) order)
   where
     pub forest-order : Order (length children) (finished (forestOf children (inOrder order groups)))
-    forest-order = order-of (length children) _ (finished-once S order o) (finished-low S order o) (finished-all S order o)
+    forest-order = order-from (length children) _ (finished-once S order o) (finished-low S order o) (finished-all S order o)
 
     pub forest-falls :
         (p q : ℕ) → p < length children → childOf children p q ≡ true

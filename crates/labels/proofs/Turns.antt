@@ -27,6 +27,7 @@ unfolding level
 level-most children zero p = omega arith
 level-most children (suc f) p = greatest-most (λ q. suc (level children f q)) (suc f) (getD children p []) (λ q. omega (arith, level-most children f q))
 
+-- the levels
 module _ {w₀ : List ℕ} {out k starts values c base : ℕ} (f : UpFit w₀ out k starts values c base) where
   abbrev table : List ℕ
   table = levelsOf (children f)
@@ -80,7 +81,7 @@ module _ {w₀ : List ℕ} {out k starts values c base : ℕ} (f : UpFit w₀ ou
           f .few,
         )
 
--- s
+-- the same of s
 module _ {w₀ : List ℕ} {out e k starts values c base : ℕ} (f : OuterFit w₀ out e k starts values c base) where
   abbrev ranks : List ℕ
   ranks = part w₀ e k

@@ -134,6 +134,7 @@ module _ {w₀ : List ℕ} {out k starts values c base : ℕ} (f : UpFit w₀ ou
         omega (arith, f .falls p q place-low j, ap (λ z. position z byRank) p-is, position-most byRank r (omega (arith, long))) in
         rw (at-position q byRank (f .order .all q low)) at (i .filled (position q byRank) before)
 
+    -- the place at hand is given its word
     pub filling-more : {w' : List ℕ} {x : ℕ} → x ≡ getD table p 0 → w' ≡ set w (base + p) x → Filling w₀ w' table out k base (r + 1)
     filling-more {x = x} is ew =
         rw ew (record {
@@ -147,6 +148,7 @@ module _ {w₀ : List ℕ} {out k starts values c base : ℕ} (f : UpFit w₀ ou
             let earlier : j < r = lt-of-le-ne (omega arith) (λ z. ne (ap (λ y. getD byRank y 0) z ∙ sym p-is)) in
             rw (getD-set-other (part w base k) p (getD byRank j 0) x 0 ne) (i .filled j earlier)
 
+  -- at the end every place has its word
   pub filling-all : {w table : List ℕ} {r : ℕ} → Filling w₀ w table out k base r → k ≤ r → length table ≡ k → Kept w₀ w base k × (part w base k ≡ table)
   filling-all {w} {table} {r} i h l =
       let long-w : length (part w base k) ≡ k = part-length w base k (omega (arith, f .room, i .kept .long)) in

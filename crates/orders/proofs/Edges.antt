@@ -10,10 +10,12 @@ use borrow.Author.Tests.{le-leb, lt-leb, leb-false}
 use Rattle.lineage.specs.Lists.{upto, any}
 use Rattle.lineage.specs.Graph.{Graph, Edge, first, later, Ends}
 use Rattle.lineage.specs.Calls.{badEdge}
-use Rattle.laws.proofs.Tests.{or-left, or-right, or-false-left, or-false-right, clash, is-false}
-use Rattle.laws.proofs.Lists.{any-in, in-upto}
+use Rattle.laws.proofs.Tests.{or-left, or-right, or-false-left, or-false-right}
+use Rattle.laws.proofs.Lists.{in-upto}
 use Rattle.orders.specs.Input.{graphOf}
+use Rattle.orders.proofs.Lists.{any-none}
 
+-- edge i
 module _ (n : ℕ) (sources targets : List ℕ) (i : ℕ) where
   pub bad-source : n ≤ getD sources i 0 → badEdge (graphOf n sources targets) i ≡ true
   bad-source h = or-left _ (le-leb n (getD sources i 0) h)
@@ -29,6 +31,7 @@ edge-at : {S T : List ℕ} {u v : ℕ} → Edge S T u v → (i : ℕ) × (i < le
 edge-at first = (0, omega arith, refl, refl)
 edge-at (later e) = let (i, h, s, t) = edge-at e in (suc i, omega arith, s, t)
 
+-- no edge is bad
 pub ends-of : (G : Graph) → length (G .sources) ≡ length (G .targets) → any (badEdge G) (upto (length (G .sources))) ≡ false → Ends G
 ends-of G paired none = record {
   paired = paired;
@@ -37,4 +40,4 @@ ends-of G paired none = record {
 }
   where
     good : (i : ℕ) → i < length (G .sources) → badEdge G i ≡ false
-    good i h = is-false (badEdge G i) (λ t. clash (any-in (badEdge G) i (upto (length (G .sources))) (in-upto (length (G .sources)) i h) t) none)
+    good i h = any-none (badEdge G) (upto (length (G .sources))) none i (in-upto (length (G .sources)) i h)

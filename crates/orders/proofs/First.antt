@@ -11,10 +11,11 @@ use borrow.Author.Count.{below-none, below-more}
 use borrow.Author.Tests.{lt-ltb, le-ltb}
 use Rattle.lineage.specs.Lists.{upto, any, firstOf}
 use Rattle.laws.proofs.Tests.{clash, is-false}
-use Rattle.laws.proofs.Lists.{any-in, in-any, in-upto, upto-low}
+use Rattle.laws.proofs.Lists.{in-any, in-upto, upto-low}
 use Rattle.laws.proofs.Rising.{rises-upto, first-of}
+use Rattle.orders.proofs.Lists.{any-none}
 
--- none of the numbers below i passes
+-- none of the numbers below i passes: what a loop over 0, 1, .. knows
 pub record NoneBelow (p : ℕ → Bool) (i : ℕ) : Type 0 where
   pub none : (j : ℕ) → j < i → p j ≡ false
 
@@ -33,6 +34,7 @@ module _ (p : ℕ → Bool) where
       at true e ih = first-yes x (a ++ b) other e ∙ sym (first-yes x a (firstOf p b other) e)
       at false e ih = first-no x (a ++ b) other e ∙ ih ∙ sym (first-no x a (firstOf p b other) e)
 
+  -- none passes; i passes, and none before it
   first-none : (n other : ℕ) → ((j : ℕ) → j < n → p j ≡ false) → firstOf p (upto n) other ≡ other
   first-none zero other none = refl
   first-none (suc n) other none =
@@ -65,7 +67,7 @@ module _ (p : ℕ → Bool) where
           let (q, j, l) = first-of p (upto n) n x (rises-upto n) i t in
           e ∙ sym (lt-ltb (firstOf p (upto n) n) n (upto-low n (firstOf p (upto n) n) j))
       at false e =
-          let none : firstOf p (upto n) n ≡ n = first-none n n (λ j h. is-false (p j) (λ t. clash (any-in p j (upto n) (in-upto n j h) t) e)) in
+          let none : firstOf p (upto n) n ≡ n = first-none n n (λ j h. any-none p (upto n) e j (in-upto n j h)) in
           e ∙ sym (le-ltb (firstOf p (upto n) n) n (omega arith))
 
 module _ {p : ℕ → Bool} where
@@ -75,7 +77,7 @@ module _ {p : ℕ → Bool} where
   pub none-more : {i : ℕ} → NoneBelow p i → p i ≡ false → NoneBelow p (i + 1)
   none-more s e = record { none = below-more _ _ (s .none) e }
 
-  -- i passes, and none before it
+  -- i passes: it is the first
   pub none-found : {i : ℕ} (n : ℕ) → NoneBelow p i → i < n → p i ≡ true → i ≡ firstOf p (upto n) n
   none-found {i} n s h t = sym (first-is p n n i h (s .none) t)
 
@@ -83,5 +85,6 @@ module _ {p : ℕ → Bool} where
   pub none-all : {i : ℕ} (n : ℕ) → NoneBelow p i → n ≤ i → i ≤ n → i ≡ firstOf p (upto n) n
   none-all {i} n s h k = let e : i ≡ n = omega arith in e ∙ sym (first-none p n n (λ j l. s .none j (omega arith)))
 
+  -- so that one passes is false
   pub none-not-any : {i : ℕ} (n : ℕ) → NoneBelow p i → n ≤ i → false ≡ any p (upto n)
   none-not-any n s h = sym (is-false (any p (upto n)) (λ t. let (x, i, y) = in-any p (upto n) t in clash y (s .none x (omega (arith, upto-low n x i)))))

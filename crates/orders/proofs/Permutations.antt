@@ -12,10 +12,9 @@ use Rattle.lineage.specs.Labels.{Order}
 use Rattle.lineage.specs.Calls.{orderAt, badOrder}
 use Rattle.numbers.specs.Regions.{Kept}
 use Rattle.numbers.proofs.Regions.{part-length, kept-same, kept-then}
-use Rattle.laws.proofs.Tests.{clash, is-false}
-use Rattle.laws.proofs.Lists.{any-in, in-upto, upto-low}
+use Rattle.laws.proofs.Lists.{in-upto, upto-low}
 use Rattle.orders.specs.Stamped.{Stamped, lacks}
-use Rattle.orders.proofs.Lists.{any-same, every-mapped}
+use Rattle.orders.proofs.Lists.{any-same, any-none, every-mapped}
 use Rattle.orders.proofs.First.{NoneBelow, none-begin, none-more}
 
 -- order i lies in an order list of d orders
@@ -72,10 +71,10 @@ module _ (n d : ℕ) (orders : List ℕ) (whole : length orders ≡ d * n) where
   pub order-of : (i : ℕ) → i < d → badOrder n orders i ≡ false → Order n (orderAt n orders i)
   order-of i h e = record {
     long = part-length orders (i * n) n (omega (arith, order-room i d n h));
-    all = λ v l. not-false (among v (orderAt n orders i)) (is-false _ (λ t. clash (any-in (λ x. not (among x (orderAt n orders i))) v (upto n) (in-upto n v l) t) e));
+    all = λ v l. not-false (among v (orderAt n orders i)) (any-none (λ x. not (among x (orderAt n orders i))) (upto n) e v (in-upto n v l));
   }
 
   pub orders-of : any (badOrder n orders) (upto d) ≡ false → Every (Order n) (map (orderAt n orders) (upto d))
   orders-of e =
       every-mapped (Order n) (orderAt n orders) (upto d)
-      (λ i j. order-of i (upto-low d i j) (is-false (badOrder n orders i) (λ t. clash (any-in (badOrder n orders) i (upto d) j t) e)))
+      (λ i j. order-of i (upto-low d i j) (any-none (badOrder n orders) (upto d) e i j))
