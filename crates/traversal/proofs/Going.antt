@@ -2,7 +2,7 @@
 -- is out and what is unseen never come to more than n, so every region has room.
 use mathlib.Core.Path.{_≡_, refl, sym, ap, _∙_, subst, subst₂}
 use mathlib.Core.List.{List, [], _∷_, _++_}
-use Prim.Native.Nat.{ℕ, zero, suc, _+_, _*_, _-_, _^_, _≤_, _<_}
+use Prim.Native.Nat.{ℕ, suc, _+_, _*_, _-_, _^_, _≤_, _<_}
 use native.Mathlib.Decide.{ℕ-discrete}
 use native.Mathlib.Nat.{mul-le-mul-right}
 use native.Mathlib.Numerals.{add-one}
@@ -13,32 +13,15 @@ use Rattle.lineage.specs.Lists.{part}
 use Rattle.lineage.specs.Stored.{rowAt}
 use Rattle.numbers.specs.Regions.{Kept}
 use Rattle.numbers.proofs.Regions.{part-length, part-at, kept-same, kept-then}
-use Rattle.rows.specs.Rows.{Below, rowsIn}
+use Rattle.rows.specs.Rows.{rowsIn}
 use Rattle.rows.proofs.Regions.{kept-apart, read-at}
 use Rattle.rows.proofs.Laid.{start-low}
 use Rattle.traversal.specs.Frames.{opened, closed, rowPlace, rowEnd}
 use Rattle.traversal.specs.Fit.{TraverseFit}
-use Rattle.traversal.proofs.Machine.{try, finish, State, Runs, pass, go-in, go-out, tries}
+use Rattle.traversal.proofs.Machine.{try, finish, State, Runs, pass, go-in, go-out, tries, fresh, fresh-mark, fresh-le}
 use Rattle.traversal.proofs.Frames.{opened-kept, opened-marks, opened-stack, opened-back, opened-entry, opened-over, closed-kept, closed-under, closed-out, closed-low}
+use Rattle.traversal.proofs.Depth.{roots-long, entries-long, row-low, row-at, row-inside, row-long, row-few, end-low}
 use Rattle.traversal.proofs.Tasks.{rowList, under, tasks, tasks-first, tasks-more, tasks-next, tasks-over}
-
--- how many marks are 0
-abbrev pub fresh : List ℕ → ℕ
-fresh [] = 0
-fresh (zero ∷ marks) = suc (fresh marks)
-fresh (suc m ∷ marks) = fresh marks
-
-fresh-mark : (marks : List ℕ) (v : ℕ) → v < length marks → getD marks v 0 ≡ 0 → suc (fresh (set marks v 1)) ≡ fresh marks
-fresh-mark [] v h e = absurd (omega arith)
-fresh-mark (zero ∷ marks) zero h e = refl
-fresh-mark (suc m ∷ marks) zero h e = absurd (omega arith)
-fresh-mark (zero ∷ marks) (suc v) h e = ap suc (fresh-mark marks v (omega arith) e)
-fresh-mark (suc m ∷ marks) (suc v) h e = fresh-mark marks v (omega arith) e
-
-fresh-le : (marks : List ℕ) → fresh marks ≤ length marks
-fresh-le [] = omega arith
-fresh-le (zero ∷ marks) = omega (arith, fresh-le marks)
-fresh-le (suc m ∷ marks) = omega (arith, fresh-le marks)
 
 -- what memory tells of the machine's state: the marks, and the first k that are out
 abbrev pub stateOf : List ℕ → ℕ → ℕ → ℕ → State
@@ -76,12 +59,6 @@ module _ {w₀ : List ℕ} {starts values c roots q n base : ℕ} (fit : Travers
   abbrev R : List ℕ
   R = part w₀ roots q
 
-  roots-long : length R ≡ q
-  roots-long = part-length w₀ roots q (fit .roots-there .fits)
-
-  entries-long : length entries ≡ c
-  entries-long = part-length w₀ values c (fit .values-there .fits)
-
   pub going-none : Going w₀ w₀ starts values c roots q n base 0 0 0 roots q
   unfolding part
   going-none = record {
@@ -93,34 +70,8 @@ module _ {w₀ : List ℕ} {starts values c roots q n base : ℕ} (fit : Travers
     fits = omega arith;
     goes = λ fin r.
         subst (λ ts. Runs (rowAt S entries) ts (record { marks = part w₀ base n; out = []; low = [] }) fin)
-        (tasks-first S entries R q (part w₀ (base + n) n) (part w₀ (base + 2 * n) n) (part w₀ (base + 3 * n) n) roots-long) r;
+        (tasks-first S entries R q (part w₀ (base + n) n) (part w₀ (base + 2 * n) n) (part w₀ (base + 3 * n) n) (roots-long fit)) r;
   }
-
-  -- the row at depth d: where it lies, and its numbers
-  row-low : (d : ℕ) → Below n (rowList R entries d)
-  row-low zero = fit .roots-low
-  row-low (suc d) = fit .values-low
-
-  module _ {w : List ℕ} (k : Kept w₀ w base (6 * n)) where
-    row-at : (d at e : ℕ) → at ≡ rowPlace roots values d → e < length (rowList R entries d) → getD w (at + e) 0 ≡ getD (rowList R entries d) e 0
-    row-at zero at e p h = rw p (read-at (fit .roots-there) k e (omega (arith, roots-long)))
-    row-at (suc d) at e p h = rw p (read-at (fit .values-there) k e (omega (arith, entries-long)))
-
-    row-inside : (d at e : ℕ) → at ≡ rowPlace roots values d → e < length (rowList R entries d) → at + e < length w
-    row-inside zero at e p h = omega (arith, roots-long, fit .roots-there .fits, k .long)
-    row-inside (suc d) at e p h = omega (arith, entries-long, fit .values-there .fits, k .long)
-
-  row-long : (d : ℕ) → length (rowList R entries d) ≤ c + q
-  row-long zero = omega (arith, roots-long)
-  row-long (suc d) = omega (arith, entries-long)
-
-  row-few : (d : ℕ) → length (rowList R entries d) < 2 ^ 32
-  row-few zero = omega (arith, roots-long, fit .few-roots)
-  row-few (suc d) = omega (arith, entries-long, fit .few-values)
-
-  end-low : (stack : List ℕ) (d : ℕ) → ((i : ℕ) → i < d → getD stack i 0 < n) → rowEnd S q stack d ≤ length (rowList R entries d)
-  end-low stack zero h = omega (arith, roots-long)
-  end-low stack (suc d) h = start-low (fit .laid) (suc (getD stack d 0)) (h d (omega arith))
 
   module _ {w : List ℕ} {d k e at end : ℕ} (g : Going w₀ w starts values c roots q n base d k e at end) where
     abbrev marks : List ℕ
@@ -147,31 +98,31 @@ module _ {w₀ : List ℕ} {starts values c roots q n base : ℕ} (fit : Travers
 
     module _ (h : e < end) where
       below-end : rowEnd S q stack d ≤ length (rowList R entries d)
-      below-end = end-low stack d (g .vertices)
+      below-end = end-low fit stack d (g .vertices)
 
       there : e < length (rowList R entries d)
       there = omega (arith, below-end, g .end-is)
 
       pub entry-inside : at + e < length w
-      entry-inside = row-inside (g .kept) d at e (g .at-is) there
+      entry-inside = row-inside fit (g .kept) d at e (g .at-is) there
 
       pub entry-few : e < c + q
-      entry-few = omega (arith, there, row-long d)
+      entry-few = omega (arith, there, row-long fit d)
 
       v-is : v ≡ getD (rowList R entries d) e 0
-      v-is = row-at (g .kept) d at e (g .at-is) there
+      v-is = row-at fit (g .kept) d at e (g .at-is) there
 
       pub v-low : v < n
-      v-low = rw v-is (row-low d e there)
+      v-low = rw v-is (row-low fit d e there)
 
-      mark-is : getD w (base + v) 0 ≡ getD marks (v) 0
-      mark-is = part-at w base n (v) v-low
+      mark-is : getD w (base + v) 0 ≡ getD marks v 0
+      mark-is = part-at w base n v v-low
 
-      next-task : tasks S entries R q stack back entry d e ≡ try (v) ∷ tasks S entries R q stack back entry d (e + 1)
+      next-task : tasks S entries R q stack back entry d e ≡ try v ∷ tasks S entries R q stack back entry d (e + 1)
       next-task = tasks-next S entries R q stack back entry d e (omega (arith, g .end-is)) below-end ∙ ap (λ v. try v ∷ tasks S entries R q stack back entry d (e + 1)) (sym v-is)
 
       pub next-fits : e + 1 < 2 ^ 32
-      next-fits = omega (arith, there, row-few d)
+      next-fits = omega (arith, there, row-few fit d)
 
       -- it is seen, and passed over
       pub going-past : (getD w (base + v) 0 ≡ 0 → ⊥) → Going w₀ w starts values c roots q n base d k (e + 1) at end
@@ -191,14 +142,14 @@ module _ {w₀ : List ℕ} {starts values c roots q n base : ℕ} (fit : Travers
 
       -- it is not
       module _ (new : getD w (base + v) 0 ≡ 0) where
-        fewer : suc (fresh (set marks (v) 1)) ≡ fresh marks
-        fewer = fresh-mark marks (v) (omega (arith, v-low, long base (omega arith))) (sym mark-is ∙ new)
+        fewer : suc (fresh (set marks v 1)) ≡ fresh marks
+        fewer = fresh-mark marks v (omega (arith, v-low, long base (omega arith))) (sym mark-is ∙ new)
 
         pub space : d + k < n
         space = omega (arith, g .room, fewer)
 
         -- v is entered
-        module _ {w' : List ℕ} (o : w' ≡ opened w base n d (v) (e + 1) (k + 1)) where
+        module _ {w' : List ℕ} (o : w' ≡ opened w base n d v (e + 1) (k + 1)) where
           d-low : d < n
           d-low = omega (arith, space)
 
@@ -214,10 +165,10 @@ module _ {w₀ : List ℕ} {starts values c roots q n base : ℕ} (fit : Travers
               rw z (read-at (fit .starts-there) kept-now (suc v) (omega (arith, v-low)))
 
           marks-now : part w' base n ≡ set marks v 1
-          marks-now = ap (λ z. part z base n) o ∙ (opened-marks w base n d v (e + 1) (k + 1) v-low d-low)
+          marks-now = ap (λ z. part z base n) o ∙ opened-marks w base n d v (e + 1) (k + 1) v-low d-low
 
           stack-now : part w' (base + n) n ≡ set stack d v
-          stack-now = ap (λ z. part z (base + n) n) o ∙ (opened-stack w base n d v (e + 1) (k + 1) v-low d-low)
+          stack-now = ap (λ z. part z (base + n) n) o ∙ opened-stack w base n d v (e + 1) (k + 1) v-low d-low
 
           back-now : part w' (base + 2 * n) n ≡ set back d (e + 1)
           back-now = ap (λ z. part z (base + 2 * n) n) o ∙ opened-back w base n d v (e + 1) (k + 1) v-low d-low
@@ -259,7 +210,7 @@ module _ {w₀ : List ℕ} {starts values c roots q n base : ℕ} (fit : Travers
             at-is = rw (add-one d) refl;
             end-is = rw (add-one d) (end-now ∙ ap (λ z. getD S (suc z) 0) (sym top-now));
             vertices = λ i l. vertex-now i (omega arith) (ℕ-discrete i d);
-            fits = rw start-is (omega (arith, start-low (fit .laid) v (omega (arith, v-low)), entries-long, fit .few-values));
+            fits = rw start-is (omega (arith, start-low (fit .laid) v (omega (arith, v-low)), entries-long fit, fit .few-values));
             goes = λ fin r.
                 g .goes fin (subst (λ ts. Runs (rowAt S entries) ts (stateOf w base n k) fin) (sym next-task)
                 (go-in (sym mark-is ∙ new) (subst₂ (λ ts s. Runs (rowAt S entries) ts s fin) tasks-now state-now r)));

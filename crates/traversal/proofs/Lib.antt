@@ -4,5 +4,6 @@ pub mod Reach
 pub mod Lows
 pub mod Frames
 pub mod Tasks
+pub mod Depth
 pub mod Going
 pub mod Ended

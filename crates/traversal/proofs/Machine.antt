@@ -3,7 +3,7 @@
 use mathlib.Core.Bool.{true, not}
 use mathlib.Core.Path.{_≡_, refl, ap, _∙_}
 use mathlib.Core.List.{List, [], _∷_, _++_, append-assoc, append-nil}
-use Prim.Native.Nat.{ℕ, suc, _+_, _<_}
+use Prim.Native.Nat.{ℕ, zero, suc, _+_, _≤_, _<_}
 use native.Mathlib.Decide.{ℕ-discrete}
 use native.Mathlib.Omega.{arith}
 use lib.Dec.{eqb}
@@ -56,6 +56,24 @@ one-end (pass n r) (go-in y r') = absurd (n y)
 one-end (go-in y r) (pass n r') = absurd (n y)
 one-end (go-in y r) (go-in y' r') = one-end r r'
 one-end (go-out r) (go-out r') = one-end r r'
+
+-- how many marks are 0
+abbrev pub fresh : List ℕ → ℕ
+fresh [] = 0
+fresh (zero ∷ marks) = suc (fresh marks)
+fresh (suc m ∷ marks) = fresh marks
+
+pub fresh-mark : (marks : List ℕ) (v : ℕ) → v < length marks → getD marks v 0 ≡ 0 → suc (fresh (set marks v 1)) ≡ fresh marks
+fresh-mark [] v h e = absurd (omega arith)
+fresh-mark (zero ∷ marks) zero h e = refl
+fresh-mark (suc m ∷ marks) zero h e = absurd (omega arith)
+fresh-mark (zero ∷ marks) (suc v) h e = ap suc (fresh-mark marks v (omega arith) e)
+fresh-mark (suc m ∷ marks) (suc v) h e = fresh-mark marks v (omega arith) e
+
+pub fresh-le : (marks : List ℕ) → fresh marks ≤ length marks
+fresh-le [] = omega arith
+fresh-le (zero ∷ marks) = omega (arith, fresh-le marks)
+fresh-le (suc m ∷ marks) = omega (arith, fresh-le marks)
 
 -- the marks say what is seen
 pub record Marked (n : ℕ) (marks seen : List ℕ) : Type 0 where
