@@ -1,4 +1,5 @@
 -- The laws of this crate's passes.
+pub mod Regions
 pub mod Least
 pub mod Runs
 pub mod Trees

@@ -5,29 +5,19 @@ use mathlib.Core.Path.{_≡_, refl, sym, ap, subst, _∙_}
 use mathlib.Core.List.{List, [], _∷_, _++_, map}
 use Prim.Native.Nat.{ℕ, suc, _+_, _-_, _≤_, _<_}
 use native.Mathlib.Omega.{arith}
-use lib.ListN.{length, getD, drop, length-drop, drop-of-length-le}
+use lib.ListN.{length, getD, drop, drop-of-length-le}
 use Rattle.lineage.specs.Lists.{upto, among, joined, part}
 use Rattle.numbers.specs.Regions.{Kept}
-use Rattle.numbers.proofs.Parts.{part-drop, part-take}
 use Rattle.numbers.proofs.Regions.{part-at, part-length, kept-same, kept-then}
 use Rattle.laws.proofs.Lists.{among-append, in-getD, table-is}
-use Rattle.rows.specs.Regions.{Apart, under, over}
 use Rattle.rows.specs.Rows.{Below}
 use Rattle.rows.proofs.Orders.{order-low}
 use Rattle.rows.proofs.Regions.{kept-apart, read-at}
 use Rattle.orders.specs.Stamped.{Stamped}
 use Rattle.groups.specs.Trees.{treesFrom, treesOf, leastOf, nameIn, treeNames}
 use Rattle.groups.specs.Fit.{RunFit, NamesFit}
+use Rattle.groups.proofs.Regions.{part-part, apart-part}
 use Rattle.groups.proofs.Trees.{part-then, trees-step}
-
--- a part of a region, and apart from the window with it
-part-part : (w : List ℕ) (at n b size : ℕ) → b + size ≤ n → at + n ≤ length w → part (part w at n) b size ≡ part w (at + b) size
-unfolding part
-part-part w at n b size h l = part-take (drop at w) n b size h (omega (arith, length-drop at w)) ∙ part-drop w at b size
-
-apart-part : {at count base size : ℕ} (b m : ℕ) → b + m ≤ count → Apart at count base size → Apart (at + b) m base size
-apart-part b m h (under l) = under (omega arith)
-apart-part b m h (over l) = over (omega arith)
 
 -- the name in the first tree, or in those behind it
 module _ (v : ℕ) (t : List ℕ) (ts : List (List ℕ)) where
