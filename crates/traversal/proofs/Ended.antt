@@ -5,12 +5,12 @@ use Prim.Native.Nat.{ℕ, suc, _+_, _*_, _≤_}
 use native.Mathlib.Omega.{arith}
 use lib.ListN.{replicate}
 use Rattle.lineage.specs.Lists.{part}
-use Rattle.lineage.specs.Stored.{rowAt}
 use Rattle.lineage.specs.Labels.{traverse}
 use Rattle.numbers.specs.Regions.{Kept}
 use Rattle.numbers.proofs.Regions.{kept-then, kept-wider}
 use Rattle.rows.proofs.Regions.{kept-apart, outside-kept}
 use Rattle.rows.proofs.Laid.{below-in}
+use Rattle.rows.specs.Rows.{rowsIn}
 use Rattle.traversal.specs.Lows.{Traversed}
 use Rattle.traversal.specs.Fit.{TraverseFit}
 use Rattle.traversal.proofs.Reach.{rows-low, traverse-visits}
@@ -19,8 +19,8 @@ use Rattle.traversal.proofs.Tasks.{tasks, under, tasks-over}
 use Rattle.traversal.proofs.Going.{Going, stateOf, held}
 
 module _ {w₀ w : List ℕ} {starts values c roots q n base d k e at end : ℕ} (fit : TraverseFit w₀ starts values c roots q n base) (g : Going w₀ w starts values c roots q n base d k e at end) where
-  run-through : d ≡ 0 → end ≤ e → Runs (rowAt (part w₀ starts (n + 1)) (part w₀ values c)) (tries (part w₀ roots q)) (record { marks = part w₀ base n; out = []; low = [] }) (stateOf w base n k)
-  run-through z h = g .goes (stateOf w base n k) (subst (λ ts. Runs (rowAt (part w₀ starts (n + 1)) (part w₀ values c)) ts (stateOf w base n k) (stateOf w base n k)) (sym over) nothing)
+  run-through : d ≡ 0 → end ≤ e → Runs (rowsIn w₀ starts values c n) (tries (part w₀ roots q)) (record { marks = part w₀ base n; out = []; low = [] }) (stateOf w base n k)
+  run-through z h = g .goes (stateOf w base n k) (subst (λ ts. Runs (rowsIn w₀ starts values c n) ts (stateOf w base n k) (stateOf w base n k)) (sym over) nothing)
     where
       over :
           tasks (part w₀ starts (n + 1)) (part w₀ values c) (part w₀ roots q) q (part w (base + n) n) (part w (base + 2 * n) n) (part w (base + 3 * n) n) d e ≡ []
@@ -30,7 +30,7 @@ module _ {w₀ w : List ℕ} {starts values c roots q n base d k e at end : ℕ}
 
   pub ended :
       part w₀ base n ≡ replicate n 0 → d ≡ 0 → end ≤ e
-      → Kept w₀ w base (6 * n) × Traversed (traverse (rowAt (part w₀ starts (n + 1)) (part w₀ values c)) (suc n) (part w₀ roots q) []) w base n k
+      → Kept w₀ w base (6 * n) × Traversed (traverse (rowsIn w₀ starts values c n) (suc n) (part w₀ roots q) []) w base n k
   ended clear z h =
       let next-low = rows-low (part w₀ starts (n + 1)) (part w₀ values c) (fit .values-low) in
       let roots-low = below-in n (part w₀ roots q) (fit .roots-low) in
@@ -67,6 +67,6 @@ module _ {w w' : List ℕ} {starts values c roots q n base : ℕ} (fit : Travers
 
   pub traversed-all :
       {w'' : List ℕ} {r : ℕ} → Kept w' w'' base (6 * n)
-      → Traversed (traverse (rowAt (part w' starts (n + 1)) (part w' values c)) (suc n) (part w' roots q) []) w'' base n r
-      → Kept w w'' base (6 * n) × Traversed (traverse (rowAt (part w starts (n + 1)) (part w values c)) (suc n) (part w roots q) []) w'' base n r
+      → Traversed (traverse (rowsIn w' starts values c n) (suc n) (part w' roots q) []) w'' base n r
+      → Kept w w'' base (6 * n) × Traversed (traverse (rowsIn w starts values c n) (suc n) (part w roots q) []) w'' base n r
   traversed-all k t = (kept-then wide k, rw (starts-same, values-same, roots-same) at t)

@@ -13,7 +13,7 @@ use Rattle.lineage.specs.Lists.{part}
 use Rattle.lineage.specs.Stored.{rowAt}
 use Rattle.numbers.specs.Regions.{Kept}
 use Rattle.numbers.proofs.Regions.{part-length, part-at, kept-same, kept-then}
-use Rattle.rows.specs.Rows.{Below}
+use Rattle.rows.specs.Rows.{Below, rowsIn}
 use Rattle.rows.proofs.Regions.{kept-apart, read-at}
 use Rattle.rows.proofs.Laid.{start-low}
 use Rattle.traversal.specs.Frames.{opened, closed, rowPlace, rowEnd}
@@ -54,10 +54,10 @@ pub record Going (w₀ w : List ℕ) (starts values c roots q n base d k e at en
   pub fits : e < 2 ^ 32
   pub goes :
       (fin : State)
-      → Runs (rowAt (part w₀ starts (n + 1)) (part w₀ values c))
+      → Runs (rowsIn w₀ starts values c n)
       (tasks (part w₀ starts (n + 1)) (part w₀ values c) (part w₀ roots q) q (part w (base + n) n) (part w (base + 2 * n) n) (part w (base + 3 * n) n) d e)
       (stateOf w base n k) fin
-      → Runs (rowAt (part w₀ starts (n + 1)) (part w₀ values c)) (tries (part w₀ roots q)) (record { marks = part w₀ base n; out = []; low = [] }) fin
+      → Runs (rowsIn w₀ starts values c n) (tries (part w₀ roots q)) (record { marks = part w₀ base n; out = []; low = [] }) fin
 
 -- what is left to do
 abbrev pub toGo : List ℕ → ℕ → ℕ → ℕ → ℕ → ℕ → ℕ → ℕ

@@ -5,8 +5,8 @@ ghost use Prim.Native.Nat.{ℕ, suc, _+_, _*_, _≤_, _<_};
 ghost use lib.ListN.{length, getD, replicate};
 ghost use Rattle.lineage.specs.Lists.{part};
 ghost use Rattle.lineage.specs.Labels.{traverse};
-ghost use Rattle.lineage.specs.Stored.{rowAt};
 ghost use Rattle.numbers.specs.Regions.{Kept};
+ghost use Rattle.rows.specs.Rows.{rowsIn};
 ghost use Rattle.traversal.specs.Lows.{Traversed};
 ghost use Rattle.traversal.specs.Frames.{opened, closed, rowPlace, rowEnd};
 ghost use Rattle.traversal.specs.Fit.{TraverseFit};
@@ -79,7 +79,7 @@ fn run(
     ensures { λ _. ⌜ Kept (now (w .entry)) (now (w .exit)) base (6 * n) ⌝ }
     ensures { λ r.
         ⌜ Traversed
-        (traverse (rowAt (part (now (w .entry)) starts (n + 1)) (part (now (w .entry)) values c)) (suc n) (part (now (w .entry)) roots q) [])
+        (traverse (rowsIn (now (w .entry)) starts values c n) (suc n) (part (now (w .entry)) roots q) [])
         (now (w .exit))
         base
         n
@@ -130,7 +130,7 @@ pub fn traverse(
     ensures { λ _. ⌜ Kept (now (w .entry)) (now (w .exit)) base (6 * n) ⌝ }
     ensures { λ r.
         ⌜ Traversed
-        (traverse (rowAt (part (now (w .entry)) starts (n + 1)) (part (now (w .entry)) values c)) (suc n) (part (now (w .entry)) roots q) [])
+        (traverse (rowsIn (now (w .entry)) starts values c n) (suc n) (part (now (w .entry)) roots q) [])
         (now (w .exit))
         base
         n

@@ -1,5 +1,5 @@
 -- `labels::row_level` meets its contract. The invariant: `level` is the greatest of one more than the levels of the places passed.
-use Prim.Native.Nat.{_+_, _-_, _≤_}
+use Prim.Native.Nat.{_+_, _-_, _^_, _≤_}
 use native.Mathlib.Omega.{arith}
 use borrow.Author.Needs.{needs}
 use Rattle.labels.proofs.Rows.{Place, Climbing, climbing-none, row-place, word-small, climbing-more, climbing-all}
@@ -47,7 +47,7 @@ add-greater-2 : tie.Need-add-greater-2 Inv-loop μ-loop
 add-greater-2 c =
     let l = c .before .before .before in
     let s = l .before .before in
-    record { fits = word-small (s .pre .0) (l .loop .i) _ (s .pre .1) (c .before .before .loop-test .taken) }
+    omega (arith, word-small (s .pre .0) (l .loop .i) (2 ^ 32) (s .pre .1) (c .before .before .loop-test .taken))
 
 greater-requires : tie.Need-greater-requires Inv-loop μ-loop
 greater-requires c κs = search needs

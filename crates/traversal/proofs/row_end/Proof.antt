@@ -2,6 +2,7 @@
 use Prim.Native.Nat.{ℕ, _+_, _-_, _<_}
 use native.Mathlib.Omega.{arith}
 use borrow.Author.Needs.{needs}
+use mir.Facts.{fits-32-64}
 use lib.ListN.{getD}
 use Rattle.lineage.specs.Lists.{part}
 use Rattle.traversal.proofs.Frames.{vertex-is, end-above}
@@ -52,7 +53,7 @@ shared-slice-read-result : tie.Need-shared-slice-read-result
 shared-slice-read-result c = omega (arith, vertex-low (c .before .before))
 
 cast-result : tie.Need-cast-result
-cast-result c = let t = c .before .before in omega (arith, c .shared-slice-known2 .given (t .before .args .starts + vertex t + 1))
+cast-result c = fits-32-64 (c .shared-slice-known2 .given _)
 
 returns-2 : tie.Need-returns-2
 returns-2 c =

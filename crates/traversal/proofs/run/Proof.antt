@@ -4,6 +4,7 @@ use mathlib.Core.Path.{_≡_}
 use Prim.Native.Nat.{ℕ, suc, _+_, _*_, _-_, _^_, _≤_, _<_}
 use native.Mathlib.Omega.{arith}
 use borrow.Author.Needs.{needs}
+use mir.Facts.{fits-32-64}
 use lib.ListN.{length, getD}
 use Rattle.traversal.proofs.Going.{Going, toGo, going-none, room-now, entry-inside, next-fits, v-low, going-past, past-less, space, going-in, in-less, end-fits, going-out, out-less, held}
 use Rattle.traversal.proofs.Ended.{ended}
@@ -107,7 +108,7 @@ slice-read-e : tie.Need-slice-read-e Inv-loop μ-loop
 slice-read-e c = omega (arith, row-inside (c .before .before .before))
 
 cast-e : tie.Need-cast-e Inv-loop μ-loop
-cast-e c = let t = c .before .before .before .before .before .before .before .before in omega (arith, c .slice-known5 .given (start (t .before) .args .starts + vertex t))
+cast-e c = fits-32-64 (c .slice-known5 .given _)
 
 add-end : tie.Need-add-end Inv-loop μ-loop
 add-end c = let t = c .before .before .before .before .before .before .before .before in omega (arith, row-fits t, start (t .before) .good)
@@ -122,7 +123,7 @@ slice-read-end : tie.Need-slice-read-end Inv-loop μ-loop
 slice-read-end c = omega (arith, row-inside (c .before .before .before .before))
 
 cast-end : tie.Need-cast-end Inv-loop μ-loop
-cast-end c = let t = c .before .before .before .before .before .before .before .before .before in omega (arith, c .slice-known6 .given (start (t .before) .args .starts + vertex t + 1))
+cast-end c = fits-32-64 (c .slice-known6 .given _)
 
 loop-less : tie.Need-loop-less Inv-loop μ-loop
 loop-less c =
