@@ -1,0 +1,97 @@
+-- What a text says, or its first bad line (document 01, "Text program").
+use mathlib.Core.Bool.{Bool, true, false, _&&_}
+use mathlib.Core.List.{List, [], _∷_, _++_}
+use Prim.Native.Nat.{ℕ, zero, suc, _+_}
+use lib.Dec.{eqb, leb}
+use lib.ListN.{length, getD, drop}
+use Rattle.lineage.specs.Lists.{joined}
+use Rattle.lineage.specs.Stored.{mostLabellings}
+use Rattle.text.specs.Lines.{bytes, Line, linesOf, lineIs, numbersIn}
+
+-- at most 32,768 bytes
+abbrev pub mostBytes : ℕ
+mostBytes = 32768
+
+-- n at most 512
+abbrev pub mostVertices : ℕ
+mostVertices = 512
+
+-- edges at most 2,000
+abbrev pub mostEdges : ℕ
+mostEdges = 2000
+
+-- lines of one kind, one after the other: how many, their numbers, and the lines behind them
+pub record Block : Type 0 where
+  pub count : ℕ
+  pub numbers : List ℕ
+  pub rest : List Line
+
+-- no line more
+abbrev pub stop : List Line → Block
+stop lines = record { count = 0; numbers = []; rest = lines }
+
+-- the line, then those of the block
+abbrev pub withLine : Line → Block → Block
+withLine l B = record { count = suc (B .count); numbers = numbersIn l ++ B .numbers; rest = B .rest }
+
+abbrev pub goOn : Bool → Line → List Line → (List Line → Block) → Block
+goOn true l lines block = withLine l (block lines)
+goOn false l lines block = stop (l ∷ lines)
+
+-- the lines of this letter and `size` numbers that stand first, at most `most`
+unfoldable pub block : List ℕ → ℕ → ℕ → List Line → Block
+unfolding lineIs
+block first size zero lines = stop lines
+block first size (suc most) [] = stop []
+block first size (suc most) (l ∷ []) = stop (l ∷ [])
+block first size (suc most) (l ∷ (l' ∷ more)) = goOn (lineIs first size l) l (l' ∷ more) (λ lines. block first size most lines)
+
+-- n; the edges; the orders, of which there are d, one after the other; of each question its source and its target
+pub record Text : Type 0 where
+  pub n : ℕ
+  pub sources : List ℕ
+  pub targets : List ℕ
+  pub d : ℕ
+  pub orders : List ℕ
+  pub asked : List ℕ
+
+-- what a good text says, or the first bad line from 1
+pub data Reading : Type 0 where
+  says : Text → Reading
+  badLine : ℕ → Reading
+
+-- the first of each two numbers
+abbrev pub everyOther : List ℕ → List ℕ
+everyOther [] = []
+everyOther (x ∷ []) = x ∷ []
+everyOther (x ∷ (y ∷ more)) = x ∷ everyOther more
+
+-- nothing stands behind the last LF: the one piece that is left is one word without a byte
+abbrev pub isEnd : List Line → Bool
+isEnd lines = eqb (length lines) 1 && (eqb (length (joined lines)) 1 && eqb (length (joined (joined lines))) 0)
+
+abbrev pub judged : Bool → Bool → Text → ℕ → Reading
+judged false end t good = badLine 1
+judged true false t good = badLine (suc good)
+judged true true t good = says t
+
+-- `v n` once, then `e from to`, then at most five `o` lines of exactly n numbers, then any number of `q source target`, and no line more
+unfoldable pub reading : List ℕ → Reading
+unfolding linesOf block
+reading text =
+    let v : Block = block (bytes "v") 1 1 (linesOf text) in
+    let n : ℕ = getD (v .numbers) 0 0 in
+    let e : Block = block (bytes "e") 2 mostEdges (v .rest) in
+    let o : Block = block (bytes "o") n mostLabellings (e .rest) in
+    let q : Block = block (bytes "q") 2 (length (o .rest)) (o .rest) in
+    judged (eqb (v .count) 1 && leb n mostVertices)
+    (isEnd (q .rest))
+    (record {
+      n = n;
+      sources = everyOther (e .numbers);
+      targets = everyOther (drop 1 (e .numbers));
+      d = o .count;
+      orders = o .numbers;
+      asked = q .numbers;
+    })
+    (v .count + e .count + o .count + q .count)

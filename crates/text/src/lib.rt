@@ -1,0 +1,1 @@
+// The text program's reader and printer.
