@@ -2,4 +2,5 @@
 pub mod Lines
 pub mod Text
 pub mod Output
+pub mod Reader
 pub mod Examples

@@ -1,1 +1,2 @@
-// The text program's reader and printer.
+// The text program's inside: the line reader, what a text says, and the printer.
+mod line;

@@ -1,0 +1,3 @@
+-- The laws of the text program's reader and printer.
+pub mod Bytes
+pub mod Decimals
