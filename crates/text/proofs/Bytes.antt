@@ -56,17 +56,24 @@ below-digits b h = rw (lt-leb 48 b h)
 pub above-digits : (b : ℕ) → 58 ≤ b → isDigit b ≡ false
 above-digits b h = rw (le-leb 48 b (omega arith), lt-leb b 57 h)
 
+-- no digit and no letter ends a word
+pub digit-goes : (d : ℕ) → isBreak (48 + d) ≡ false
+digit-goes d = rw (ne-eqb (48 + d) 32 (omega arith), ne-eqb (48 + d) 10 (omega arith))
+
+pub letter-goes : (b : ℕ) → 101 ≤ b → isBreak b ≡ false
+letter-goes b h = rw (ne-eqb b 32 (omega arith), ne-eqb b 10 (omega arith))
+
 -- what a kind says of the bytes from there on
 pub data Sees : Byte → List ℕ → Type 0 where
   letter : (b : ℕ) (more : List ℕ) → 101 ≤ b → Sees (Letter b) (b ∷ more)
   digit : (d : ℕ) (more : List ℕ) → d ≤ 9 → Sees (Digit d) ((48 + d) ∷ more)
   blank : (more : List ℕ) → Sees Space (space ∷ more)
   newline : (more : List ℕ) → Sees Lf (lf ∷ more)
-  other : (b : ℕ) (more : List ℕ) → isDigit b ≡ false → isBreak b ≡ false → Sees Other (b ∷ more)
+  other : (b : ℕ) (more : List ℕ) → isLetter b ≡ false → isDigit b ≡ false → isBreak b ≡ false → Sees Other (b ∷ more)
   nothing : Sees End []
 
 -- no letter stands before e
-letter-high : (b : ℕ) → isLetter b ≡ true → 101 ≤ b
+pub letter-high : (b : ℕ) → isLetter b ≡ true → 101 ≤ b
 letter-high b e = go (leb 101 b) refl
   where
     go : (t : Bool) → leb 101 b ≡ t → 101 ≤ b
@@ -91,7 +98,7 @@ module _ (b : ℕ) (more : List ℕ) where
   sees-by false true z w l d s n = sees-digit d
   sees-by false false true w l d s n = subst (λ (x : ℕ). Sees Space (x ∷ more)) (sym (eqb-true b space s)) (blank more)
   sees-by false false false true l d s n = subst (λ (x : ℕ). Sees Lf (x ∷ more)) (sym (eqb-true b lf n)) (newline more)
-  sees-by false false false false l d s n = other b more d (rw (s, n))
+  sees-by false false false false l d s n = other b more l d (rw (s, n))
 
 sees : (s : List ℕ) → Sees (byteIn s) s
 unfolding byteIn
@@ -107,7 +114,7 @@ long (letter b more e) h = omega arith
 long (digit d more e) h = omega arith
 long (blank more) h = omega arith
 long (newline more) h = omega arith
-long (other b more e f) h = omega arith
+long (other b more l e f) h = omega arith
 long nothing h = absurd (h refl)
 
 -- where a byte is seen the text goes on

@@ -17,14 +17,11 @@ use Rattle.text.specs.declared.line.Byte.the-variants.{Digit}
 use Rattle.text.specs.declared.line.Number.the-variants.{Good as GoodNumber, Bad as BadNumber}
 use Rattle.text.specs.Lines.{isDigit, digitOf, valueFrom, value, isDecimal}
 use Rattle.text.specs.Reader.{isBreak, word, isEnded, digitsIn, numberIn}
-use Rattle.text.proofs.Bytes.{tag, above-digits, Sees, letter, digit, blank, newline, other, nothing}
+use Rattle.text.proofs.Bytes.{tag, above-digits, digit-goes, letter-goes, Sees, letter, digit, blank, newline, other, nothing}
 
--- the byte of a digit is a digit, and no space or LF
+-- the byte of a digit
 digit-is : (d : ℕ) → d ≤ 9 → isDigit (48 + d) ≡ true
 digit-is d h = rw (le-leb 48 (48 + d) (omega arith), le-leb (48 + d) 57 (omega arith))
-
-digit-goes : (d : ℕ) → isBreak (48 + d) ≡ false
-digit-goes d = rw (ne-eqb (48 + d) 32 (omega arith), ne-eqb (48 + d) 10 (omega arith))
 
 digit-value : (d : ℕ) → digitOf (48 + d) ≡ d
 digit-value d = omega arith
@@ -51,18 +48,18 @@ module _ (v i : ℕ) where
   number-ends l (digit d more e) h = absurd (miss (2 ∷ 3 ∷ []) 1 tt h)
   number-ends l (blank more) h = rw (leb·zero l, add-zero i)
   number-ends l (newline more) h = rw (leb·zero l, add-zero i)
-  number-ends l (other b more e f) h = absurd (miss (2 ∷ 3 ∷ []) 4 tt h)
+  number-ends l (other b more n e f) h = absurd (miss (2 ∷ 3 ∷ []) 4 tt h)
   number-ends l nothing h = absurd (miss (2 ∷ 3 ∷ []) 5 tt h)
 
   -- anything else
   pub number-strays : (l : ℕ) {x : Byte} {s : List ℕ} → Sees x s → OneOf (0 ∷ 4 ∷ 5 ∷ []) (tag x) → BadNumber ≡ digitsIn l v i s
   unfolding digitsIn word isEnded
   number-strays l (letter b more e) h =
-      rw (ne-eqb b 32 (omega arith), ne-eqb b 10 (omega arith), above-digits b (omega arith), and-false (isEnded more))
+      rw (letter-goes b e, above-digits b (omega arith), and-false (isEnded more))
   number-strays l (digit d more e) h = absurd (miss (0 ∷ 4 ∷ 5 ∷ []) 1 tt h)
   number-strays l (blank more) h = absurd (miss (0 ∷ 4 ∷ 5 ∷ []) 2 tt h)
   number-strays l (newline more) h = absurd (miss (0 ∷ 4 ∷ 5 ∷ []) 3 tt h)
-  number-strays l (other b more e f) h = rw (f, e, and-false (isEnded more))
+  number-strays l (other b more n e f) h = rw (f, e, and-false (isEnded more))
   number-strays l nothing h = refl
 
 -- one turn: a digit more
@@ -134,9 +131,9 @@ module _ (most at : ℕ) where
   pub number-none : {x : Byte} {s : List ℕ} → Sees x s → OneOf (0 ∷ 2 ∷ 3 ∷ 4 ∷ 5 ∷ []) (tag x) → BadNumber ≡ numberIn most at s
   unfolding numberIn word isEnded isDecimal
   number-none (letter b more e) h =
-      rw (ne-eqb b 32 (omega arith), ne-eqb b 10 (omega arith), above-digits b (omega arith), and-false (isEnded more))
+      rw (letter-goes b e, above-digits b (omega arith), and-false (isEnded more))
   number-none (digit d more e) h = absurd (miss (0 ∷ 2 ∷ 3 ∷ 4 ∷ 5 ∷ []) 1 tt h)
   number-none (blank more) h = refl
   number-none (newline more) h = refl
-  number-none (other b more e f) h = rw (f, e, and-false (isEnded more))
+  number-none (other b more n e f) h = rw (f, e, and-false (isEnded more))
   number-none nothing h = refl

@@ -1,3 +1,4 @@
 -- The laws of the text program's reader and printer.
 pub mod Bytes
 pub mod Decimals
+pub mod Words

@@ -29,20 +29,28 @@ isDigit b = leb (code "0") b && leb b (code "9")
 abbrev pub digitOf : ℕ → ℕ
 digitOf b = b - code "0"
 
--- the byte b in front of the first piece
-abbrev pub inFront : ℕ → List (List ℕ) → List (List ℕ)
-inFront b [] = (b ∷ []) ∷ []
-inFront b (piece ∷ more) = (b ∷ piece) ∷ more
+abbrev pub keep : Bool → ℕ → List ℕ → List ℕ
+keep true b piece = []
+keep false b piece = b ∷ piece
 
--- a separator begins a new piece, any other byte stands in front of the first
-abbrev pub cut : Bool → ℕ → List (List ℕ) → List (List ℕ)
-cut true b pieces = [] ∷ pieces
-cut false b pieces = inFront b pieces
+-- the bytes before the first separator
+unfoldable pub firstPiece : ℕ → List ℕ → List ℕ
+firstPiece separator [] = []
+firstPiece separator (b ∷ more) = keep (eqb b separator) b (firstPiece separator more)
 
--- the pieces before, between and behind the separators
-unfoldable pub pieces : ℕ → List ℕ → List (List ℕ)
-pieces separator [] = [] ∷ []
-pieces separator (b ∷ more) = cut (eqb b separator) b (pieces separator more)
+abbrev pub begin : Bool → List ℕ → List (List ℕ) → List (List ℕ)
+begin true piece others = piece ∷ others
+begin false piece others = others
+
+-- the pieces behind the first separator
+unfoldable pub otherPieces : ℕ → List ℕ → List (List ℕ)
+unfolding firstPiece
+otherPieces separator [] = []
+otherPieces separator (b ∷ more) = begin (eqb b separator) (firstPiece separator more) (otherPieces separator more)
+
+-- the pieces before, between and behind the separators: one more than there are separators
+abbrev pub pieces : ℕ → List ℕ → List (List ℕ)
+pieces separator s = firstPiece separator s ∷ otherPieces separator s
 
 -- a line is its words, with single spaces between them
 abbrev pub Line : Type 0
@@ -50,7 +58,7 @@ Line = List (List ℕ)
 
 -- lines end in one LF. The last piece is what stands behind the last LF: no line, since no LF ends it
 unfoldable pub linesOf : List ℕ → List Line
-unfolding pieces
+unfolding firstPiece otherPieces
 linesOf text = map (pieces space) (pieces lf text)
 
 -- a decimal of 1 to `most` digits without needless zeros

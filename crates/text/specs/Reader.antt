@@ -12,7 +12,7 @@ use Rattle.text.specs.declared.line.Number.{Number}
 use Rattle.text.specs.declared.line.Number.the-variants.{Good as GoodNumber, Bad as BadNumber}
 use Rattle.text.specs.declared.line.Line.{Line as LineRead}
 use Rattle.text.specs.declared.line.Line.the-variants.{Good as GoodLine, Bad as BadLine}
-use Rattle.text.specs.Lines.{space, lf, isDigit, digitOf, pieces, isDecimal, valueFrom, value, Line, lineIs, numbersIn}
+use Rattle.text.specs.Lines.{space, lf, isDigit, digitOf, keep, firstPiece, otherPieces, pieces, isDecimal, valueFrom, value, Line, lineIs, numbersIn}
 
 -- a letter that begins a line
 abbrev pub isLetter : ℕ → Bool
@@ -38,14 +38,10 @@ byteIn (b ∷ more) = kind b
 abbrev pub isBreak : ℕ → Bool
 isBreak b = eqb b space || eqb b lf
 
-abbrev pub wordBy : Bool → ℕ → List ℕ → List ℕ
-wordBy true b word = []
-wordBy false b word = b ∷ word
-
 -- the word that stands first
 unfoldable pub word : List ℕ → List ℕ
 word [] = []
-word (b ∷ more) = wordBy (isBreak b) b (word more)
+word (b ∷ more) = keep (isBreak b) b (word more)
 
 -- a space or LF ends that word
 unfoldable pub isEnded : List ℕ → Bool
@@ -81,15 +77,18 @@ abbrev pub foundIf : Bool → Line → ℕ → Found
 foundIf true l size = found (numbersIn l) size
 foundIf false l size = none
 
-abbrev pub firstLine : List ℕ → ℕ → List (List ℕ) → Found
-firstLine first size [] = none
-firstLine first size (l ∷ []) = none
-firstLine first size (l ∷ (l' ∷ more)) = foundIf (lineIs first size (pieces space l)) (pieces space l) (suc (length l))
+abbrev pub isMore : List (List ℕ) → Bool
+isMore [] = false
+isMore (piece ∷ others) = true
 
--- the line that stands first, where it is this word and `size` numbers; its bytes count from here
+-- the words before the first LF
+abbrev pub wordsIn : List ℕ → Line
+wordsIn s = pieces space (firstPiece lf s)
+
+-- the line that stands first, where an LF ends it and it is this word and `size` numbers; its bytes count from here
 unfoldable pub lineIn : List ℕ → ℕ → List ℕ → Found
-unfolding pieces lineIs
-lineIn first size s = firstLine first size (pieces lf s)
+unfolding firstPiece otherPieces lineIs
+lineIn first size s = foundIf (isMore (otherPieces lf s) && lineIs first size (wordsIn s)) (wordsIn s) (suc (length (firstPiece lf s)))
 
 -- what a call that reads a line gives, with the numbers that it left in the list
 abbrev pub foundBy : LineRead → List ℕ → Found
