@@ -193,6 +193,7 @@ module _ (text : List ℕ) (p k : ℕ) (spaced : Sees Space (drop p text)) where
     where
       r : List ℕ
       r = drop (p + 1) text
+
       go : (x y : Bool) → isEnded r ≡ x → isDecimal mostDigits (word r) ≡ y → BadNumber ≡ numberBy (x && y) (value (word r)) (p + 1 + length (word r))
           → lineIn [] (suc k) (space ∷ r) ≡ none
       go true true f d h = absurd (true≢false cc)
@@ -238,3 +239,28 @@ module _ (text into : List ℕ) (base size : ℕ) where
     pub still-unended : {x : Byte} → j ≡ size → Sees x (drop p text) → OneOf (0 ∷ 1 ∷ 2 ∷ 4 ∷ 5 ∷ []) (tag x) → none ≡ still text into base size j p
     unfolding still
     still-unended full e h = rw (full, sub-self size, no-end e h)
+
+module _ (size c : ℕ) where
+  same-letter : {b : ℕ} {s : List ℕ} → Sees (Letter b) s → b ≡ c → lineIn (c ∷ []) size s ≡ after [] 1 (lineIn [] size (drop 1 s))
+  same-letter (letter b more h) e = rw (← e) (byte-same b (letter-goes b h) size more [])
+
+  -- another letter stands first
+  pub other-letter : {b : ℕ} {s : List ℕ} → Sees (Letter b) s → (b ≡ c → ⊥) → lineIn (c ∷ []) size s ≡ none
+  other-letter (letter b more h) e = byte-other b (letter-goes b h) size more c [] (ne-eqb b c e)
+
+  -- no letter stands first
+  pub no-letter : {x : Byte} {s : List ℕ} → isLetter c ≡ true → Sees x s → OneOf (1 ∷ 2 ∷ 3 ∷ 4 ∷ 5 ∷ []) (tag x) → lineIn (c ∷ []) size s ≡ none
+  unfolding lineIn firstPiece otherPieces lineIs
+  no-letter l (letter b more h) e = absurd (miss (1 ∷ 2 ∷ 3 ∷ 4 ∷ 5 ∷ []) 0 tt e)
+  no-letter l (digit d more h) e = byte-other (48 + d) (digit-goes d) size more c [] (ne-eqb (48 + d) c (omega (arith, letter-high c l)))
+  no-letter l (blank more) e = rw (and-false (isMore (otherPieces lf more)))
+  no-letter l (newline more) e = refl
+  no-letter l (other b more n h f) e = byte-other b f size more c [] (ne-eqb b c (λ q. true≢false (sym l ∙ (ap isLetter (sym q) ∙ n))))
+  no-letter l nothing e = refl
+
+-- behind the letter stand the numbers
+pub letter-passed : (text ns : List ℕ) (at size c : ℕ) {b : ℕ} → Sees (Letter b) (drop at text) → b ≡ c
+    → after ns (at + 1) (lineIn [] size (drop (at + 1) text)) ≡ after ns at (lineIn (c ∷ []) size (drop at text))
+letter-passed text ns at size c e same =
+    let rest : Found = lineIn [] size (drop (at + 1) text) in
+    rw (same-letter size c e same, drop-drop 1 at text, after-after rest ns [] at 1, append-nil ns)

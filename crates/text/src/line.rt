@@ -1,9 +1,10 @@
 // The line reader. A match on byte values and ranges says what stands at a position; numbers and lines are read by that alone.
 ghost use mathlib.Core.Path.{_≡_};
+ghost use mathlib.Core.Bool.{true};
 ghost use mathlib.Core.List.{_∷_, []};
 ghost use Prim.Native.Nat.{_+_, _*_, _^_, _≤_};
 ghost use lib.ListN.{length, take, drop};
-ghost use Rattle.text.specs.Reader.{byteIn, digitsIn, numberIn, lineIn, after, foundBy};
+ghost use Rattle.text.specs.Reader.{isLetter, byteIn, digitsIn, numberIn, lineIn, after, foundBy};
 
 // What stands at a position: a letter that begins a line, a digit's value, a space, LF, another byte, or the text's end.
 pub enum Byte {
@@ -120,7 +121,7 @@ fn read_numbers(text: &[u8], at: usize, size: usize, into: &mut [u32], base: usi
 
 // A line of this letter and `size` numbers.
 fn read_line(text: &[u8], at: usize, letter: u8, size: usize, into: &mut [u32], base: usize) -> Line
-    requires { ⌜ base + size ≤ length (now into) ⌝ }
+    requires { ⌜ (isLetter letter ≡ true) × (base + size ≤ length (now into)) ⌝ }
     ensures { λ r. ⌜ foundBy r (take (base + size) (now (into .exit))) ≡ after (take base (now (into .entry))) at (lineIn (letter ∷ []) size (drop at (now (text .entry)))) ⌝ }
 {
     match byte_at(text, at) {

@@ -1,42 +1,54 @@
+-- `text::line::read_line` meets its contract: behind its letter a line is its numbers.
+use mathlib.Core.Path.{sym, ap, _∙_}
+use Prim.Native.Nat.{_<_}
+use native.Mathlib.Omega.{arith}
 use borrow.Author.Needs.{needs}
+use lib.ListN.{length, take, drop}
+use Rattle.text.specs.declared.line.Byte.the-variants.{Letter}
+use Rattle.text.specs.Reader.{after}
+use Rattle.text.proofs.Bytes.{Sees, seen, within}
+use Rattle.text.proofs.Words.{letter-passed, other-letter, no-letter}
 use Rattle.text.proofs.line.read_line.Statement.{statement}
 use Rattle.text.proofs.line.read_line.Tie as tie
-use Rattle.text.proofs.line.read_line.Reads as reads
-use Rattle.text.proofs.line.read_line.Lts as lts
-use Rattle.text.proofs.line.byte_at.Reads as byte-at-reads
-use Rattle.text.proofs.line.read_numbers.Reads as read-numbers-reads
 
--- src/line.rt:126:11
 byte-at-requires : tie.Need-byte-at-requires
 byte-at-requires c κs = search needs
 
--- src/line.rt:127:22
 enum-known-b : tie.Need-enum-known-b
 enum-known-b c = search needs
 
--- src/line.rt:129:36
-add-read-numbers : tie.Need-add-read-numbers
-add-read-numbers c = ?
+-- the letter that stands first
+here : (c : tie.After-b) → Sees (Letter (c .b .given .0 .0)) (drop (c .before .before .before .before .before .args .at) (c .before .before .before .before .before .args .text .now))
+here c = seen _ _ (sym (c .b .given .1) ∙ c .before .before .byte-at .ensures)
 
--- src/line.rt:129:17
+inside : (c : tie.After-b) → c .before .before .before .before .before .args .at < length (c .before .before .before .before .before .args .text .now)
+inside c = within _ _ (here c) (λ e. omega arith)
+
+add-read-numbers : tie.Need-add-read-numbers
+add-read-numbers c = omega (arith, inside (c .before .before), c .before .before .before .before .before .before .before .good)
+
 read-numbers-requires : tie.Need-read-numbers-requires
 read-numbers-requires c κs = search needs
 
--- src/line.rt:122:1
 same-length : tie.Need-same-length
 same-length c = search needs
 
--- src/line.rt:122:1
 returns : tie.Need-returns
-returns c = ?
+returns c =
+    let t = c .before .before .before .before in
+    let a = t .before .before .before .before .before .before .before .args in
+    c .before .before .read-numbers .ensures
+    ∙ letter-passed (a .text .now) (take (a .base) (a .into .now)) (a .at) (a .size) (a .letter) (here (t .before .before)) (t .if1 .taken)
 
--- src/line.rt:122:1
 returns-2 : tie.Need-returns-2
-returns-2 c = ?
+returns-2 c =
+    let a = c .before .before .before .before .before .before .before .args in
+    sym (ap (after (take (a .base) (a .into .now)) (a .at)) (other-letter _ _ (here (c .before .before)) (c .if1 .left)))
 
--- src/line.rt:122:1
 returns-3 : tie.Need-returns-3
-returns-3 c = ?
+returns-3 c =
+    let s = c .before .before .before .before in
+    sym (ap (after (take (s .args .base) (s .args .into .now)) (s .args .at)) (no-letter _ _ (s .pre .0) (seen _ _ (c .before .byte-at .ensures)) (c .match .keys2)))
 
 pub read-line-spec : {M : Type 1} → statement M
 read-line-spec =
