@@ -2,3 +2,4 @@
 pub mod Bytes
 pub mod Decimals
 pub mod Words
+pub mod Blocks

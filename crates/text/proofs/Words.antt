@@ -8,7 +8,7 @@ use native.Mathlib.Nat.{add-zero, sub-zero, sub-self}
 use native.Mathlib.Omega.{arith}
 use lib.Dec.{eqb, eqb·suc-suc, eqb·zero-suc, eqb·suc-zero}
 use lib.ListN.{length, take, drop, set}
-use lib.Seq.{drop-drop, take-suc-set}
+use lib.Seq.{drop-drop, take-suc-set, take-set-le}
 use borrow.Author.Tests.{ne-eqb, eq-eqb}
 use types.Run.{OneOf, miss}
 use Rattle.lineage.specs.Lists.{allOf, sameList}
@@ -199,6 +199,10 @@ module _ (text : List ℕ) (p k : ℕ) (spaced : Sees Space (drop p text)) where
       go true true f d h = absurd (true≢false cc)
       go true false f d h = space-stray k r d
       go false y f d h = space-last k r f
+
+-- a number is stored behind what stands in front
+pub front-kept : (into : List ℕ) (base j v : ℕ) → take base (set into (base + j) v) ≡ take base into
+front-kept into base j v = take-set-le base into (base + j) v (omega arith)
 
 -- j numbers of a line stand in the list from `base` on, and p is the position behind them: these, then what is still to be read
 unfoldable pub still : List ℕ → List ℕ → ℕ → ℕ → ℕ → ℕ → Found

@@ -3,4 +3,5 @@ pub mod Lines
 pub mod Text
 pub mod Output
 pub mod Reader
+pub mod Blocks
 pub mod Examples

@@ -1,10 +1,11 @@
 -- What the line reader's functions find in the bytes from a position on.
 use mathlib.Core.Bool.{Bool, true, false, _&&_, _||_}
 use mathlib.Core.List.{List, [], _∷_, _++_}
+use mathlib.Core.Path.{_≡_}
 use Prim.Native.Nat.{ℕ, suc, _+_}
 use Prim.Native.Char.{code}
 use lib.Dec.{eqb, leb}
-use lib.ListN.{length}
+use lib.ListN.{length, take}
 use Rattle.lineage.specs.Lists.{allOf}
 use Rattle.text.specs.declared.line.Byte.{Byte}
 use Rattle.text.specs.declared.line.Byte.the-variants.{Letter, Digit, Space, Lf, Other, End}
@@ -94,3 +95,8 @@ lineIn first size s = foundIf (isMore (otherPieces lf s) && lineIs first size (w
 abbrev pub foundBy : LineRead → List ℕ → Found
 foundBy (GoodLine next) numbers = found numbers next
 foundBy BadLine numbers = none
+
+-- a line read into a list from `base` on: what stands in front is kept, and the line's numbers follow it
+pub record Into (r : LineRead) (line : Found) (at base size : ℕ) (entry exit : List ℕ) : Type 0 where
+  pub kept : take base exit ≡ take base entry
+  pub read : foundBy r (take (base + size) exit) ≡ after (take base entry) at line

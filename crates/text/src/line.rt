@@ -3,8 +3,8 @@ ghost use mathlib.Core.Path.{_≡_};
 ghost use mathlib.Core.Bool.{true};
 ghost use mathlib.Core.List.{_∷_, []};
 ghost use Prim.Native.Nat.{_+_, _*_, _^_, _≤_};
-ghost use lib.ListN.{length, take, drop};
-ghost use Rattle.text.specs.Reader.{isLetter, byteIn, digitsIn, numberIn, lineIn, after, foundBy};
+ghost use lib.ListN.{length, drop};
+ghost use Rattle.text.specs.Reader.{isLetter, byteIn, digitsIn, numberIn, lineIn, Into};
 
 // What stands at a position: a letter that begins a line, a digit's value, a space, LF, another byte, or the text's end.
 pub enum Byte {
@@ -98,7 +98,7 @@ pub enum Line {
 // Exactly `size` numbers, each behind a single space, then LF. They go into the list from `base` on.
 fn read_numbers(text: &[u8], at: usize, size: usize, into: &mut [u32], base: usize) -> Line
     requires { ⌜ base + size ≤ length (now into) ⌝ }
-    ensures { λ r. ⌜ foundBy r (take (base + size) (now (into .exit))) ≡ after (take base (now (into .entry))) at (lineIn [] size (drop at (now (text .entry)))) ⌝ }
+    ensures { λ r. ⌜ Into r (lineIn [] size (drop at (now (text .entry)))) at base size (now (into .entry)) (now (into .exit)) ⌝ }
 {
     let mut j = 0;
     let mut p = at;
@@ -120,9 +120,16 @@ fn read_numbers(text: &[u8], at: usize, size: usize, into: &mut [u32], base: usi
 }
 
 // A line of this letter and `size` numbers.
-fn read_line(text: &[u8], at: usize, letter: u8, size: usize, into: &mut [u32], base: usize) -> Line
+pub fn read_line(
+    text: &[u8],
+    at: usize,
+    letter: u8,
+    size: usize,
+    into: &mut [u32],
+    base: usize,
+) -> Line
     requires { ⌜ (isLetter letter ≡ true) × (base + size ≤ length (now into)) ⌝ }
-    ensures { λ r. ⌜ foundBy r (take (base + size) (now (into .exit))) ≡ after (take base (now (into .entry))) at (lineIn (letter ∷ []) size (drop at (now (text .entry)))) ⌝ }
+    ensures { λ r. ⌜ Into r (lineIn (letter ∷ []) size (drop at (now (text .entry)))) at base size (now (into .entry)) (now (into .exit)) ⌝ }
 {
     match byte_at(text, at) {
         Byte::Letter(b) => {

@@ -1,5 +1,5 @@
 -- `text::line::read_line` meets its contract: behind its letter a line is its numbers.
-use mathlib.Core.Path.{sym, ap, _∙_}
+use mathlib.Core.Path.{refl, sym, ap, _∙_}
 use Prim.Native.Nat.{_<_}
 use native.Mathlib.Omega.{arith}
 use borrow.Author.Needs.{needs}
@@ -37,18 +37,22 @@ returns : tie.Need-returns
 returns c =
     let t = c .before .before .before .before in
     let a = t .before .before .before .before .before .before .before .args in
-    c .before .before .read-numbers .ensures
-    ∙ letter-passed (a .text .now) (take (a .base) (a .into .now)) (a .at) (a .size) (a .letter) (here (t .before .before)) (t .if1 .taken)
+    let e = c .before .before .read-numbers .ensures in
+    record {
+      kept = e .kept;
+      read = e .read ∙ letter-passed (a .text .now) (take (a .base) (a .into .now)) (a .at) (a .size) (a .letter) (here (t .before .before)) (t .if1 .taken);
+    }
 
 returns-2 : tie.Need-returns-2
 returns-2 c =
     let a = c .before .before .before .before .before .before .before .args in
-    sym (ap (after (take (a .base) (a .into .now)) (a .at)) (other-letter _ _ (here (c .before .before)) (c .if1 .left)))
+    record { kept = refl; read = sym (ap (after (take (a .base) (a .into .now)) (a .at)) (other-letter _ _ (here (c .before .before)) (c .if1 .left))) }
 
 returns-3 : tie.Need-returns-3
 returns-3 c =
     let s = c .before .before .before .before in
-    sym (ap (after (take (s .args .base) (s .args .into .now)) (s .args .at)) (no-letter _ _ (s .pre .0) (seen _ _ (c .before .byte-at .ensures)) (c .match .keys2)))
+    let none = no-letter _ _ (s .pre .0) (seen _ _ (c .before .byte-at .ensures)) (c .match .keys2) in
+    record { kept = refl; read = sym (ap (after (take (s .args .base) (s .args .into .now)) (s .args .at)) none) }
 
 pub read-line-spec : {M : Type 1} → statement M
 read-line-spec =

@@ -8,20 +8,21 @@ use mathlib.Core.List.{[]}
 use Rattle.text.specs.declared.line.Byte.the-variants.{Space, Lf}
 use Rattle.text.specs.Reader.{after, lineIn}
 use Rattle.text.proofs.Bytes.{Sees, seen, within}
-use Rattle.text.proofs.Words.{still, still-begins, still-turns, still-unspaced, still-missing, still-ends, still-unended}
+use Rattle.text.proofs.Words.{still, still-begins, still-turns, front-kept, still-unspaced, still-missing, still-ends, still-unended}
 use Rattle.text.proofs.line.read_numbers.Statement.{statement}
 use Rattle.text.proofs.line.read_numbers.Tie as tie
 
 abbrev Inv-loop : tie.InvT-loop
 Inv-loop text at size into₀ base j₀ p₀ into j p =
     (j ≤ size)
-    × ((length into ≡ length into₀) × (still text into base size j p ≡ after (take base into₀) at (lineIn [] size (drop at text))))
+    × ((length into ≡ length into₀)
+    × ((take base into ≡ take base into₀) × (still text into base size j p ≡ after (take base into₀) at (lineIn [] size (drop at text)))))
 
 abbrev μ-loop : tie.MeasureT-loop
 μ-loop text at size into₀ base j₀ p₀ into j p = size - j
 
 loop-holds : tie.Need-loop-holds Inv-loop μ-loop
-loop-holds c = (omega arith, (refl, still-begins _ _ _ _ _))
+loop-holds c = (omega arith, (refl, (refl, still-begins _ _ _ _ _)))
 
 byte-at-requires : tie.Need-byte-at-requires Inv-loop μ-loop
 byte-at-requires c κs = tt
@@ -34,8 +35,11 @@ same-length c = c .before .before .before .loop .inv .1 .0
 
 returns : tie.Need-returns Inv-loop μ-loop
 returns c =
-    still-unspaced _ _ _ _ _ _ (c .before .before .loop-test .taken) (seen _ _ (c .before .byte-at .ensures)) (c .match .keys2)
-    ∙ c .before .before .before .loop .inv .1 .1
+    let i = c .before .before .before .loop .inv in
+    record {
+      kept = i .1 .1 .0;
+      read = still-unspaced _ _ _ _ _ _ (c .before .before .loop-test .taken) (seen _ _ (c .before .byte-at .ensures)) (c .match .keys2) ∙ i .1 .1 .1;
+    }
 
 -- at a number: the turn's start, and the function's
 abbrev turn : tie.After-enum-told Inv-loop μ-loop → tie.At-loop Inv-loop μ-loop
@@ -73,8 +77,13 @@ same-length-2 c = turn (c .before .before .before) .loop .inv .1 .0
 returns-2 : tie.Need-returns-2 Inv-loop μ-loop
 returns-2 c =
     let a = c .before .before .before in
-    still-missing _ _ _ _ _ _ (a .before .before .before .loop-test .taken) (spaced a) (sym (c .enum-told2 .given .1) ∙ c .before .before .read-number .ensures)
-    ∙ turn a .loop .inv .1 .1
+    let low = a .before .before .before .loop-test .taken in
+    record {
+      kept = turn a .loop .inv .1 .1 .0;
+      read =
+          still-missing _ _ _ _ _ _ low (spaced a) (sym (c .enum-told2 .given .1) ∙ c .before .before .read-number .ensures)
+          ∙ turn a .loop .inv .1 .1 .1;
+    }
 
 add-into : tie.Need-add-into Inv-loop μ-loop
 add-into c =
@@ -101,7 +110,9 @@ loop-again : tie.Need-loop-again Inv-loop μ-loop
 loop-again c =
     let a = c .before .before .before .before in
     let low = a .before .before .before .loop-test .taken in
-    (omega (arith, low), (simp length-set (turn a .loop .inv .1 .0), still-turns _ _ _ _ _ _ _ _ low (room a) (spaced a) (sym (c .before .value .given .1) ∙ c .before .before .before .read-number .ensures) ∙ turn a .loop .inv .1 .1))
+    let i = turn a .loop .inv in
+    let number = sym (c .before .value .given .1) ∙ c .before .before .before .read-number .ensures in
+    (omega (arith, low), (simp length-set (i .1 .0), (front-kept (turn a .loop .into) (start (turn a) .args .base) (turn a .loop .j) _ ∙ i .1 .1 .0, still-turns _ _ _ _ _ _ _ _ low (room a) (spaced a) number ∙ i .1 .1 .1)))
 
 byte-at-requires-2 : tie.Need-byte-at-requires-2 Inv-loop μ-loop
 byte-at-requires-2 c κs = tt
@@ -126,15 +137,20 @@ same-length-3 : tie.Need-same-length-3 Inv-loop μ-loop
 same-length-3 c = c .before .before .before .before .loop .inv .1 .0
 
 returns-3 : tie.Need-returns-3 Inv-loop μ-loop
-returns-3 c = still-ends _ _ _ _ _ _ (full (c .before .before .before)) (ended c) ∙ c .before .before .before .before .loop .inv .1 .1
+returns-3 c =
+    let i = c .before .before .before .before .loop .inv in
+    record { kept = i .1 .1 .0; read = still-ends _ _ _ _ _ _ (full (c .before .before .before)) (ended c) ∙ i .1 .1 .1 }
 
 same-length-4 : tie.Need-same-length-4 Inv-loop μ-loop
 same-length-4 c = c .before .before .before .loop .inv .1 .0
 
 returns-4 : tie.Need-returns-4 Inv-loop μ-loop
 returns-4 c =
-    still-unended _ _ _ _ _ _ (full (c .before .before)) (seen _ _ (c .before .byte-at2 .ensures)) (c .match3 .keys2)
-    ∙ c .before .before .before .loop .inv .1 .1
+    let i = c .before .before .before .loop .inv in
+    record {
+      kept = i .1 .1 .0;
+      read = still-unended _ _ _ _ _ _ (full (c .before .before)) (seen _ _ (c .before .byte-at2 .ensures)) (c .match3 .keys2) ∙ i .1 .1 .1;
+    }
 
 pub read-numbers-spec : {M : Type 1} → statement M
 read-numbers-spec =
