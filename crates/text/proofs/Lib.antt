@@ -3,3 +3,4 @@ pub mod Bytes
 pub mod Decimals
 pub mod Words
 pub mod Blocks
+pub mod Pairs

@@ -11,5 +11,6 @@ pub record BlockInto (text : List ℕ) (at letter size most count next : ℕ) (e
   pub read :
       _≡_ {A = Block} (record { count = count; numbers = take (count * size) exit; rest = linesOf (drop next text) })
       (block (letter ∷ []) size most (linesOf (drop at text)))
+  pub few : count ≤ most
   pub inside : next ≤ length text
   pub spent : at + count * (2 * size + 2) ≤ next

@@ -3,7 +3,7 @@ use mathlib.Core.Bool.{Bool, true, false, _&&_}
 use mathlib.Core.List.{List, [], _∷_, _++_}
 use Prim.Native.Nat.{ℕ, zero, suc, _+_}
 use lib.Dec.{eqb, leb}
-use lib.ListN.{length, getD, drop}
+use lib.ListN.{length, getD}
 use Rattle.lineage.specs.Lists.{joined}
 use Rattle.lineage.specs.Stored.{mostLabellings}
 use Rattle.text.specs.Lines.{bytes, Line, linesOf, lineIs, numbersIn}
@@ -60,11 +60,11 @@ pub data Reading : Type 0 where
   says : Text → Reading
   badLine : ℕ → Reading
 
--- the first of each two numbers
-abbrev pub everyOther : List ℕ → List ℕ
-everyOther [] = []
-everyOther (x ∷ []) = x ∷ []
-everyOther (x ∷ (y ∷ more)) = x ∷ everyOther more
+-- of each pair of numbers the first (k = 0) or the second (k = 1)
+abbrev pub ofPairs : ℕ → List ℕ → List ℕ
+ofPairs k [] = []
+ofPairs k (x ∷ []) = []
+ofPairs k (x ∷ (y ∷ more)) = getD (x ∷ y ∷ []) k 0 ∷ ofPairs k more
 
 -- nothing stands behind the last LF: the one piece that is left is one word without a byte
 abbrev pub isEnd : List Line → Bool
@@ -88,8 +88,8 @@ reading text =
     (isEnd (q .rest))
     (record {
       n = n;
-      sources = everyOther (e .numbers);
-      targets = everyOther (drop 1 (e .numbers));
+      sources = ofPairs 0 (e .numbers);
+      targets = ofPairs 1 (e .numbers);
       d = o .count;
       orders = o .numbers;
       asked = q .numbers;

@@ -54,6 +54,7 @@ returns c =
     let q = turn r .loop .inv in
     record {
       read = passed-stops _ _ _ _ _ _ _ _ (into-is (c .enum-told .given .1) (r .read-line .ensures)) ∙ q .whole;
+      few = q .few;
       inside = q .inside;
       spent = q .spent;
     }
@@ -78,7 +79,7 @@ same-length-2 c = c .before .loop .inv .long
 returns-2 : tie.Need-returns-2 Inv-loop μ-loop
 returns-2 c =
     let q = c .before .loop .inv in
-    record { read = passed-full _ _ _ _ _ _ _ (omega (arith, c .loop-test .left, q .few)) ∙ q .whole; inside = q .inside; spent = q .spent }
+    record { read = passed-full _ _ _ _ _ _ _ (omega (arith, c .loop-test .left, q .few)) ∙ q .whole; few = q .few; inside = q .inside; spent = q .spent }
 
 pub read-block-spec : {M : Type 1} → statement M
 read-block-spec =
