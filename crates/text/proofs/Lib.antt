@@ -4,3 +4,4 @@ pub mod Decimals
 pub mod Words
 pub mod Blocks
 pub mod Pairs
+pub mod Whole

@@ -4,8 +4,8 @@ ghost use mathlib.Core.Bool.{true};
 ghost use Prim.Native.Nat.{_*_, _≤_, _<_};
 ghost use lib.ListN.{length, take};
 ghost use Rattle.text.specs.Reader.{isLetter};
-ghost use Rattle.text.specs.Text.{ofPairs};
-ghost use Rattle.text.specs.Blocks.{BlockInto};
+ghost use Rattle.text.specs.Text.{mostBytes, ofPairs};
+ghost use Rattle.text.specs.Blocks.{BlockInto, Lent, TextInto};
 use crate::line::Line;
 use crate::line::read_line;
 
@@ -51,7 +51,13 @@ fn take_column(pairs: &[u32], k: usize, count: usize, into: &mut [u32])
     }
 }
 
-// What a text says, by its counts; or its first bad line.
+fn index(x: u32) -> usize
+    ensures { λ r. ⌜ r ≡ x ⌝ }
+{
+    x as usize
+}
+
+// What a good text says: n, and how many edges, orders and questions the lists hold; or the first bad line.
 pub enum Reading {
     Says {
         n: usize,
@@ -60,4 +66,42 @@ pub enum Reading {
         questions: usize,
     },
     BadLine(usize),
+}
+
+// `v n` once, then `e from to`, then at most five `o` lines of exactly n numbers, then any number of `q source target`, and no line more.
+pub fn read_text(
+    text: &[u8],
+    sources: &mut [u32],
+    targets: &mut [u32],
+    orders: &mut [u32],
+    asked: &mut [u32],
+) -> Reading
+    requires { ⌜ length (now text) ≤ mostBytes ⌝ }
+    requires { ⌜ Lent (now sources) (now targets) (now orders) (now asked) ⌝ }
+    ensures { λ r. ⌜ TextInto r (now (text .entry)) (now (sources .exit)) (now (targets .exit)) (now (orders .exit)) (now (asked .exit)) ⌝ }
+{
+    let mut first = [0u32; 1];
+    let v = read_block(text, 0, b'v', 1, 1, &mut first);
+    if v.count == 0 {
+        return Reading::BadLine(1);
+    }
+    let n = index(first[0]);
+    if 512 < n {
+        return Reading::BadLine(1);
+    }
+    let mut pairs = [0u32; 4000];
+    let e = read_block(text, v.at, b'e', 2, 2000, &mut pairs);
+    let o = read_block(text, e.at, b'o', n, 5, orders);
+    let q = read_block(text, o.at, b'q', 2, 5462, asked);
+    if q.at < text.len() {
+        return Reading::BadLine(2 + e.count + o.count + q.count);
+    }
+    take_column(&pairs, 0, e.count, sources);
+    take_column(&pairs, 1, e.count, targets);
+    Reading::Says {
+        n: n,
+        edges: e.count,
+        orders: o.count,
+        questions: q.count,
+    }
 }
