@@ -5,3 +5,4 @@ pub mod Words
 pub mod Blocks
 pub mod Pairs
 pub mod Whole
+pub mod Putting

@@ -4,4 +4,5 @@ pub mod Text
 pub mod Output
 pub mod Reader
 pub mod Blocks
+pub mod Printer
 pub mod Examples

@@ -1,0 +1,45 @@
+// The printer: bytes, words and decimals, put into a lent buffer at a position. Each call gives back the position behind what it put.
+ghost use mathlib.Core.List.{_∷_, []};
+ghost use mathlib.Core.Path.{_≡_};
+ghost use Prim.Native.Nat.{_+_, _%_, _≤_, _<_};
+ghost use lib.ListN.{length};
+ghost use Rattle.text.specs.Output.{decimal};
+ghost use Rattle.text.specs.Printer.{Put};
+
+fn put_byte(out: &mut [u8], at: usize, b: u8) -> usize
+    requires { ⌜ at < length (now out) ⌝ }
+    ensures { λ r. ⌜ Put (now (out .entry)) at (b ∷ []) r (now (out .exit)) ⌝ }
+{
+    out[at] = b;
+    at + 1
+}
+
+pub fn put_word(out: &mut [u8], at: usize, word: &[u8]) -> usize
+    requires { ⌜ at + length (now word) ≤ length (now out) ⌝ }
+    ensures { λ r. ⌜ Put (now (out .entry)) at (now (word .entry)) r (now (out .exit)) ⌝ }
+{
+    let mut j = 0;
+    while j < word.len() {
+        out[at + j] = word[j];
+        j += 1;
+    }
+    at + j
+}
+
+fn digit(x: u32) -> u8
+    ensures { λ r. ⌜ r ≡ 48 + x % 10 ⌝ }
+{
+    (48 + x % 10) as u8
+}
+
+// A number in decimal: its tenth part, then the last digit.
+pub fn put_number(out: &mut [u8], at: usize, x: u32) -> usize
+    requires { ⌜ at + 10 ≤ length (now out) ⌝ }
+    ensures { λ r. ⌜ Put (now (out .entry)) at (decimal x) r (now (out .exit)) ⌝ }
+{
+    if x < 10 {
+        return put_byte(out, at, digit(x));
+    }
+    let p = put_number(out, at, x / 10);
+    put_byte(out, p, digit(x))
+}
