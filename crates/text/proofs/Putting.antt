@@ -10,7 +10,7 @@ use lib.Dec.{ltb}
 use lib.ListN.{length, getD, take, drop, set, length-append, take-append-drop}
 use lib.Seq.{take-all, length-take-le, take-at, drop-at, drop-drop, take-suc, set-split}
 use borrow.Author.Tests.{lt-ltb, le-ltb, ltb-true, ltb-false}
-use Rattle.text.specs.Output.{digits, decimalBy, decimal}
+use Rattle.text.specs.Output.{digits, decimalBy, decimal, said}
 use Rattle.text.specs.Printer.{placed, Put}
 
 -- what stands in front of bytes that were put, and those bytes
@@ -125,3 +125,7 @@ word-turns out mid word at j p room low front =
 
 pub word-ends : (out mid word : List ℕ) (at j : ℕ) → j ≡ length word → Put out at (take j word) (at + j) mid → Put out at word (at + j) mid
 word-ends out mid word at j e p = put-same (take-all j word (omega arith)) p
+
+-- yes or no, by the test that was made
+pub said-is : (says t : Bool) (reason opened : ℕ) → says ≡ t → said (record { says = t; reason = reason; opened = opened }) ≡ said (record { says = says; reason = reason; opened = opened })
+said-is says t reason opened e = ap (λ (b : Bool). said (record { says = b; reason = reason; opened = opened })) (sym e)

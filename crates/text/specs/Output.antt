@@ -24,18 +24,26 @@ decimalBy (suc f) x = digits (ltb x 10) x (λ y. decimalBy f y)
 abbrev pub decimal : ℕ → List ℕ
 decimal x = decimalBy 10 x
 
+-- two numbers
+abbrev pub twoNumbers : ℕ → ℕ → List ℕ
+twoNumbers x y = decimal x ++ (bytes " " ++ decimal y)
+
 -- `refused`, number, extra
 abbrev pub refusal : ℕ → ℕ → List ℕ
-refusal number extra = bytes "refused " ++ (decimal number ++ (bytes " " ++ decimal extra))
+refusal number extra = bytes "refused " ++ twoNumbers number extra
 
--- yes or no, reason, groups opened; or `refused`, number, extra
+-- yes or no, reason, groups opened
+abbrev pub said : Said → List ℕ
+said a = cond (a .says) (bytes "yes ") (bytes "no ") ++ twoNumbers (a .reason) (a .opened)
+
+-- an answer, or a refusal
 abbrev pub told : Outcome Said → List ℕ
 told (refused number extra) = refusal number extra
-told (answered a) = cond (a .says) (bytes "yes ") (bytes "no ") ++ (decimal (a .reason) ++ (bytes " " ++ decimal (a .opened)))
+told (answered a) = said a
 
 -- `q`, source, target, then what the question was told
 abbrev pub questionLine : ℕ → ℕ → Outcome Said → List ℕ
-questionLine u v o = bytes "q " ++ (decimal u ++ (bytes " " ++ (decimal v ++ (bytes " " ++ (told o ++ bytes "\n")))))
+questionLine u v o = bytes "q " ++ (twoNumbers u v ++ (bytes " " ++ (told o ++ bytes "\n")))
 
 -- one line per question, asked of the stored bytes
 unfoldable pub answersTo : List ℕ → List ℕ → List ℕ

@@ -3,7 +3,7 @@ ghost use mathlib.Core.List.{_∷_, []};
 ghost use mathlib.Core.Path.{_≡_};
 ghost use Prim.Native.Nat.{_+_, _%_, _≤_, _<_};
 ghost use lib.ListN.{length};
-ghost use Rattle.text.specs.Output.{decimal};
+ghost use Rattle.text.specs.Output.{decimal, twoNumbers, refusal, said};
 ghost use Rattle.text.specs.Printer.{Put};
 
 fn put_byte(out: &mut [u8], at: usize, b: u8) -> usize
@@ -42,4 +42,36 @@ pub fn put_number(out: &mut [u8], at: usize, x: u32) -> usize
     }
     let p = put_number(out, at, x / 10);
     put_byte(out, p, digit(x))
+}
+
+// Two numbers with a space between them.
+pub fn put_two(out: &mut [u8], at: usize, x: u32, y: u32) -> usize
+    requires { ⌜ at + 21 ≤ length (now out) ⌝ }
+    ensures { λ r. ⌜ Put (now (out .entry)) at (twoNumbers x y) r (now (out .exit)) ⌝ }
+{
+    let a = put_number(out, at, x);
+    let b = put_byte(out, a, b' ');
+    put_number(out, b, y)
+}
+
+pub fn put_refusal(out: &mut [u8], at: usize, number: u32, extra: u32) -> usize
+    requires { ⌜ at + 29 ≤ length (now out) ⌝ }
+    ensures { λ r. ⌜ Put (now (out .entry)) at (refusal number extra) r (now (out .exit)) ⌝ }
+{
+    let a = put_word(out, at, b"refused ");
+    put_two(out, a, number, extra)
+}
+
+// Yes or no, the reason, and the groups opened.
+pub fn put_said(out: &mut [u8], at: usize, says: bool, reason: u32, opened: u32) -> usize
+    requires { ⌜ at + 25 ≤ length (now out) ⌝ }
+    ensures { λ r. ⌜ Put (now (out .entry)) at (said (record { says = says; reason = reason; opened = opened })) r (now (out .exit)) ⌝ }
+{
+    if says {
+        let a = put_word(out, at, b"yes ");
+        put_two(out, a, reason, opened)
+    } else {
+        let a = put_word(out, at, b"no ");
+        put_two(out, a, reason, opened)
+    }
 }
