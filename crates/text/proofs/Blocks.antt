@@ -15,7 +15,7 @@ use Rattle.text.specs.declared.line.Line.{Line as LineRead}
 use Rattle.text.specs.declared.line.Line.the-variants.{Good as GoodLine, Bad as BadLine}
 use Rattle.text.specs.Lines.{space, lf, keep, firstPiece, begin, otherPieces, pieces, Line, linesOf, isDecimal, mostDigits, lineIs, numbersIn}
 use Rattle.text.specs.Reader.{Found, found, none, after, foundIf, isMore, wordsIn, lineIn, Into}
-use Rattle.text.specs.Text.{Block, stop, withLine, goOn, block}
+use Rattle.text.specs.Text.{Block, stop, block}
 
 -- how many bytes pieces take with the separators in front of them
 abbrev spread : List (List ℕ) → ℕ

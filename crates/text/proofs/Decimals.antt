@@ -1,10 +1,9 @@
 -- Reading a number, digit by digit: what is still to be read of its word says the same as the word from the start.
-use mathlib.Core.Bool.{Bool, true, false, _&&_, _||_, not, and-true, and-false, or-true}
+use mathlib.Core.Bool.{Bool, true, false, _&&_, _||_, and-true, and-false, or-true}
 use mathlib.Core.List.{List, [], _∷_}
-use mathlib.Core.Logic.{inl, inr}
-use mathlib.Core.Path.{_≡_, refl, sym, ap, _∙_, subst}
+use mathlib.Core.Path.{_≡_, refl, sym, ap, _∙_}
 use Prim.Native.Nat.{ℕ, zero, suc, _+_, _-_, _*_, _^_, _≤_, _<_}
-use native.Mathlib.Nat.{pow-succ', mul-le-mul-right, mul-assoc, mul-left-comm, le-mul-of-pos-right, one-le-pow, pow-le-pow-right, add-zero}
+use native.Mathlib.Nat.{pow-succ', mul-le-mul-right, mul-assoc, le-mul-of-pos-right, one-le-pow, pow-le-pow-right, add-zero}
 use native.Mathlib.Omega.{arith}
 use lib.Dec.{eqb, leb, leb·zero, leb·suc-suc, leb·suc-zero}
 use lib.ListN.{length, drop}
@@ -16,7 +15,7 @@ use Rattle.text.specs.declared.line.Byte.{Byte}
 use Rattle.text.specs.declared.line.Byte.the-variants.{Digit}
 use Rattle.text.specs.declared.line.Number.the-variants.{Good as GoodNumber, Bad as BadNumber}
 use Rattle.text.specs.Lines.{isDigit, digitOf, valueFrom, value, isDecimal}
-use Rattle.text.specs.Reader.{isBreak, word, isEnded, digitsIn, numberIn}
+use Rattle.text.specs.Reader.{word, isEnded, digitsIn, numberIn}
 use Rattle.text.proofs.Bytes.{tag, above-digits, digit-goes, letter-goes, Sees, letter, digit, blank, newline, other, nothing}
 
 -- the byte of a digit

@@ -1,16 +1,18 @@
 -- Bytes put into a buffer: what is put behind what was put is put as one, and a number's digits are those of its tenth part and the last.
-use mathlib.Core.Bool.{Bool, true, false}
+use mathlib.Core.Bool.{Bool, true, false, cond}
 use mathlib.Core.List.{List, [], _∷_, _++_, append-assoc}
 use mathlib.Core.Path.{_≡_, refl, sym, ap, ap₂, _∙_, subst}
-use Prim.Native.Nat.{ℕ, zero, suc, _+_, _-_, _*_, _/_, _%_, _^_, _≤_, _<_}
+use Prim.Native.Nat.{ℕ, zero, suc, _+_, _/_, _%_, _^_, _≤_, _<_}
 use native.Mathlib.Nat.{add-zero, div-lt-iff-lt-mul, pow-suc}
 use native.Mathlib.Numerals.{add-one}
 use native.Mathlib.Omega.{arith}
 use lib.Dec.{ltb}
 use lib.ListN.{length, getD, take, drop, set, length-append, take-append-drop}
 use lib.Seq.{take-all, length-take-le, take-at, drop-at, drop-drop, take-suc, set-split}
-use borrow.Author.Tests.{lt-ltb, le-ltb, ltb-true, ltb-false}
-use Rattle.text.specs.Output.{digits, decimalBy, decimal, said}
+use borrow.Author.Tests.{lt-ltb, le-ltb}
+use Rattle.lineage.specs.Calls.{Outcome, refused, answered, Said}
+use Rattle.text.specs.Output.{digits, decimalBy, decimal, twoNumbers, said, told, question, questionLine}
+use Rattle.text.specs.Lines.{bytes}
 use Rattle.text.specs.Printer.{placed, Put}
 
 -- what stands in front of bytes that were put, and those bytes
@@ -129,3 +131,21 @@ word-ends out mid word at j e p = put-same (take-all j word (omega arith)) p
 -- yes or no, by the test that was made
 pub said-is : (says t : Bool) (reason opened : ℕ) → says ≡ t → said (record { says = t; reason = reason; opened = opened }) ≡ said (record { says = says; reason = reason; opened = opened })
 said-is says t reason opened e = ap (λ (b : Bool). said (record { says = b; reason = reason; opened = opened })) (sym e)
+
+-- How long a line is at most: any number has at most ten digits.
+pub two-short : (x y : ℕ) → length (twoNumbers x y) ≤ 21
+two-short x y = omega (arith, number-short x, number-short y, length-append (decimal x) (bytes " " ++ decimal y))
+
+told-short : (o : Outcome Said) → length (told o) ≤ 29
+told-short (refused number extra) = omega (arith, two-short number extra)
+told-short (answered a) = go (a .says) (two-short (a .reason) (a .opened))
+  where
+    go : (t : Bool) → length (twoNumbers (a .reason) (a .opened)) ≤ 21 → length (cond t (bytes "yes ") (bytes "no ") ++ twoNumbers (a .reason) (a .opened)) ≤ 29
+    go true h = omega arith
+    go false h = omega arith
+
+-- the line of a question
+pub line-short : (u v : ℕ) (o : Outcome Said) → length (questionLine u v o) ≤ 54
+line-short u v o =
+    omega
+    (arith, length-append (question u v) (told o ++ bytes "\n"), length-append (twoNumbers u v) (bytes " "), two-short u v, length-append (told o) (bytes "\n"), told-short o)

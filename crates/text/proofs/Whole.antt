@@ -1,19 +1,19 @@
 -- A whole text: its four blocks, one behind the other, and what they say together.
-use mathlib.Core.Bool.{Bool, true, false, true≢false, false≢true, _&&_, and-false}
+use mathlib.Core.Bool.{Bool, true, false, _&&_, and-false}
 use mathlib.Core.List.{List, [], _∷_, _++_, map}
-use mathlib.Core.Path.{_≡_, refl, sym, ap, _∙_, subst}
-use Prim.Native.Nat.{ℕ, zero, suc, _+_, _-_, _*_, _≤_, _<_}
+use mathlib.Core.Path.{_≡_, refl, ap, _∙_, subst}
+use Prim.Native.Nat.{ℕ, zero, suc, _+_, _*_, _≤_, _<_}
 use native.Mathlib.Omega.{arith}
-use lib.Dec.{eqb, leb, eqb·suc-suc, eqb·suc-zero}
-use lib.ListN.{length, getD, take, drop, drop-of-length-le, length-drop, length-append}
+use lib.Dec.{eqb, leb, eqb·suc-zero}
+use lib.ListN.{length, getD, take, drop, drop-of-length-le}
 use lib.Seq.{drop-cons, getD-take}
-use borrow.Author.Tests.{ne-eqb, eq-eqb, le-leb, lt-leb}
+use borrow.Author.Tests.{ne-eqb, le-leb, lt-leb}
 use Rattle.lineage.specs.Lists.{joined}
 use Rattle.lineage.specs.Stored.{mostLabellings}
 use Rattle.text.specs.Lines.{bytes, space, lf, keep, firstPiece, begin, otherPieces, pieces, Line, linesOf, lineIs}
 use Rattle.text.specs.Blocks.{BlockInto, mostQuestions, readingOf}
 use Rattle.text.specs.declared.read.Reading.the-variants.{Says}
-use Rattle.text.specs.Text.{mostBytes, Block, stop, withLine, goOn, block, mostEdges, mostVertices, Text, Reading, says, badLine, ofPairs, isEnd, judged, reading}
+use Rattle.text.specs.Text.{mostBytes, Block, withLine, goOn, block, mostEdges, mostVertices, Text, Reading, badLine, ofPairs, isEnd, judged, reading}
 
 -- a block ends before the last piece
 block-short : (first : List ℕ) (size most : ℕ) (l : Line) (lines : List Line) → block first size most (l ∷ lines) .count ≤ length lines

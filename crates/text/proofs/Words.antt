@@ -1,9 +1,8 @@
 -- Reading a line, word by word: what is still to be read of a line, behind the words passed, says the same as the whole line.
-use mathlib.Core.Bool.{Bool, true, false, true≢false, _&&_, _||_, and-false, and-true}
+use mathlib.Core.Bool.{Bool, true, false, true≢false, _&&_, _||_, and-false}
 use mathlib.Core.List.{List, [], _∷_, _++_, map, append-assoc, append-nil}
-use mathlib.Core.Logic.{inl, inr}
-use mathlib.Core.Path.{_≡_, refl, sym, ap, ap₂, _∙_, subst}
-use Prim.Native.Nat.{ℕ, zero, suc, _+_, _-_, _*_, _≤_, _<_}
+use mathlib.Core.Path.{_≡_, refl, sym, ap, ap₂, _∙_}
+use Prim.Native.Nat.{ℕ, suc, _+_, _-_, _<_}
 use native.Mathlib.Nat.{add-zero, sub-zero, sub-self}
 use native.Mathlib.Omega.{arith}
 use lib.Dec.{eqb, eqb·suc-suc, eqb·zero-suc, eqb·suc-zero}
@@ -15,7 +14,7 @@ use Rattle.lineage.specs.Lists.{allOf, sameList}
 use Rattle.text.specs.declared.line.Byte.{Byte}
 use Rattle.text.specs.declared.line.Byte.the-variants.{Letter, Space, Lf}
 use Rattle.text.specs.declared.line.Number.the-variants.{Good as GoodNumber, Bad as BadNumber}
-use Rattle.text.specs.Lines.{space, lf, keep, firstPiece, otherPieces, pieces, value, isDecimal, mostDigits, Line, lineIs, numbersIn}
+use Rattle.text.specs.Lines.{space, lf, keep, firstPiece, otherPieces, value, isDecimal, mostDigits, Line, lineIs, numbersIn}
 use Rattle.text.specs.Reader.{isLetter, isBreak, word, isEnded, numberBy, numberIn, Found, found, none, after, foundIf, isMore, wordsIn, lineIn}
 use Rattle.text.proofs.Bytes.{tag, letter-high, letter-goes, digit-goes, Sees, letter, digit, blank, newline, other, nothing}
 

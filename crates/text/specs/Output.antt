@@ -7,7 +7,7 @@ use lib.Dec.{ltb}
 use lib.ListN.{length}
 use Rattle.lineage.specs.Stored.{form1, encode}
 use Rattle.lineage.specs.Calls.{Input, Outcome, refused, answered, Said, built, buildAnswer, askAnswer}
-use Rattle.text.specs.Lines.{bytes, lf}
+use Rattle.text.specs.Lines.{bytes}
 use Rattle.text.specs.Text.{Text, Reading, says, badLine, reading, mostBytes, mostVertices, mostEdges}
 
 -- a number below 10 is one digit; any other is the digits of its tenth part, then the last digit
@@ -41,9 +41,13 @@ abbrev pub told : Outcome Said → List ℕ
 told (refused number extra) = refusal number extra
 told (answered a) = said a
 
--- `q`, source, target, then what the question was told
+-- `q`, source, target
+abbrev pub question : ℕ → ℕ → List ℕ
+question u v = bytes "q " ++ (twoNumbers u v ++ bytes " ")
+
+-- then what the question was told
 abbrev pub questionLine : ℕ → ℕ → Outcome Said → List ℕ
-questionLine u v o = bytes "q " ++ (twoNumbers u v ++ (bytes " " ++ (told o ++ bytes "\n")))
+questionLine u v o = question u v ++ (told o ++ bytes "\n")
 
 -- one line per question, asked of the stored bytes
 unfoldable pub answersTo : List ℕ → List ℕ → List ℕ

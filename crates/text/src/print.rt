@@ -3,7 +3,7 @@ ghost use mathlib.Core.List.{_∷_, []};
 ghost use mathlib.Core.Path.{_≡_};
 ghost use Prim.Native.Nat.{_+_, _%_, _≤_, _<_};
 ghost use lib.ListN.{length};
-ghost use Rattle.text.specs.Output.{decimal, twoNumbers, refusal, said};
+ghost use Rattle.text.specs.Output.{decimal, twoNumbers, question, refusal, said};
 ghost use Rattle.text.specs.Printer.{Put};
 
 fn put_byte(out: &mut [u8], at: usize, b: u8) -> usize
@@ -52,6 +52,16 @@ pub fn put_two(out: &mut [u8], at: usize, x: u32, y: u32) -> usize
     let a = put_number(out, at, x);
     let b = put_byte(out, a, b' ');
     put_number(out, b, y)
+}
+
+// `q`, source, target, and the space before what the question is told.
+pub fn put_question(out: &mut [u8], at: usize, source: u32, target: u32) -> usize
+    requires { ⌜ at + 24 ≤ length (now out) ⌝ }
+    ensures { λ r. ⌜ Put (now (out .entry)) at (question source target) r (now (out .exit)) ⌝ }
+{
+    let a = put_word(out, at, b"q ");
+    let b = put_two(out, a, source, target);
+    put_byte(out, b, b' ')
 }
 
 pub fn put_refusal(out: &mut [u8], at: usize, number: u32, extra: u32) -> usize

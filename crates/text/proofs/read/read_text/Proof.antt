@@ -1,6 +1,5 @@
 -- `text::read::read_text` meets its contract: the four blocks are read one behind the other, and together they say what the text says.
 use mathlib.Core.Path.{_≡_, refl, sym}
-use Prim.Native.Nat.{_≤_}
 use native.Mathlib.Nat.{pos-of-ne-zero}
 use native.Mathlib.Omega.{arith}
 use borrow.Author.Needs.{needs}
