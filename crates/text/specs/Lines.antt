@@ -29,6 +29,7 @@ isDigit b = leb (code "0") b && leb b (code "9")
 abbrev pub digitOf : ℕ → ℕ
 digitOf b = b - code "0"
 
+-- a separator ends the piece, any other byte stands in it
 abbrev pub keep : Bool → ℕ → List ℕ → List ℕ
 keep true b piece = []
 keep false b piece = b ∷ piece
@@ -38,6 +39,7 @@ unfoldable pub firstPiece : ℕ → List ℕ → List ℕ
 firstPiece separator [] = []
 firstPiece separator (b ∷ more) = keep (eqb b separator) b (firstPiece separator more)
 
+-- a separator begins another piece
 abbrev pub begin : Bool → List ℕ → List (List ℕ) → List (List ℕ)
 begin true piece others = piece ∷ others
 begin false piece others = others

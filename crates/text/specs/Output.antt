@@ -5,7 +5,7 @@ use Prim.Native.Nat.{ℕ, zero, suc, _+_, _*_, _/_, _%_}
 use Prim.Native.Char.{code}
 use lib.Dec.{ltb}
 use lib.ListN.{length}
-use Rattle.lineage.specs.Stored.{form1, encode}
+use Rattle.lineage.specs.Stored.{form1, mostLabellings, encode}
 use Rattle.lineage.specs.Calls.{Input, Outcome, refused, answered, Said, built, buildAnswer, askAnswer}
 use Rattle.text.specs.Lines.{bytes}
 use Rattle.text.specs.Text.{Text, Reading, says, badLine, reading, mostBytes, mostVertices, mostEdges}
@@ -56,12 +56,13 @@ answersTo index [] = []
 answersTo index (u ∷ []) = []
 answersTo index (u ∷ (v ∷ more)) = questionLine u v (askAnswer index u v mostVertices) ++ answersTo index more
 
--- what the program lends a build: words, and bytes for the longest index of a text
+-- the work memory that the program lends a build: 16n + 4 x edges + 64 words at its bounds
 abbrev pub workLent : ℕ
 workLent = 16 * mostVertices + 4 * mostEdges + 64
 
+-- the output that it lends: 50 + 2n + 6k + 2c + 8dk bytes at its bounds
 abbrev pub indexLent : ℕ
-indexLent = 50 + 2 * mostVertices + 6 * mostVertices + 2 * mostEdges + 8 * 5 * mostVertices
+indexLent = 50 + 2 * mostVertices + 6 * mostVertices + 2 * mostEdges + 8 * mostLabellings * mostVertices
 
 -- what a build is lent
 abbrev pub inputOf : Text → Input

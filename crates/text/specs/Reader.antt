@@ -19,6 +19,7 @@ use Rattle.text.specs.Lines.{space, lf, isDigit, digitOf, keep, firstPie
 abbrev pub isLetter : ℕ → Bool
 isLetter b = (eqb b (code "v") || eqb b (code "e")) || (eqb b (code "o") || eqb b (code "q"))
 
+-- by the tests for a letter, a digit, a space and LF
 abbrev pub kindBy : Bool → Bool → Bool → Bool → ℕ → Byte
 kindBy true d s l b = Letter b
 kindBy false true s l b = Digit (digitOf b)
@@ -26,7 +27,7 @@ kindBy false false true l b = Space
 kindBy false false false true b = Lf
 kindBy false false false false b = Other
 
--- letters, digits, space, LF
+-- what a byte is: letters, digits, space, LF
 abbrev pub kind : ℕ → Byte
 kind b = kindBy (isLetter b) (isDigit b) (eqb b space) (eqb b lf) b
 
@@ -49,6 +50,7 @@ unfoldable pub isEnded : List ℕ → Bool
 isEnded [] = false
 isEnded (b ∷ more) = isBreak b || isEnded more
 
+-- a number, or none
 abbrev pub numberBy : Bool → ℕ → ℕ → Number
 numberBy true value next = GoodNumber value next
 numberBy false value next = BadNumber
@@ -74,10 +76,12 @@ abbrev pub after : List ℕ → ℕ → Found → Found
 after numbers at (found more size) = found (numbers ++ more) (at + size)
 after numbers at none = none
 
+-- the numbers of this line, or no such line
 abbrev pub foundIf : Bool → Line → ℕ → Found
 foundIf true l size = found (numbersIn l) size
 foundIf false l size = none
 
+-- a separator stood there
 abbrev pub isMore : List (List ℕ) → Bool
 isMore [] = false
 isMore (piece ∷ others) = true

@@ -34,6 +34,7 @@ stop lines = record { count = 0; numbers = []; rest = lines }
 abbrev pub withLine : Line → Block → Block
 withLine l B = record { count = suc (B .count); numbers = numbersIn l ++ B .numbers; rest = B .rest }
 
+-- a line of the kind and what follows it, or no line more
 abbrev pub goOn : Bool → Line → List Line → (List Line → Block) → Block
 goOn true l lines block = withLine l (block lines)
 goOn false l lines block = stop (l ∷ lines)
@@ -70,6 +71,7 @@ ofPairs k (x ∷ (y ∷ more)) = getD (x ∷ y ∷ []) k 0 ∷ ofPairs k more
 abbrev pub isEnd : List Line → Bool
 isEnd lines = eqb (length lines) 1 && (eqb (length (joined lines)) 1 && eqb (length (joined (joined lines))) 0)
 
+-- whether the first line is good, and whether nothing is left behind the good lines; otherwise the line behind them is bad
 abbrev pub judged : Bool → Bool → Text → ℕ → Reading
 judged false end t good = badLine 1
 judged true false t good = badLine (suc good)

@@ -5,6 +5,7 @@ ghost use mathlib.Core.List.{_∷_, []};
 ghost use Prim.Native.Nat.{_+_, _*_, _^_, _≤_};
 ghost use lib.ListN.{length, drop};
 ghost use Rattle.text.specs.Reader.{isLetter, byteIn, digitsIn, numberIn, lineIn, Into};
+use crate::MOST_DIGITS;
 
 // What stands at a position: a letter that begins a line, a digit's value, a space, LF, another byte, or the text's end.
 pub enum Byte {
@@ -31,7 +32,7 @@ pub fn byte_at(text: &[u8], at: usize) -> Byte
     let b = text[at];
     match b {
         b'v' | b'e' | b'o' | b'q' => Byte::Letter(b),
-        b'0'..=b'9' => Byte::Digit(wide(b) - 48),
+        b'0'..=b'9' => Byte::Digit(wide(b - b'0')),
         b' ' => Byte::Space,
         b'\n' => Byte::Lf,
         _ => Byte::Other,
@@ -106,7 +107,7 @@ fn read_numbers(text: &[u8], at: usize, size: usize, into: &mut [u32], base: usi
         let Byte::Space = byte_at(text, p) else {
             return Line::Bad;
         };
-        let Number::Good { value, next } = read_number(text, p + 1, 5) else {
+        let Number::Good { value, next } = read_number(text, p + 1, MOST_DIGITS) else {
             return Line::Bad;
         };
         into[base + j] = value;

@@ -26,10 +26,11 @@ pub fn put_word(out: &mut [u8], at: usize, word: &[u8]) -> usize
     at + j
 }
 
+// The byte of a number's last digit.
 fn digit(x: u32) -> u8
     ensures { λ r. ⌜ r ≡ 48 + x % 10 ⌝ }
 {
-    (48 + x % 10) as u8
+    b'0' + (x % 10) as u8
 }
 
 // A number in decimal: its tenth part, then the last digit.

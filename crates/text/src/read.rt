@@ -6,6 +6,10 @@ ghost use lib.ListN.{length, take};
 ghost use Rattle.text.specs.Reader.{isLetter};
 ghost use Rattle.text.specs.Text.{mostBytes, ofPairs};
 ghost use Rattle.text.specs.Blocks.{BlockInto, Lent, TextInto};
+use crate::MOST_EDGES;
+use crate::MOST_ORDERS;
+use crate::MOST_QUESTIONS;
+use crate::MOST_VERTICES;
 use crate::line::Line;
 use crate::line::read_line;
 
@@ -51,7 +55,8 @@ fn take_column(pairs: &[u32], k: usize, count: usize, into: &mut [u32])
     }
 }
 
-fn index(x: u32) -> usize
+// A number of 32 bits as a size.
+fn size_of(x: u32) -> usize
     ensures { λ r. ⌜ r ≡ x ⌝ }
 {
     x as usize
@@ -85,14 +90,14 @@ pub fn read_text(
     if v.count == 0 {
         return Reading::BadLine(1);
     }
-    let n = index(first[0]);
-    if 512 < n {
+    let n = size_of(first[0]);
+    if MOST_VERTICES < n {
         return Reading::BadLine(1);
     }
-    let mut pairs = [0u32; 4000];
-    let e = read_block(text, v.at, b'e', 2, 2000, &mut pairs);
-    let o = read_block(text, e.at, b'o', n, 5, orders);
-    let q = read_block(text, o.at, b'q', 2, 5462, asked);
+    let mut pairs = [0u32; 2 * MOST_EDGES];
+    let e = read_block(text, v.at, b'e', 2, MOST_EDGES, &mut pairs);
+    let o = read_block(text, e.at, b'o', n, MOST_ORDERS, orders);
+    let q = read_block(text, o.at, b'q', 2, MOST_QUESTIONS + 1, asked);
     if q.at < text.len() {
         return Reading::BadLine(2 + e.count + o.count + q.count);
     }

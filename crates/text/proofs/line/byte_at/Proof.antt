@@ -1,6 +1,5 @@
 -- `text::line::byte_at` meets its contract: the byte at the position is the first from there on, and the arm that the match takes says its kind.
 use mathlib.Core.Path.{sym, ap, _∙_}
-use Prim.Native.Nat.{ℕ, _-_}
 use borrow.Author.Needs.{needs}
 use Rattle.text.specs.declared.line.Byte.the-variants.{Digit}
 use Rattle.text.specs.Reader.{kind}
@@ -17,9 +16,6 @@ shared-slice-read-b c = search needs
 wide-requires : tie.Need-wide-requires
 wide-requires c κs = search needs
 
-sub-t11 : tie.Need-sub-t11
-sub-t11 c = search needs
-
 returns-2 : tie.Need-returns-2
 returns-2 c = sym (letter-kind _ (c .match .keys1)) ∙ byte-here _ _ (c .before .before .if1 .left)
 
@@ -32,7 +28,7 @@ returns-4 c = sym (ap kind (c .match .keys3)) ∙ byte-here _ _ (c .before .befo
 returns-5 : tie.Need-returns-5
 returns-5 c =
     let b = c .before in
-    ap (λ (x : ℕ). Digit (x - 48)) (c .wide .ensures)
+    ap Digit (c .wide .ensures)
     ∙ (sym (digit-kind _ (b .before .if2 .left) (b .if3 .taken)) ∙ byte-here _ _ (b .before .before .before .before .if1 .left))
 
 returns-6 : tie.Need-returns-6
@@ -52,7 +48,6 @@ byte-at-spec =
     returns
     shared-slice-read-b
     wide-requires
-    sub-t11
     returns-2
     returns-3
     returns-4

@@ -30,11 +30,11 @@ read-block-requires c κs = search needs
 returns : tie.Need-returns
 returns c = record { read = first-missing (c .before .before .before .read-block .ensures) (c .if1 .taken); within = omega arith }
 
-array-read-index : tie.Need-array-read-index
-array-read-index c = search needs
+array-read-size-of : tie.Need-array-read-size-of
+array-read-size-of c = search needs
 
-index-requires : tie.Need-index-requires
-index-requires c κs = search needs
+size-of-requires : tie.Need-size-of-requires
+size-of-requires c κs = search needs
 
 -- the first line was read
 one : (c : tie.Else1) → c .before .before .before .read-block .result .count ≡ 1
@@ -43,7 +43,7 @@ one c = omega (arith, pos-of-ne-zero (c .if1 .left), c .before .before .before .
 returns-2 : tie.Need-returns-2
 returns-2 c =
     let v = c .before .before .before .before .before in
-    record { read = first-high _ (v .read-block .ensures) (one (c .before .before)) (sym (c .before .index .ensures)) (c .if2 .taken); within = omega arith }
+    record { read = first-high _ (v .read-block .ensures) (one (c .before .before)) (sym (c .before .size-of .ensures)) (c .if2 .taken); within = omega arith }
 
 slice-aggregate-read-block-2 : tie.Need-slice-aggregate-read-block-2
 slice-aggregate-read-block-2 c = search needs
@@ -53,6 +53,9 @@ read-block-requires-2 c κs = search needs
 
 read-block-requires-3 : tie.Need-read-block-requires-3
 read-block-requires-3 c κs = search needs
+
+add-read-block : tie.Need-add-read-block
+add-read-block c = search needs
 
 read-block-requires-4 : tie.Need-read-block-requires-4
 read-block-requires-4 c κs =
@@ -81,7 +84,7 @@ four : (c : tie.After-read-block4)
     (second (third c) .read-block2 .last .1 .1 .1 .1 .1 .0)
     (third c .read-block3 .last .1 .1 .1 .1 .1 .0)
     (c .read-block4 .last .1 .1 .1 .1 .1 .0)
-    (second (third c) .before .before .before .index .result)
+    (second (third c) .before .before .before .size-of .result)
     (first (second (third c)) .read-block .result .count)
     (first (second (third c)) .read-block .result .at)
     (second (third c) .read-block2 .result .count)
@@ -98,7 +101,7 @@ four c =
       o = third c .read-block3 .ensures;
       q = c .read-block4 .ensures;
       one = one (e .before .before .before .before);
-      first = sym (e .before .before .before .index .ensures);
+      first = sym (e .before .before .before .size-of .ensures);
       low = e .before .before .if2 .left;
       short = start (first e) .pre .0;
     }
@@ -156,12 +159,13 @@ read-text-spec =
     slice-aggregate-read-block
     read-block-requires
     returns
-    array-read-index
-    index-requires
+    array-read-size-of
+    size-of-requires
     returns-2
     slice-aggregate-read-block-2
     read-block-requires-2
     read-block-requires-3
+    add-read-block
     read-block-requires-4
     add-t26
     add-t27
