@@ -44,12 +44,12 @@ block-settled first size (suc m) (suc m') (l ∷ (l' ∷ more)) h h' = go (lineI
     go false k k' rest = refl
 
 -- any number of questions that fit: as many as there are lines, or one more than fit the text
-questions-settled : (size most : ℕ) (s : List ℕ) (Q : Block) → Q ≡ block (bytes "q") size most (linesOf s) → Q .count < most
-    → Q ≡ block (bytes "q") size (length (linesOf s)) (linesOf s)
+questions-settled : (size most : ℕ) (s : List ℕ) (q : Block) → q ≡ block (bytes "q") size most (linesOf s) → q .count < most
+    → q ≡ block (bytes "q") size (length (linesOf s)) (linesOf s)
 unfolding linesOf
-questions-settled size most s Q e h =
+questions-settled size most s q e h =
     let all : List Line = map (pieces space) (otherPieces lf s) in
-    e ∙ block-settled (bytes "q") size most (suc (length all)) (pieces space (firstPiece lf s) ∷ all) (subst (λ (B : Block). B .count < most) e h)
+    e ∙ block-settled (bytes "q") size most (suc (length all)) (pieces space (firstPiece lf s) ∷ all) (subst (λ (b : Block). b .count < most) e h)
     (omega (arith, block-short (bytes "q") size (suc (length all)) (pieces space (firstPiece lf s)) all))
 
 -- nothing is left of the text
@@ -99,64 +99,64 @@ unfolding reading
 reading-is text v e o q hv he ho hq = rw (← hv, ← he, ← ho, ← hq)
 
 -- the first line is bad
-first-bad : {text F : List ℕ} {count next : ℕ} → BlockInto text 0 118 1 1 count next F → (eqb count 1 && leb (getD (take (count * 1) F) 0 0) mostVertices) ≡ false
+first-bad : {text head : List ℕ} {count next : ℕ} → BlockInto text 0 118 1 1 count next head → (eqb count 1 && leb (getD (take (count * 1) head) 0 0) mostVertices) ≡ false
     → badLine 1 ≡ reading text
 unfolding reading
 first-bad b e = rw (← (b .read), e)
 
-first-number : (F : List ℕ) (count : ℕ) → count ≡ 1 → getD (take (count * 1) F) 0 0 ≡ getD F 0 0
-first-number F count e = rw e (getD-take 1 F 0 0 (omega arith))
+first-number : (head : List ℕ) (count : ℕ) → count ≡ 1 → getD (take (count * 1) head) 0 0 ≡ getD head 0 0
+first-number head count e = rw e (getD-take 1 head 0 0 (omega arith))
 
 -- it is no `v n`
-pub first-missing : {text F : List ℕ} {count next : ℕ} → BlockInto text 0 118 1 1 count next F → count ≡ 0 → badLine 1 ≡ reading text
+pub first-missing : {text head : List ℕ} {count next : ℕ} → BlockInto text 0 118 1 1 count next head → count ≡ 0 → badLine 1 ≡ reading text
 first-missing b e = first-bad b (rw e)
 
 -- n is over 512
-pub first-high : {text F : List ℕ} {count next : ℕ} (n : ℕ) → BlockInto text 0 118 1 1 count next F → count ≡ 1 → getD F 0 0 ≡ n → mostVertices < n → badLine 1 ≡ reading text
-first-high {F} {count} n b one e h =
-    let high : mostVertices < getD F 0 0 = omega (arith, e) in
-    first-bad b (rw (first-number F count one, lt-leb (getD F 0 0) mostVertices high, and-false (eqb count 1)))
+pub first-high : {text head : List ℕ} {count next : ℕ} (n : ℕ) → BlockInto text 0 118 1 1 count next head → count ≡ 1 → getD head 0 0 ≡ n → mostVertices < n → badLine 1 ≡ reading text
+first-high {head} {count} n b one e h =
+    let high : mostVertices < getD head 0 0 = omega (arith, e) in
+    first-bad b (rw (first-number head count one, lt-leb (getD head 0 0) mostVertices high, and-false (eqb count 1)))
 
 -- Four blocks were read: the lists hold their numbers, and the first line's number is n.
-pub record Four (text F P O A : List ℕ) (n vc va ec ea oc oa qc qa : ℕ) : Type 0 where
-  pub v : BlockInto text 0 118 1 1 vc va F
-  pub e : BlockInto text va 101 2 mostEdges ec ea P
-  pub o : BlockInto text ea 111 n mostLabellings oc oa O
-  pub q : BlockInto text oa 113 2 (mostQuestions + 1) qc qa A
+pub record Four (text head pairs orders asked : List ℕ) (n vc va ec ea oc oa qc qa : ℕ) : Type 0 where
+  pub v : BlockInto text 0 118 1 1 vc va head
+  pub e : BlockInto text va 101 2 mostEdges ec ea pairs
+  pub o : BlockInto text ea 111 n mostLabellings oc oa orders
+  pub q : BlockInto text oa 113 2 (mostQuestions + 1) qc qa asked
   pub one : vc ≡ 1
-  pub first : getD F 0 0 ≡ n
+  pub first : getD head 0 0 ≡ n
   pub low : n ≤ mostVertices
   pub short : length text ≤ mostBytes
 
-module _ {text F P O A : List ℕ} {n vc va ec ea oc oa qc qa : ℕ} (b : Four text F P O A n vc va ec ea oc oa qc qa) where
+module _ {text head pairs orders asked : List ℕ} {n vc va ec ea oc oa qc qa : ℕ} (b : Four text head pairs orders asked n vc va ec ea oc oa qc qa) where
   -- the questions are few enough
   pub few-asked : qc ≤ mostQuestions
   few-asked = omega (arith, b .q .spent, b .q .inside, b .short)
 
-  number : getD (take (vc * 1) F) 0 0 ≡ n
-  number = first-number F vc (b .one) ∙ b .first
+  number : getD (take (vc * 1) head) 0 0 ≡ n
+  number = first-number head vc (b .one) ∙ b .first
 
   say : Text
-  say = record { n = n; sources = ofPairs 0 (take (ec * 2) P); targets = ofPairs 1 (take (ec * 2) P); d = oc; orders = take (oc * n) O; asked = take (qc * 2) A }
+  say = record { n = n; sources = ofPairs 0 (take (ec * 2) pairs); targets = ofPairs 1 (take (ec * 2) pairs); d = oc; orders = take (oc * n) orders; asked = take (qc * 2) asked }
 
   four-say : (end : Bool) → isEnd (linesOf (drop qa text)) ≡ end → judged true end say (1 + ec + oc + qc) ≡ reading text
   unfolding say
   four-say end e =
-      let v : Block = record { count = vc; numbers = take (vc * 1) F; rest = linesOf (drop va text) } in
-      let e' : Block = record { count = ec; numbers = take (ec * 2) P; rest = linesOf (drop ea text) } in
-      let o : Block = record { count = oc; numbers = take (oc * n) O; rest = linesOf (drop oa text) } in
-      let q : Block = record { count = qc; numbers = take (qc * 2) A; rest = linesOf (drop qa text) } in
-      let orders : o ≡ block (bytes "o") (getD (v .numbers) 0 0) mostLabellings (e' .rest) = rw number (b .o .read) in
-      let asked : q ≡ block (bytes "q") 2 (length (o .rest)) (o .rest) = questions-settled 2 (mostQuestions + 1) (drop oa text) q (b .q .read) (omega (arith, few-asked)) in
+      let v : Block = record { count = vc; numbers = take (vc * 1) head; rest = linesOf (drop va text) } in
+      let e' : Block = record { count = ec; numbers = take (ec * 2) pairs; rest = linesOf (drop ea text) } in
+      let o : Block = record { count = oc; numbers = take (oc * n) orders; rest = linesOf (drop oa text) } in
+      let q : Block = record { count = qc; numbers = take (qc * 2) asked; rest = linesOf (drop qa text) } in
+      let ordered : o ≡ block (bytes "o") (getD (v .numbers) 0 0) mostLabellings (e' .rest) = rw number (b .o .read) in
+      let questioned : q ≡ block (bytes "q") 2 (length (o .rest)) (o .rest) = questions-settled 2 (mostQuestions + 1) (drop oa text) q (b .q .read) (omega (arith, few-asked)) in
       let same : judged true end say (1 + ec + oc + qc) ≡ saying v e' o q = rw (number, b .one, e, le-leb n mostVertices (b .low)) in
-      same ∙ reading-is text v e' o q (b .v .read) (b .e .read) orders asked
+      same ∙ reading-is text v e' o q (b .v .read) (b .e .read) ordered questioned
 
   -- a line is left
   pub four-bad : qa < length text → badLine (2 + ec + oc + qc) ≡ reading text
   four-bad h = ap badLine (omega arith) ∙ four-say false (line-left text qa h)
 
   -- none is left
-  pub four-good : (S T : List ℕ) → length text ≤ qa → take ec S ≡ ofPairs 0 (take (ec * 2) P) → take ec T ≡ ofPairs 1 (take (ec * 2) P)
-      → readingOf (Says n ec oc qc) S T O A ≡ reading text
+  pub four-good : (sources targets : List ℕ) → length text ≤ qa → take ec sources ≡ ofPairs 0 (take (ec * 2) pairs) → take ec targets ≡ ofPairs 1 (take (ec * 2) pairs)
+      → readingOf (Says n ec oc qc) sources targets orders asked ≡ reading text
   unfolding say
-  four-good S T h s t = rw (s, t) (four-say true (end-reached text qa h))
+  four-good sources targets h s t = rw (s, t) (four-say true (end-reached text qa h))
