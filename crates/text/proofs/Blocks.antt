@@ -7,13 +7,13 @@ use native.Mathlib.Nat.{add-zero, zero-add, sub-zero, sub-self, zero-mul, one-mu
 use native.Mathlib.Numerals.{one-add}
 use native.Mathlib.Omega.{arith}
 use lib.Dec.{eqb}
-use lib.ListN.{length, take, drop, length-drop}
+use lib.ListN.{length, take, drop, length-drop, length-map}
 use lib.Seq.{drop-drop}
 use borrow.Author.Tests.{eqb-true}
 use Rattle.lineage.specs.Lists.{allOf, sameList}
 use Rattle.text.specs.declared.line.Line.{Line as LineRead}
 use Rattle.text.specs.declared.line.Line.the-variants.{Good as GoodLine, Bad as BadLine}
-use Rattle.text.specs.Lines.{space, lf, keep, firstPiece, begin, otherPieces, pieces, Line, linesOf, isDecimal, mostDigits, lineIs, numbersIn}
+use Rattle.text.specs.Lines.{space, lf, keep, firstPiece, begin, otherPieces, pieces, Line, linesOf, isDecimal, mostDigits, value, lineIs, numbersIn}
 use Rattle.text.specs.Reader.{Found, found, none, after, foundIf, isMore, wordsIn, lineIn, Into}
 use Rattle.text.specs.Text.{Block, stop, block}
 
@@ -41,13 +41,13 @@ decimals-long ((b ∷ word) ∷ words) e =
     omega (arith, decimals-long words (and-eq-true-iff (isDecimal mostDigits (b ∷ word)) (allOf (isDecimal mostDigits) words) .0 e .1))
 
 -- what a line that was found says of the bytes
-record Taken (first : List ℕ) (size : ℕ) (s ns : List ℕ) (k : ℕ) : Type 0 where
+pub record Taken (first : List ℕ) (size : ℕ) (s ns : List ℕ) (k : ℕ) : Type 0 where
   ended : isMore (otherPieces lf s) ≡ true
   right : lineIs first size (wordsIn s) ≡ true
   numbers : ns ≡ numbersIn (wordsIn s)
   bytes : k ≡ suc (length (firstPiece lf s))
 
-taken : (first : List ℕ) (size : ℕ) (s ns : List ℕ) (k : ℕ) → lineIn first size s ≡ found ns k → Taken first size s ns k
+pub taken : (first : List ℕ) (size : ℕ) (s ns : List ℕ) (k : ℕ) → lineIn first size s ≡ found ns k → Taken first size s ns k
 unfolding lineIn
 taken first size s ns k e = go (isMore (otherPieces lf s)) (lineIs first size (wordsIn s)) refl refl e
   where
@@ -68,7 +68,7 @@ more-long [] e = absurd (false≢true e)
 more-long (piece ∷ others) e = omega arith
 
 -- a line takes two bytes for each number and two more, and no more than there are
-line-bytes : (c size : ℕ) (s ns : List ℕ) (k : ℕ) → Taken (c ∷ []) size s ns k → (2 * size + 2 ≤ k) × (k ≤ length s)
+pub line-bytes : (c size : ℕ) (s ns : List ℕ) (k : ℕ) → Taken (c ∷ []) size s ns k → (2 * size + 2 ≤ k) × (k ≤ length s)
 unfolding lineIs
 line-bytes c size s ns k t =
     let l : List ℕ = firstPiece lf s in
@@ -83,6 +83,14 @@ line-bytes c size s ns k t =
     let more : 1 ≤ spread (otherPieces lf s) = more-long (otherPieces lf s) (t .ended) in
     let whole : k ≡ suc (length l) = t .bytes in
     (omega arith, omega arith)
+
+-- as many numbers as it should have
+pub line-numbers : (first : List ℕ) (size : ℕ) (s ns : List ℕ) (k : ℕ) → Taken first size s ns k → length ns ≡ size
+unfolding lineIs
+line-numbers first size s ns k t =
+    let words : Line = otherPieces space (firstPiece lf s) in
+    let both = and-eq-true-iff (sameList (firstPiece space (firstPiece lf s)) first) (eqb (length words) size && allOf (isDecimal mostDigits) words) .0 (t .right) in
+    ap length (t .numbers) ∙ (length-map words value ∙ eqb-true (length words) size (and-eq-true-iff (eqb (length words) size) (allOf (isDecimal mostDigits) words) .0 (both .1) .0))
 
 -- behind the line's LF stand the other lines
 line-behind : (s : List ℕ) → isMore (otherPieces lf s) ≡ true → pieces lf (drop (suc (length (firstPiece lf s))) s) ≡ otherPieces lf s
@@ -105,7 +113,7 @@ abbrev pub behind : ℕ → List ℕ → Block → Block
 behind count ns B = record { count = count + B .count; numbers = ns ++ B .numbers; rest = B .rest }
 
 -- the first line is of the kind
-block-more : (first : List ℕ) (size most : ℕ) (s ns : List ℕ) (k : ℕ) → Taken first size s ns k
+pub block-more : (first : List ℕ) (size most : ℕ) (s ns : List ℕ) (k : ℕ) → Taken first size s ns k
     → block first size (suc most) (linesOf s) ≡ behind 1 ns (block first size most (linesOf (drop k s)))
 unfolding linesOf block
 block-more first size most s ns k t =
@@ -117,7 +125,7 @@ block-more first size most s ns k t =
     go (piece ∷ others) e = rw (t .right, one-add (block first size most (map (pieces space) (piece ∷ others)) .count))
 
 -- the first line is of another kind
-block-stops : (first : List ℕ) (size most : ℕ) (s : List ℕ) → lineIn first size s ≡ none → block first size most (linesOf s) ≡ stop (linesOf s)
+pub block-stops : (first : List ℕ) (size most : ℕ) (s : List ℕ) → lineIn first size s ≡ none → block first size most (linesOf s) ≡ stop (linesOf s)
 unfolding linesOf block lineIn
 block-stops first size zero s e = refl
 block-stops first size (suc most) s e = go (otherPieces lf s) (lineIs first size (wordsIn s)) refl e

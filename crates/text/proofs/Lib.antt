@@ -6,3 +6,4 @@ pub mod Blocks
 pub mod Pairs
 pub mod Whole
 pub mod Putting
+pub mod Longest

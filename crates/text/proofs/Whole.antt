@@ -13,7 +13,7 @@ use Rattle.lineage.specs.Stored.{mostLabellings}
 use Rattle.text.specs.Lines.{bytes, space, lf, keep, firstPiece, begin, otherPieces, pieces, Line, linesOf, lineIs}
 use Rattle.text.specs.Blocks.{BlockInto, mostQuestions, readingOf}
 use Rattle.text.specs.declared.read.Reading.the-variants.{Says}
-use Rattle.text.specs.Text.{mostBytes, Block, withLine, goOn, block, mostEdges, mostVertices, Text, Reading, badLine, ofPairs, isEnd, judged, reading}
+use Rattle.text.specs.Text.{mostBytes, Block, withLine, goOn, block, mostEdges, mostVertices, Text, badLine, ofPairs, isEnd, vertices, judged, saying, reading}
 
 -- a block ends before the last piece
 block-short : (first : List ℕ) (size most : ℕ) (l : Line) (lines : List Line) → block first size most (l ∷ lines) .count ≤ length lines
@@ -78,23 +78,9 @@ bytes-left b s = go (eqb b lf) (eqb b space) refl
 line-left : (text : List ℕ) (at : ℕ) → at < length text → isEnd (linesOf (drop at text)) ≡ false
 line-left text at h = rw (drop-cons text at 0 h) (bytes-left (getD text at 0) (drop (suc at) text))
 
--- what four blocks say
-abbrev saying : Block → Block → Block → Block → Reading
-saying v e o q =
-    judged (eqb (v .count) 1 && leb (getD (v .numbers) 0 0) mostVertices)
-    (isEnd (q .rest))
-    (record {
-      n = getD (v .numbers) 0 0;
-      sources = ofPairs 0 (e .numbers);
-      targets = ofPairs 1 (e .numbers);
-      d = o .count;
-      orders = o .numbers;
-      asked = q .numbers;
-    })
-    (v .count + e .count + o .count + q .count)
-
-reading-is : (text : List ℕ) (v e o q : Block) → v ≡ block (bytes "v") 1 1 (linesOf text) → e ≡ block (bytes "e") 2 mostEdges (v .rest)
-    → o ≡ block (bytes "o") (getD (v .numbers) 0 0) mostLabellings (e .rest) → q ≡ block (bytes "q") 2 (length (o .rest)) (o .rest) → saying v e o q ≡ reading text
+-- what the four blocks say
+pub reading-is : (text : List ℕ) (v e o q : Block) → v ≡ block (bytes "v") 1 1 (linesOf text) → e ≡ block (bytes "e") 2 mostEdges (v .rest)
+    → o ≡ block (bytes "o") (vertices v) mostLabellings (e .rest) → q ≡ block (bytes "q") 2 (length (o .rest)) (o .rest) → saying v e o q ≡ reading text
 unfolding reading
 reading-is text v e o q hv he ho hq = rw (← hv, ← he, ← ho, ← hq)
 
@@ -146,7 +132,7 @@ module _ {text head pairs orders asked : List ℕ} {n vc va ec ea oc oa qc qa : 
       let e' : Block = record { count = ec; numbers = take (ec * 2) pairs; rest = linesOf (drop ea text) } in
       let o : Block = record { count = oc; numbers = take (oc * n) orders; rest = linesOf (drop oa text) } in
       let q : Block = record { count = qc; numbers = take (qc * 2) asked; rest = linesOf (drop qa text) } in
-      let ordered : o ≡ block (bytes "o") (getD (v .numbers) 0 0) mostLabellings (e' .rest) = rw number (b .o .read) in
+      let ordered : o ≡ block (bytes "o") (vertices v) mostLabellings (e' .rest) = rw number (b .o .read) in
       let questioned : q ≡ block (bytes "q") 2 (length (o .rest)) (o .rest) = questions-settled 2 (mostQuestions + 1) (drop oa text) q (b .q .read) (omega (arith, few-asked)) in
       let same : judged true end say (1 + ec + oc + qc) ≡ saying v e' o q = rw (number, b .one, e, le-leb n mostVertices (b .low)) in
       same ∙ reading-is text v e' o q (b .v .read) (b .e .read) ordered questioned

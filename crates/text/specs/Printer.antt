@@ -1,8 +1,13 @@
 -- What the printer's functions leave in a lent buffer.
 use mathlib.Core.List.{List, _++_}
 use mathlib.Core.Path.{_≡_}
-use Prim.Native.Nat.{ℕ, _+_}
+use Prim.Native.Nat.{ℕ, _+_, _*_}
 use lib.ListN.{length, take, drop}
+use Rattle.text.specs.Blocks.{mostQuestions}
+
+-- a buffer for the longest output: 54 bytes for the line of each question
+abbrev pub mostOutput : ℕ
+mostOutput = 54 * mostQuestions
 
 -- the buffer with these bytes from a position on
 unfoldable pub placed : List ℕ → ℕ → List ℕ → List ℕ

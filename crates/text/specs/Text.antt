@@ -71,29 +71,40 @@ ofPairs k (x ∷ (y ∷ more)) = getD (x ∷ y ∷ []) k 0 ∷ ofPairs k more
 abbrev pub isEnd : List Line → Bool
 isEnd lines = eqb (length lines) 1 && (eqb (length (joined lines)) 1 && eqb (length (joined (joined lines))) 0)
 
--- whether the first line is good, and whether nothing is left behind the good lines; otherwise the line behind them is bad
+-- the number of the `v` line
+abbrev pub vertices : Block → ℕ
+vertices v = getD (v .numbers) 0 0
+
+-- there is a `v` line, and its n is within the bound
+abbrev pub isFirst : Block → Bool
+isFirst v = eqb (v .count) 1 && leb (vertices v) mostVertices
+
+-- what the `v`, `e`, `o` and `q` lines say
+abbrev pub textOf : (v e o q : Block) → Text
+textOf v e o q = record {
+  n = vertices v;
+  sources = ofPairs 0 (e .numbers);
+  targets = ofPairs 1 (e .numbers);
+  d = o .count;
+  orders = o .numbers;
+  asked = q .numbers;
+}
+
+-- by whether the first line is good and whether nothing is left behind the good lines; otherwise the line behind them is bad
 abbrev pub judged : Bool → Bool → Text → ℕ → Reading
 judged false end t good = badLine 1
 judged true false t good = badLine (suc good)
 judged true true t good = says t
+
+abbrev pub saying : (v e o q : Block) → Reading
+saying v e o q = judged (isFirst v) (isEnd (q .rest)) (textOf v e o q) (v .count + e .count + o .count + q .count)
 
 -- `v n` once, then `e from to`, then at most five `o` lines of exactly n numbers, then any number of `q source target`, and no line more
 unfoldable pub reading : List ℕ → Reading
 unfolding linesOf block
 reading text =
     let v : Block = block (bytes "v") 1 1 (linesOf text) in
-    let n : ℕ = getD (v .numbers) 0 0 in
     let e : Block = block (bytes "e") 2 mostEdges (v .rest) in
-    let o : Block = block (bytes "o") n mostLabellings (e .rest) in
+    let o : Block = block (bytes "o") (vertices v) mostLabellings (e .rest) in
     let q : Block = block (bytes "q") 2 (length (o .rest)) (o .rest) in
-    judged (eqb (v .count) 1 && leb n mostVertices)
-    (isEnd (q .rest))
-    (record {
-      n = n;
-      sources = ofPairs 0 (e .numbers);
-      targets = ofPairs 1 (e .numbers);
-      d = o .count;
-      orders = o .numbers;
-      asked = q .numbers;
-    })
-    (v .count + e .count + o .count + q .count)
+    saying v e o q
