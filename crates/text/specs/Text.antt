@@ -96,6 +96,7 @@ judged false end t good = badLine 1
 judged true false t good = badLine (suc good)
 judged true true t good = says t
 
+-- what the four kinds of lines come to
 abbrev pub saying : (v e o q : Block) → Reading
 saying v e o q = judged (isFirst v) (isEnd (q .rest)) (textOf v e o q) (v .count + e .count + o .count + q .count)
 
