@@ -106,15 +106,10 @@ module _ {G : Graph} {w₀ : List ℕ} (fit : CondenseFit G w₀) where
               → Kept w₀ w₄ 0 size × Traversed (pass₂ G) w₄ base n n
           unfolding pass₂
           passes-done {w₄} again done = (
-            kept-then (wider counting) (kept-then (wider₂ going) (kept-then (wider₃ turning) (wider₂ again))),
+            kept-then
+                (kept-wider 0 size (omega arith) (omega arith) counting)
+                (kept-then
+                (kept-wider 0 size (omega arith) (omega arith) going)
+                (kept-then (kept-wider 0 size (omega arith) (omega arith) turning) (kept-wider 0 size (omega arith) (omega arith) again))),
             subst (λ roots. Traversed (traverse (row (G .targets) (G .sources)) (suc n) roots []) w₄ base n n) order-is done,
           )
-            where
-              wider : {w w' : List ℕ} → Kept w w' 0 n → Kept w w' 0 size
-              wider = kept-wider 0 size (omega arith) (omega arith)
-
-              wider₂ : {w w' : List ℕ} → Kept w w' n (base + 5 * n) → Kept w w' 0 size
-              wider₂ = kept-wider 0 size (omega arith) (omega arith)
-
-              wider₃ : {w w' : List ℕ} → Kept w w' order n → Kept w w' 0 size
-              wider₃ = kept-wider 0 size (omega arith) (omega arith)

@@ -10,7 +10,7 @@ use Rattle.lineage.specs.Lists.{among, upto, part}
 use Rattle.lineage.specs.Graph.{Graph}
 use Rattle.lineage.specs.Labels.{Forest, traverse, finished}
 use Rattle.laws.specs.Passes.{row}
-use Rattle.laws.proofs.Lists.{getD-upto, length-upto}
+use Rattle.laws.proofs.Lists.{upto-low}
 use Rattle.laws.proofs.TwoPasses.{edge-rows}
 use Rattle.numbers.specs.Regions.{Kept}
 use Rattle.numbers.proofs.Regions.{part-length, kept-then, kept-wider}
@@ -27,9 +27,6 @@ use Rattle.traversal.proofs.Reach.{Inside, rows-low, traverse-visits, traverse-
 use Rattle.condense.specs.Window.{PassFit}
 use Rattle.condense.proofs.Ends.{sources-below, targets-below}
 
-upto-below : (n : ℕ) → Below n (upto n)
-upto-below n i h = let l : i < n = omega (arith, length-upto n) in omega (arith, getD-upto n i l)
-
 module _ {G : Graph} {w₀ : List ℕ} {roots base : ℕ} (fit : PassFit G w₀ roots base) where
   abbrev n : ℕ
   n = G .n
@@ -45,7 +42,7 @@ module _ {G : Graph} {w₀ : List ℕ} {roots base : ℕ} (fit : PassFit G w₀ 
     keys-fit = record {
       keys-low = sources-below G (fit .ends);
       table-there = record { fits = omega (arith, fit .room); apart = under (omega arith) };
-      table-low = rw (fit .self) (upto-below n);
+      table-low = rw (fit .self) (in-below n (upto n) (upto-low n));
       room = omega (arith, fit .rows-room, fit .room);
       few = fit .few-edges;
     };
