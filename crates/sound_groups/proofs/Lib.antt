@@ -1,0 +1,5 @@
+pub mod Passed
+pub mod Read
+pub mod Names
+pub mod Listed
+pub mod Starts

@@ -1,0 +1,91 @@
+// The tests of names, group list, child starts, children and levels: with those of the labels they decide whether contents are sound.
+ghost use mathlib.Core.Path.{_≡_};
+ghost use Prim.Native.Nat.{_+_, _<_};
+ghost use Rattle.lineage.specs.Lists.{allBelow, sameList};
+ghost use Rattle.lineage.specs.Graph.{groupList};
+ghost use Rattle.lineage.specs.Numbers.{numbers};
+ghost use Rattle.lineage.specs.Sound.{namesPass, startsPass};
+ghost use Rattle.sound_groups.specs.Fit.{Holds, Starts};
+ghost use Rattle.sound_groups.specs.Tests.{ownName};
+use numbers::num;
+
+// Whether the name of v is not above v and is its own name.
+fn own_name(names: &[u8], w: usize, n: usize, v: usize) -> bool
+    requires { ⌜ Holds w (now names) n ⌝ }
+    requires { ⌜ v < n ⌝ }
+    ensures { λ r. ⌜ r ≡ ownName (numbers w (now (names .entry)) n) v ⌝ }
+{
+    let name = num(names, w, v);
+    if v < name {
+        return false;
+    }
+    num(names, w, name) == name
+}
+
+// Whether each of n names is so.
+fn own_names(names: &[u8], w: usize, n: usize) -> bool
+    requires { ⌜ Holds w (now names) n ⌝ }
+    ensures { λ r. ⌜ r ≡ allBelow n (ownName (numbers w (now (names .entry)) n)) ⌝ }
+{
+    let mut v = 0;
+    while v < n {
+        if !own_name(names, w, n, v) {
+            return false;
+        }
+        v += 1;
+    }
+    true
+}
+
+// Whether the group list, k names, is all names, rising.
+fn lists_names(names: &[u8], groups: &[u8], w: usize, n: usize, k: usize) -> bool
+    requires { ⌜ Holds w (now names) n ⌝ }
+    requires { ⌜ Holds w (now groups) k ⌝ }
+    ensures { λ r. ⌜ r ≡ sameList (numbers w (now (groups .entry)) k) (groupList (numbers w (now (names .entry)) n)) ⌝ }
+{
+    let mut v = 0;
+    let mut p = 0;
+    while v < n {
+        if num(names, w, v) == v {
+            if p == k {
+                return false;
+            }
+            if num(groups, w, p) != v {
+                return false;
+            }
+            p += 1;
+        }
+        v += 1;
+    }
+    p == k
+}
+
+// Whether names and group list are by the rules.
+fn names_pass(names: &[u8], groups: &[u8], w: usize, n: usize, k: usize) -> bool
+    requires { ⌜ Holds w (now names) n ⌝ }
+    requires { ⌜ Holds w (now groups) k ⌝ }
+    ensures { λ r. ⌜ r ≡ namesPass (numbers w (now (names .entry)) n) (numbers w (now (groups .entry)) k) ⌝ }
+{
+    if !own_names(names, w, n) {
+        return false;
+    }
+    lists_names(names, groups, w, n, k)
+}
+
+// Whether the child starts are first 0, never falling, last c.
+fn starts_pass(starts: &[u8], w: usize, k: usize, c: usize) -> bool
+    requires { ⌜ Starts w (now starts) k ⌝ }
+    ensures { λ r. ⌜ r ≡ startsPass (numbers w (now (starts .entry)) (k + 1)) k c ⌝ }
+{
+    if num(starts, w, 0) != 0 {
+        return false;
+    }
+    let mut p = 0;
+    while p < k {
+        if num(starts, w, p + 1) < num(starts, w, p) {
+            return false;
+        }
+        p += 1;
+    }
+    num(starts, w, k) == c
+}
