@@ -1,8 +1,11 @@
 -- What is asked of lent stretches before they are tested: they hold as many numbers as the counts say, and the counts are within form 2's bounds.
+use mathlib.Core.Bool.{true}
+use mathlib.Core.Path.{_≡_}
 use mathlib.Core.List.{List}
-use Prim.Native.Nat.{ℕ, _+_, _*_, _≤_}
+use Prim.Native.Nat.{ℕ, _+_, _*_, _≤_, _<_}
 use lib.ListN.{length}
-use Rattle.lineage.specs.Numbers.{Width}
+use Rattle.lineage.specs.Numbers.{Width, numAt, numbers}
+use Rattle.lineage.specs.Sound.{startsPass}
 
 -- a stretch holds a count of numbers of w bytes
 pub record Holds (w : ℕ) (stretch : List ℕ) (count : ℕ) : Type 0 where
@@ -11,5 +14,17 @@ pub record Holds (w : ℕ) (stretch : List ℕ) (count : ℕ) : Type 0 where
   pub few : count ≤ 1000000
 
 -- a stretch holds the child starts of k groups
-pub record Starts (w : ℕ) (stretch : List ℕ) (k : ℕ) : Type 0 where
-  pub held : Holds w stretch (k + 1)
+pub record Starts (w : ℕ) (starts : List ℕ) (k : ℕ) : Type 0 where
+  pub held : Holds w starts (k + 1)
+
+-- and they have passed their test, c being the number of child entries
+pub record Rows (w : ℕ) (starts : List ℕ) (k c : ℕ) : Type 0 where
+  pub starts-held : Starts w starts k
+  pub passed : startsPass (numbers w starts (k + 1)) k c ≡ true
+
+-- the children of group p are the len entries from position `from` on
+pub record Row (w : ℕ) (starts : List ℕ) (k c p from len : ℕ) : Type 0 where
+  pub low : p < k
+  pub begins : from ≡ numAt w starts p
+  pub ends : from + len ≡ numAt w starts (p + 1)
+  pub within : from + len ≤ c

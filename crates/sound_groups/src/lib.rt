@@ -5,7 +5,7 @@ ghost use Rattle.lineage.specs.Lists.{allBelow, sameList};
 ghost use Rattle.lineage.specs.Graph.{groupList};
 ghost use Rattle.lineage.specs.Numbers.{numbers};
 ghost use Rattle.lineage.specs.Sound.{namesPass, startsPass};
-ghost use Rattle.sound_groups.specs.Fit.{Holds, Starts};
+ghost use Rattle.sound_groups.specs.Fit.{Holds, Starts, Rows, Row};
 ghost use Rattle.sound_groups.specs.Tests.{ownName};
 use numbers::num;
 
@@ -88,4 +88,24 @@ fn starts_pass(starts: &[u8], w: usize, k: usize, c: usize) -> bool
         p += 1;
     }
     num(starts, w, k) == c
+}
+
+// Where the children of a group stand: from which position on, and how many they are.
+pub struct Span {
+    pub from: usize,
+    pub len: usize,
+}
+
+// Where the children of group p stand.
+pub fn row_span(starts: &[u8], w: usize, k: usize, c: usize, p: usize) -> Span
+    requires { ⌜ Rows w (now starts) k c ⌝ }
+    requires { ⌜ p < k ⌝ }
+    ensures { λ r. ⌜ Row w (now (starts .entry)) k c p (r .from) (r .len) ⌝ }
+{
+    let from = num(starts, w, p);
+    let to = num(starts, w, p + 1);
+    Span {
+        from,
+        len: to - from,
+    }
 }
