@@ -3,3 +3,5 @@ pub mod Read
 pub mod Names
 pub mod Listed
 pub mod Starts
+pub mod Row
+pub mod Rising

@@ -28,3 +28,8 @@ pub record Row (w : ℕ) (starts : List ℕ) (k c p from len : ℕ) : Type 0 whe
   pub begins : from ≡ numAt w starts p
   pub ends : from + len ≡ numAt w starts (p + 1)
   pub within : from + len ≤ c
+
+-- the children of k groups, c entries in all, with their starts
+pub record Children (w : ℕ) (starts children : List ℕ) (k c : ℕ) : Type 0 where
+  pub rows : Rows w starts k c
+  pub held : Holds w children c

@@ -4,8 +4,9 @@ ghost use Prim.Native.Nat.{_+_, _<_};
 ghost use Rattle.lineage.specs.Lists.{allBelow, sameList};
 ghost use Rattle.lineage.specs.Graph.{groupList};
 ghost use Rattle.lineage.specs.Numbers.{numbers};
-ghost use Rattle.lineage.specs.Sound.{namesPass, startsPass};
-ghost use Rattle.sound_groups.specs.Fit.{Holds, Starts, Rows, Row};
+ghost use Rattle.lineage.specs.Sound.{namesPass, startsPass, rowPasses};
+ghost use Rattle.sections.specs.Sections.{childrenIn};
+ghost use Rattle.sound_groups.specs.Fit.{Holds, Starts, Rows, Row, Children};
 ghost use Rattle.sound_groups.specs.Tests.{ownName};
 use numbers::num;
 
@@ -108,4 +109,44 @@ pub fn row_span(starts: &[u8], w: usize, k: usize, c: usize, p: usize) -> Span
         from,
         len: to - from,
     }
+}
+
+// Whether the children of group p are places, strictly rising.
+fn row_passes(starts: &[u8], children: &[u8], w: usize, k: usize, c: usize, p: usize) -> bool
+    requires { ⌜ Children w (now starts) (now children) k c ⌝ }
+    requires { ⌜ p < k ⌝ }
+    ensures { λ r. ⌜ r ≡ rowPasses (childrenIn w (now (starts .entry)) (now (children .entry)) k c) p ⌝ }
+{
+    let row = row_span(starts, w, k, c, p);
+    let from = row.from;
+    let len = row.len;
+    let mut i = 0;
+    let mut next = 0;
+    while i < len {
+        let q = num(children, w, from + i);
+        if k <= q {
+            return false;
+        }
+        if q < next {
+            return false;
+        }
+        next = q + 1;
+        i += 1;
+    }
+    true
+}
+
+// Whether the children of every group are.
+fn rows_pass(starts: &[u8], children: &[u8], w: usize, k: usize, c: usize) -> bool
+    requires { ⌜ Children w (now starts) (now children) k c ⌝ }
+    ensures { λ r. ⌜ r ≡ allBelow k (rowPasses (childrenIn w (now (starts .entry)) (now (children .entry)) k c)) ⌝ }
+{
+    let mut p = 0;
+    while p < k {
+        if !row_passes(starts, children, w, k, c, p) {
+            return false;
+        }
+        p += 1;
+    }
+    true
 }
