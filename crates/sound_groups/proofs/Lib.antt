@@ -5,3 +5,4 @@ pub mod Listed
 pub mod Starts
 pub mod Row
 pub mod Rising
+pub mod Greatest

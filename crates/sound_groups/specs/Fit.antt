@@ -4,8 +4,10 @@ use mathlib.Core.Path.{_≡_}
 use mathlib.Core.List.{List}
 use Prim.Native.Nat.{ℕ, _+_, _*_, _≤_, _<_}
 use lib.ListN.{length}
+use Rattle.lineage.specs.Lists.{allBelow}
 use Rattle.lineage.specs.Numbers.{Width, numAt, numbers}
-use Rattle.lineage.specs.Sound.{startsPass}
+use Rattle.lineage.specs.Sound.{rowPasses, startsPass}
+use Rattle.sections.specs.Sections.{childrenIn}
 
 -- a stretch holds a count of numbers of w bytes
 pub record Holds (w : ℕ) (stretch : List ℕ) (count : ℕ) : Type 0 where
@@ -33,3 +35,8 @@ pub record Row (w : ℕ) (starts : List ℕ) (k c p from len : ℕ) : Type 0 whe
 pub record Children (w : ℕ) (starts children : List ℕ) (k c : ℕ) : Type 0 where
   pub rows : Rows w starts k c
   pub held : Holds w children c
+
+-- and the rows have passed their test: children are places, strictly rising
+pub record Places (w : ℕ) (starts children : List ℕ) (k c : ℕ) : Type 0 where
+  pub entries : Children w starts children k c
+  pub passed : allBelow k (rowPasses (childrenIn w starts children k c)) ≡ true

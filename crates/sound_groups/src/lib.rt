@@ -1,13 +1,13 @@
 // The tests of names, group list, child starts, children and levels: with those of the labels they decide whether contents are sound.
 ghost use mathlib.Core.Path.{_≡_};
-ghost use Prim.Native.Nat.{_+_, _<_};
+ghost use Prim.Native.Nat.{_+_, _<_, max};
 ghost use Rattle.lineage.specs.Lists.{allBelow, sameList};
 ghost use Rattle.lineage.specs.Graph.{groupList};
 ghost use Rattle.lineage.specs.Numbers.{numbers};
-ghost use Rattle.lineage.specs.Sound.{namesPass, startsPass, rowPasses};
+ghost use Rattle.lineage.specs.Sound.{namesPass, startsPass, rowPasses, levelPasses};
 ghost use Rattle.sections.specs.Sections.{childrenIn};
-ghost use Rattle.sound_groups.specs.Fit.{Holds, Starts, Rows, Row, Children};
-ghost use Rattle.sound_groups.specs.Tests.{ownName};
+ghost use Rattle.sound_groups.specs.Fit.{Holds, Starts, Rows, Row, Children, Places};
+ghost use Rattle.sound_groups.specs.Tests.{ownName, levelAbove};
 use numbers::num;
 
 // Whether the name of v is not above v and is its own name.
@@ -144,6 +144,74 @@ fn rows_pass(starts: &[u8], children: &[u8], w: usize, k: usize, c: usize) -> bo
     let mut p = 0;
     while p < k {
         if !row_passes(starts, children, w, k, c, p) {
+            return false;
+        }
+        p += 1;
+    }
+    true
+}
+
+fn larger(a: usize, b: usize) -> usize
+    ensures { λ r. ⌜ r ≡ max a b ⌝ }
+{
+    if a < b { b } else { a }
+}
+
+// 0 without children, otherwise one more than the greatest level among the children of group p.
+fn level_above(
+    starts: &[u8],
+    children: &[u8],
+    levels: &[u8],
+    w: usize,
+    k: usize,
+    c: usize,
+    p: usize,
+) -> usize
+    requires { ⌜ Places w (now starts) (now children) k c ⌝ }
+    requires { ⌜ Holds w (now levels) k ⌝ }
+    requires { ⌜ p < k ⌝ }
+    ensures { λ r. ⌜ r ≡ levelAbove (childrenIn w (now (starts .entry)) (now (children .entry)) k c) (numbers w (now (levels .entry)) k) p ⌝ }
+{
+    let row = row_span(starts, w, k, c, p);
+    let from = row.from;
+    let len = row.len;
+    let mut i = 0;
+    let mut level = 0;
+    while i < len {
+        let q = num(children, w, from + i);
+        level = larger(level, num(levels, w, q) + 1);
+        i += 1;
+    }
+    level
+}
+
+// Whether the level of group p is that.
+fn level_passes(
+    starts: &[u8],
+    children: &[u8],
+    levels: &[u8],
+    w: usize,
+    k: usize,
+    c: usize,
+    p: usize,
+) -> bool
+    requires { ⌜ Places w (now starts) (now children) k c ⌝ }
+    requires { ⌜ Holds w (now levels) k ⌝ }
+    requires { ⌜ p < k ⌝ }
+    ensures { λ r. ⌜ r ≡ levelPasses (childrenIn w (now (starts .entry)) (now (children .entry)) k c) (numbers w (now (levels .entry)) k) p ⌝ }
+{
+    num(levels, w, p) == level_above(starts, children, levels, w, k, c, p)
+}
+
+// Whether the level of every group is.
+fn levels_pass(starts: &[u8], children: &[u8], levels: &[u8], w: usize, k: usize, c: usize) -> bool
+    requires { ⌜ Places w (now starts) (now children) k c ⌝ }
+    requires { ⌜ Holds w (now levels) k ⌝ }
+    ensures { λ r. ⌜ r ≡ allBelow k (levelPasses (childrenIn w (now (starts .entry)) (now (children .entry)) k c) (numbers w (now (levels .entry)) k)) ⌝ }
+{
+    let mut p = 0;
+    while p < k {
+        if !level_passes(starts, children, levels, w, k, c, p) {
             return false;
         }
         p += 1;
