@@ -6,3 +6,4 @@ pub mod Starts
 pub mod Row
 pub mod Rising
 pub mod Greatest
+pub mod Groups

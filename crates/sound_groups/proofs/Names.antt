@@ -1,5 +1,5 @@
 -- The two rules of names at one vertex, from what was read of it and of its name; and the test of names and group list as its two halves.
-use mathlib.Core.Bool.{Bool, true, false}
+use mathlib.Core.Bool.{false, _&&_}
 use mathlib.Core.Path.{_≡_, refl}
 use mathlib.Core.List.{List}
 use Prim.Native.Nat.{ℕ, _≤_, _<_}
@@ -22,11 +22,8 @@ module _ {w n : ℕ} {names : List ℕ} (H : Holds w names n) {v x : ℕ} (low :
   pub name-below : {y : ℕ} → x ≤ v → y ≡ numAt w names x → eqb y x ≡ ownName (numbers w names n) v
   name-below {y} h e = rw (← (was-read H low read), le-leb x v h, ← (was-read H {i = x} (omega arith) e))
 
-module _ (w n k : ℕ) (names groups : List ℕ) {r : Bool} (own : r ≡ allBelow n (ownName (numbers w names n))) where
-  pub names-fail : r ≡ false → false ≡ namesPass (numbers w names n) (numbers w groups k)
-  unfolding namesPass
-  names-fail f = rw (numbers-long w names n, ← own, f)
-
-  pub names-then : {q : Bool} → r ≡ true → q ≡ sameList (numbers w groups k) (groupList (numbers w names n)) → q ≡ namesPass (numbers w names n) (numbers w groups k)
-  unfolding namesPass
-  names-then t e = rw (e, numbers-long w names n, ← own, t)
+pub names-is : (w n k : ℕ) (names groups : List ℕ)
+    → (allBelow n (ownName (numbers w names n)) && sameList (numbers w groups k) (groupList (numbers w names n)))
+    ≡ namesPass (numbers w names n) (numbers w groups k)
+unfolding namesPass
+names-is w n k names groups = rw (numbers-long w names n)

@@ -52,3 +52,14 @@ module _ {p : ℕ → Bool} {n i : ℕ} (P : Passed p n i) where
 
   pub passed-not : {r : Bool} → i < n → r ≡ p i → not r ≡ true → allBelow n p ≡ false
   passed-not {r} l e f = all-broken p n i l (rw (← e) (not-true r f))
+
+-- two tests, the second looked at where the first holds; a function answers r to the first, and its caller asks `!r`
+module _ {a r : Bool} (e : r ≡ a) where
+  pub answered : not r ≡ false → a ≡ true
+  answered t = rw (← e) (not-false r t)
+
+  pub and-fails : (b : Bool) → not r ≡ true → false ≡ (a && b)
+  and-fails b f = rw (← e, not-true r f)
+
+  pub and-goes : {b x : Bool} → not r ≡ false → x ≡ b → x ≡ (a && b)
+  and-goes t h = rw (← e, not-false r t) h

@@ -40,3 +40,11 @@ pub record Children (w : ℕ) (starts children : List ℕ) (k c : ℕ) : Type 0 
 pub record Places (w : ℕ) (starts children : List ℕ) (k c : ℕ) : Type 0 where
   pub entries : Children w starts children k c
   pub passed : allBelow k (rowPasses (childrenIn w starts children k c)) ≡ true
+
+-- names, group list, levels, child starts and children, as the counts have them
+pub record Groups (w n k c : ℕ) (names groups levels starts children : List ℕ) : Type 0 where
+  pub names-held : Holds w names n
+  pub groups-held : Holds w groups k
+  pub levels-held : Holds w levels k
+  pub starts-held : Starts w starts k
+  pub children-held : Holds w children c

@@ -1,12 +1,13 @@
 // The tests of names, group list, child starts, children and levels: with those of the labels they decide whether contents are sound.
+ghost use mathlib.Core.Bool.{_&&_};
 ghost use mathlib.Core.Path.{_≡_};
 ghost use Prim.Native.Nat.{_+_, _<_, max};
 ghost use Rattle.lineage.specs.Lists.{allBelow, sameList};
 ghost use Rattle.lineage.specs.Graph.{groupList};
 ghost use Rattle.lineage.specs.Numbers.{numbers};
-ghost use Rattle.lineage.specs.Sound.{namesPass, startsPass, rowPasses, levelPasses};
+ghost use Rattle.lineage.specs.Sound.{namesPass, startsPass, rowPasses, levelPasses, groupsPass};
 ghost use Rattle.sections.specs.Sections.{childrenIn};
-ghost use Rattle.sound_groups.specs.Fit.{Holds, Starts, Rows, Row, Children, Places};
+ghost use Rattle.sound_groups.specs.Fit.{Holds, Starts, Rows, Row, Children, Places, Groups};
 ghost use Rattle.sound_groups.specs.Tests.{ownName, levelAbove};
 use numbers::num;
 
@@ -217,4 +218,31 @@ fn levels_pass(starts: &[u8], children: &[u8], levels: &[u8], w: usize, k: usize
         p += 1;
     }
     true
+}
+
+// Whether names, group list, child starts, children and levels agree.
+pub fn groups_pass(
+    names: &[u8],
+    groups: &[u8],
+    levels: &[u8],
+    starts: &[u8],
+    children: &[u8],
+    w: usize,
+    n: usize,
+    k: usize,
+    c: usize,
+) -> bool
+    requires { ⌜ Groups w n k c (now names) (now groups) (now levels) (now starts) (now children) ⌝ }
+    ensures { λ r. ⌜ r ≡ (startsPass (numbers w (now (starts .entry)) (k + 1)) k c && groupsPass (numbers w (now (names .entry)) n) (numbers w (now (groups .entry)) k) (numbers w (now (levels .entry)) k) (childrenIn w (now (starts .entry)) (now (children .entry)) k c)) ⌝ }
+{
+    if !starts_pass(starts, w, k, c) {
+        return false;
+    }
+    if !names_pass(names, groups, w, n, k) {
+        return false;
+    }
+    if !rows_pass(starts, children, w, k, c) {
+        return false;
+    }
+    levels_pass(starts, children, levels, w, k, c)
 }
