@@ -2,3 +2,4 @@ pub mod Read
 pub mod Ranks
 pub mod Falls
 pub mod Least
+pub mod Search

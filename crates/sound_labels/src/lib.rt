@@ -3,8 +3,9 @@ ghost use mathlib.Core.Path.{_≡_};
 ghost use Prim.Native.Nat.{_+_, _*_, _^_, _<_, min};
 ghost use Rattle.lineage.specs.Lists.{allBelow};
 ghost use Rattle.lineage.specs.Numbers.{numAt};
-ghost use Rattle.lineage.specs.Sound.{rankPasses, fallPasses, outerPasses, innerPasses};
+ghost use Rattle.lineage.specs.Sound.{childOf, rankPasses, fallPasses, outerPasses, innerPasses};
 ghost use Rattle.sections.specs.Sections.{childrenIn, labellingIn};
+ghost use Rattle.sound_groups.specs.Fit.{Places};
 ghost use Rattle.sound_labels.specs.Tests.{leastBelow};
 ghost use Rattle.sound_labels.specs.Fit.{Triples, Labels, Labelled};
 use numbers::num;
@@ -208,4 +209,37 @@ fn inners_pass(triples: &[u8], places: &[u8], w: usize, k: usize) -> bool
         p += 1;
     }
     true
+}
+
+// Whether q is a child of group p: it is looked for in the row, which rises, by halves.
+fn child_in(
+    starts: &[u8],
+    children: &[u8],
+    w: usize,
+    k: usize,
+    c: usize,
+    p: usize,
+    q: usize,
+) -> bool
+    requires { ⌜ Places w (now starts) (now children) k c ⌝ }
+    requires { ⌜ p < k ⌝ }
+    ensures { λ a. ⌜ a ≡ childOf (childrenIn w (now (starts .entry)) (now (children .entry)) k c) p q ⌝ }
+{
+    let row = row_span(starts, w, k, c, p);
+    let from = row.from;
+    let mut low = 0;
+    let mut high = row.len;
+    while low < high {
+        let middle = low + (high - low) / 2;
+        let x = num(children, w, from + middle);
+        if x == q {
+            return true;
+        }
+        if x < q {
+            low = middle + 1;
+        } else {
+            high = middle;
+        }
+    }
+    false
 }
