@@ -3,3 +3,7 @@ pub mod Ranks
 pub mod Falls
 pub mod Least
 pub mod Search
+pub mod Walk
+pub mod Ranked
+pub mod Blocks
+pub mod Marks
