@@ -7,3 +7,4 @@ pub mod Walk
 pub mod Ranked
 pub mod Blocks
 pub mod Marks
+pub mod Labels

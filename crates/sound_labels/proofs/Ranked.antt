@@ -1,5 +1,5 @@
 -- A labelling whose ranks and inner intervals have passed: places are below k, ranks are from 1 to k, m is from 1 to e, and a left walk goes left.
-use mathlib.Core.Bool.{true}
+use mathlib.Core.Bool.{Bool, true, false, not}
 use mathlib.Core.Path.{_≡_, sym, ap, _∙_}
 use mathlib.Core.List.{List}
 use Prim.Native.Nat.{ℕ, suc, _+_, _-_, _*_, _≤_, _<_}
@@ -7,17 +7,19 @@ use native.Mathlib.Omega.{arith}
 use lib.Dec.{eqb, leb, ltb}
 use lib.ListN.{getD}
 use borrow.Author.Tests.{ltb-true, leb-true, eqb-true}
+use Rattle.lineage.specs.Lists.{allBelow}
 use Rattle.lineage.specs.Numbers.{numAt}
-use Rattle.lineage.specs.Labels.{Labelling}
-use Rattle.lineage.specs.Sound.{rankPasses, innerPasses}
+use Rattle.lineage.specs.Labels.{Labelling, nobodysChild}
+use Rattle.lineage.specs.Sound.{walkEnds, rankPasses, innerPasses}
 use Rattle.laws.proofs.Tests.{and-left, and-right}
 use Rattle.laws.proofs.Inverse.{e-high}
 use Rattle.sections.specs.Sections.{labellingIn}
 use Rattle.sections.proofs.Sections.{places-long}
-use Rattle.sound_groups.proofs.Passed.{all-at}
-use Rattle.sound_labels.specs.Fit.{Ranked}
+use Rattle.sound_groups.proofs.Passed.{all-at, answered}
+use Rattle.sound_labels.specs.Fit.{Labels, Ranked}
+use Rattle.sound_labels.specs.Marks.{unmarked, Tells}
 use Rattle.sound_labels.proofs.Read.{m-was, e-was, place-was}
-use Rattle.sound_labels.proofs.Walk.{Left}
+use Rattle.sound_labels.proofs.Walk.{Left, walk-agrees}
 
 module _ (l : Labelling) (k : ℕ) where
   abbrev at : ℕ → ℕ
@@ -40,6 +42,15 @@ module _ (l : Labelling) (k : ℕ) where
 
   inner-below : (p : ℕ) → innerPasses l p ≡ true → m p ≤ e p
   inner-below p t = leb-true (m p) (e p) (and-right (leb 1 (m p)) (leb (m p) (e p)) t)
+
+-- two functions answer a and b to the tests of ranks and inner intervals, and their caller has gone past `!a` and `!b`
+pub ranked-after : {w k : ℕ} {triples places : List ℕ} {a b : Bool} → Labels w triples places k
+    → a ≡ allBelow k (rankPasses k (labellingIn w triples places k))
+    → not a ≡ false
+    → b ≡ allBelow k (innerPasses (labellingIn w triples places k))
+    → not b ≡ false
+    → Ranked w triples places k
+ranked-after L ea ta eb tb = record { labels = L; ranks = answered ea ta; inners = answered eb tb }
 
 module _ {w k : ℕ} {triples places : List ℕ} (N : Ranked w triples places k) where
   abbrev l : Labelling
@@ -75,3 +86,8 @@ module _ {w k : ℕ} {triples places : List ℕ} (N : Ranked w triples places k)
         let p : ℕ = getD (l .byRank) r 0 in
         omega (arith, rank-own l k r (ranked r h), inner-below l k p (inner p (rank-low l k r (ranked r h))));
   }
+
+  -- the walk over all ranks, by marks that tell who is nobody's child
+  pub roots-are : {children : List (List ℕ)} {marks : List ℕ} → Tells children marks k → walkEnds l (unmarked marks) k k 0 ≡ walkEnds l (nobodysChild children) k k 0
+  roots-are {children} {marks} T =
+      walk-agrees goes-left (λ r h. rank-low l k r (ranked r h)) (unmarked marks) (nobodysChild children) (T .right) 0 k k (omega arith)

@@ -1,7 +1,7 @@
 -- The left walk over ranks, one step at a time. Each step goes left, so the bound on its steps never runs out, and the walk from where it stands
 -- ends as the whole walk does.
 use mathlib.Core.Bool.{Bool, true, false, _&&_}
-use mathlib.Core.Path.{_≡_, refl, sym, ap, _∙_}
+use mathlib.Core.Path.{_≡_, refl, sym, ap, ap₂, _∙_}
 use Prim.Native.Nat.{ℕ, zero, suc, _-_, _≤_, _<_}
 use native.Mathlib.Omega.{arith}
 use native.Mathlib.Nat.{not-suc-le-zero}
@@ -82,3 +82,20 @@ module _ {l : Labelling} {test : ℕ → Bool} {k high low rank : ℕ} (W : Walk
 
       pub walks-left : test q ≡ true → Walks l test k high low (m - 1)
       walks-left t = record { within = omega (arith, walks-less, W .within); ends = rw its (rw t at here) }
+
+-- two tests that agree on all places
+pub walk-agrees : {l : Labelling} {k : ℕ} → Left l k → ((r : ℕ) → r < k → getD (l .byRank) r 0 < k)
+    → (test other : ℕ → Bool)
+    → ((p : ℕ) → p < k → test p ≡ other p)
+    → (low f rank : ℕ)
+    → rank ≤ k
+    → walkEnds l test f rank low ≡ walkEnds l other f rank low
+unfolding walkEnds
+walk-agrees G at-low test other same low zero rank h = refl
+walk-agrees G at-low test other same low (suc f) zero h = refl
+walk-agrees {l} {k} G at-low test other same low (suc f) (suc r) h =
+    at (leb (suc r) low) refl (walk-agrees G at-low test other same low f (leftOf l r) (omega (arith, G .goes r h)))
+  where
+    at : (b : Bool) → leb (suc r) low ≡ b → walkEnds l test f (leftOf l r) low ≡ walkEnds l other f (leftOf l r) low → walkEnds l test (suc f) (suc r) low ≡ walkEnds l other (suc f) (suc r) low
+    at true e ih = rw (e, walkEnds)
+    at false e ih = rw (e, walkEnds) (ap₂ _&&_ (same (getD (l .byRank) r 0) (at-low r h)) ih)

@@ -4,11 +4,11 @@ ghost use Prim.Native.Nat.{_+_, _*_, _^_, _≤_, _<_, min};
 ghost use lib.ListN.{length};
 ghost use Rattle.lineage.specs.Lists.{allBelow};
 ghost use Rattle.lineage.specs.Numbers.{numAt, numbers};
-ghost use Rattle.lineage.specs.Sound.{childOf, walkEnds, rankPasses, fallPasses, outerPasses, innerPasses, blockPasses};
+ghost use Rattle.lineage.specs.Sound.{childOf, walkEnds, rankPasses, fallPasses, outerPasses, innerPasses, blockPasses, labelsPass};
 ghost use Rattle.sections.specs.Sections.{childrenIn, labellingIn};
 ghost use Rattle.sound_groups.specs.Fit.{Places};
 ghost use Rattle.sound_labels.specs.Tests.{leastBelow};
-ghost use Rattle.sound_labels.specs.Marks.{marked, unmarked, Within};
+ghost use Rattle.sound_labels.specs.Marks.{marked, unmarked, Within, Tells};
 ghost use Rattle.sound_labels.specs.Fit.{Triples, Labels, Labelled, Ranked};
 use numbers::num;
 use sound_groups::row_span;
@@ -326,4 +326,37 @@ fn roots_pass(triples: &[u8], places: &[u8], marks: &[u8], w: usize, k: usize) -
         rank = label(triples, w, k, q, M) - 1;
     }
     true
+}
+
+// Whether one labelling is by the rules over the children, marks telling who is nobody's child.
+fn labels_pass(
+    starts: &[u8],
+    children: &[u8],
+    triples: &[u8],
+    places: &[u8],
+    marks: &[u8],
+    w: usize,
+    k: usize,
+    c: usize,
+) -> bool
+    requires { ⌜ Labelled w (now starts) (now children) (now triples) (now places) k c ⌝ }
+    requires { ⌜ Tells (childrenIn w (now starts) (now children) k c) (now marks) k ⌝ }
+    ensures { λ a. ⌜ a ≡ labelsPass (childrenIn w (now (starts .entry)) (now (children .entry)) k c) (labellingIn w (now (triples .entry)) (now (places .entry)) k) ⌝ }
+{
+    if !ranks_pass(triples, places, w, k) {
+        return false;
+    }
+    if !falls_pass(starts, children, triples, places, w, k, c) {
+        return false;
+    }
+    if !outers_pass(starts, children, triples, places, w, k, c) {
+        return false;
+    }
+    if !inners_pass(triples, places, w, k) {
+        return false;
+    }
+    if !blocks_pass(starts, children, triples, places, w, k, c) {
+        return false;
+    }
+    roots_pass(triples, places, marks, w, k)
 }
