@@ -1,0 +1,12 @@
+-- The laws of the stored form.
+pub mod Checks
+pub mod Forms
+pub mod Checked
+pub mod Laid
+pub mod Stretches
+pub mod Held
+pub mod Starts
+pub mod LabelNumbers
+pub mod Offsets
+pub mod Encoded
+pub mod Decoded
