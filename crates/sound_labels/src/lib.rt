@@ -2,14 +2,14 @@
 ghost use mathlib.Core.Path.{_≡_};
 ghost use Prim.Native.Nat.{_+_, _*_, _^_, _≤_, _<_, min};
 ghost use lib.ListN.{length};
-ghost use Rattle.lineage.specs.Lists.{allBelow};
+ghost use Rattle.lineage.specs.Lists.{allBelow, allOf};
 ghost use Rattle.lineage.specs.Numbers.{numAt, numbers};
 ghost use Rattle.lineage.specs.Sound.{childOf, walkEnds, rankPasses, fallPasses, outerPasses, innerPasses, blockPasses, labelsPass};
-ghost use Rattle.sections.specs.Sections.{childrenIn, labellingIn};
+ghost use Rattle.sections.specs.Sections.{childrenIn, labellingIn, labelsIn};
 ghost use Rattle.sound_groups.specs.Fit.{Places};
-ghost use Rattle.sound_labels.specs.Tests.{leastBelow};
+ghost use Rattle.sound_labels.specs.Tests.{leastBelow, labellingPasses};
 ghost use Rattle.sound_labels.specs.Marks.{marked, unmarked, Within, Tells};
-ghost use Rattle.sound_labels.specs.Fit.{Triples, Labels, Labelled, Ranked};
+ghost use Rattle.sound_labels.specs.Fit.{Triples, Labels, Labelled, Ranked, Labellings};
 use numbers::num;
 use sound_groups::row_span;
 
@@ -359,4 +359,53 @@ fn labels_pass(
         return false;
     }
     roots_pass(triples, places, marks, w, k)
+}
+
+// Whether labelling j of d is.
+fn labelling_passes(
+    starts: &[u8],
+    children: &[u8],
+    labels: &[u8],
+    marks: &[u8],
+    w: usize,
+    k: usize,
+    c: usize,
+    d: usize,
+    j: usize,
+) -> bool
+    requires { ⌜ Places w (now starts) (now children) k c ⌝ }
+    requires { ⌜ Labellings w (now labels) k d ⌝ }
+    requires { ⌜ Tells (childrenIn w (now starts) (now children) k c) (now marks) k ⌝ }
+    requires { ⌜ j < d ⌝ }
+    ensures { λ a. ⌜ a ≡ labellingPasses w (childrenIn w (now (starts .entry)) (now (children .entry)) k c) (now (labels .entry)) k j ⌝ }
+{
+    let triples = stored::sections::triples(labels, w, k, d, j);
+    let places = stored::sections::by_rank(labels, w, k, d, j);
+    labels_pass(starts, children, triples, places, marks, w, k, c)
+}
+
+// Whether each of d labellings is.
+pub fn labellings_pass(
+    starts: &[u8],
+    children: &[u8],
+    labels: &[u8],
+    marks: &[u8],
+    w: usize,
+    k: usize,
+    c: usize,
+    d: usize,
+) -> bool
+    requires { ⌜ Places w (now starts) (now children) k c ⌝ }
+    requires { ⌜ Labellings w (now labels) k d ⌝ }
+    requires { ⌜ Tells (childrenIn w (now starts) (now children) k c) (now marks) k ⌝ }
+    ensures { λ a. ⌜ a ≡ allOf (labelsPass (childrenIn w (now (starts .entry)) (now (children .entry)) k c)) (labelsIn w (now (labels .entry)) k d) ⌝ }
+{
+    let mut j = 0;
+    while j < d {
+        if !labelling_passes(starts, children, labels, marks, w, k, c, d, j) {
+            return false;
+        }
+        j += 1;
+    }
+    true
 }
