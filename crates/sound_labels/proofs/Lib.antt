@@ -9,3 +9,4 @@ pub mod Blocks
 pub mod Marks
 pub mod Labels
 pub mod Labellings
+pub mod Nobody
