@@ -265,11 +265,11 @@ fn block_passes(
     let low = label(triples, w, k, p, M) - 1;
     let mut rank = label(triples, w, k, p, E) - 1;
     while low < rank {
-        let q = num(places, w, rank - 1);
-        if !child_in(starts, children, w, k, c, p, q) {
+        let child = num(places, w, rank - 1);
+        if !child_in(starts, children, w, k, c, p, child) {
             return false;
         }
-        rank = label(triples, w, k, q, M) - 1;
+        rank = label(triples, w, k, child, M) - 1;
     }
     rank == low
 }
@@ -319,11 +319,11 @@ fn roots_pass(triples: &[u8], places: &[u8], marks: &[u8], w: usize, k: usize) -
 {
     let mut rank = k;
     while 0 < rank {
-        let q = num(places, w, rank - 1);
-        if marks[q] != 0 {
+        let root = num(places, w, rank - 1);
+        if marks[root] != 0 {
             return false;
         }
-        rank = label(triples, w, k, q, M) - 1;
+        rank = label(triples, w, k, root, M) - 1;
     }
     true
 }
