@@ -1,68 +1,68 @@
--- The two traversals as `traverse` makes them; a group's name is the least of its tree.
+-- A group's name is in its group and is its smallest vertex, so two vertices have one name exactly when they are in one group, and a name is its
+-- own name: the name is the first of 0, 1, .. that is in the vertex's group, and the vertex itself is one such.
 use mathlib.Core.Bool.{true}
-use mathlib.Core.Path.{_≡_, refl}
-use mathlib.Core.List.{[], _∷_, reverse}
-use Prim.Native.Nat.{ℕ, suc, _<_, _≤_}
+use mathlib.Core.Logic.{_↔_}
+use mathlib.Core.Path.{_≡_, sym, subst}
+use Prim.Native.Nat.{ℕ, _<_, _≤_}
 use native.Mathlib.Omega.{arith}
-use Rattle.lineage.specs.Lists.{among, upto}
-use Rattle.lineage.specs.Graph.{Graph, nameOf, Ends}
-use Rattle.lineage.specs.Labels.{Forest, finished, traverse}
-use Rattle.laws.specs.Visits.{Visits}
-use Rattle.laws.proofs.Traversal.{unseen, made, unseen-none}
-use Rattle.laws.proofs.Below.{from-todo}
-use Rattle.laws.proofs.Closed.{Closed, stays}
-use Rattle.laws.proofs.Trees.{trees, Together}
-use Rattle.laws.proofs.Lists.{among-reverse, in-upto, length-upto, upto-low}
-use Rattle.laws.proofs.TwoPasses.{next, back, row-edge, edge-turned, groups-are-trees}
-use Rattle.laws.proofs.Condensed.{name-facts, same-both, same-to, same-from}
-
--- the two traversals as `traverse` makes them
-unfoldable pub pass₁ : Graph → Forest
-unfolding traverse
-pass₁ G = traverse (next G) (suc (G .n)) (upto (G .n)) []
-
-unfoldable pub pass₂ : Graph → Forest
-unfolding traverse pass₁
-pass₂ G = traverse (back G) (suc (G .n)) (reverse (finished (pass₁ G))) []
+use lib.ListN.{length, getD}
+use Rattle.lineage.specs.Lists.{upto}
+use Rattle.lineage.specs.Graph.{Graph, Ends, stay, reaches, sameGroup, nameOf, namesOf}
+use Rattle.laws.specs.Leads.{OneGroup}
+use Rattle.laws.proofs.Tests.{and-both, and-left, and-right}
+use Rattle.laws.proofs.Lists.{in-upto, table-at, table-long}
+use Rattle.laws.proofs.Rising.{rises-upto, first-of}
+use Rattle.laws.proofs.Reaches.{reaches-on, reaches-exactly}
 
 module _ (G : Graph) (ends : Ends G) where
-  enough : unseen (upto (G .n)) [] < suc (G .n)
-  enough = omega (arith, unseen-none (upto (G .n)), length-upto (G .n))
+  pub same-group : (u v : ℕ) → (sameGroup G u v ≡ true) ↔ OneGroup G u v
+  unfolding sameGroup
+  same-group u v = (
+    λ h. (reaches-exactly G ends u v .0 (and-left (reaches G u v) _ h), reaches-exactly G ends v u .0 (and-right (reaches G u v) _ h)),
+    λ m. and-both (reaches-exactly G ends u v .1 (m .0)) (reaches-exactly G ends v u .1 (m .1)),
+  )
 
-  to-vertices : (p q : ℕ) → among q (next G p) ≡ true → among q (upto (G .n)) ≡ true
-  to-vertices p q h = in-upto (G .n) q (ends .targets-low p q (row-edge (G .sources) (G .targets) p q h))
+  -- being in one group, turned and joined
+  pub group-turn : {u v : ℕ} → OneGroup G u v → OneGroup G v u
+  group-turn m = (m .1, m .0)
 
-  from-vertices : (p q : ℕ) → among q (back G p) ≡ true → among q (upto (G .n)) ≡ true
-  from-vertices p q h = in-upto (G .n) q (ends .sources-low q p (edge-turned (row-edge (G .targets) (G .sources) p q h)))
+  pub group-on : {u w v : ℕ} → OneGroup G u w → OneGroup G w v → OneGroup G u v
+  group-on a b = (reaches-on (a .0) (b .0), reaches-on (b .1) (a .1))
 
-  pub made₁ : Visits (next G) (upto (G .n)) [] (pass₁ G)
-  unfolding pass₁
-  made₁ = made (next G) (upto (G .n)) to-vertices (suc (G .n)) (upto (G .n)) [] (λ q h. h) enough
+  -- no vertex of the group is below the name
+  pub name-smallest : (u v : ℕ) → v < G .n → OneGroup G u v → nameOf G u ≤ v
+  unfolding nameOf
+  name-smallest u v h m = first-of (sameGroup G u) (upto (G .n)) u v (rises-upto (G .n)) (in-upto (G .n) v h) (same-group u v .1 m) .2
 
-  vertices : Closed (next G) (upto (G .n))
-  vertices = record { inside = λ p q j. to-vertices p q }
+  -- the name is a vertex, and in the group
+  pub name-low : (u : ℕ) → u < G .n → nameOf G u < G .n
+  name-low u h = omega (arith, name-smallest u u h (stay, stay))
 
-  pub only-vertices : (v : ℕ) → among v (finished (pass₁ G)) ≡ true → among v (upto (G .n)) ≡ true
-  only-vertices v h =
-      let (q, i, l) = from-todo made₁ v h in
-      stays vertices l i
+  pub name-group : (u : ℕ) → u < G .n → OneGroup G u (nameOf G u)
+  unfolding nameOf
+  name-group u h =
+      same-group u (nameOf G u) .0 (first-of (sameGroup G u) (upto (G .n)) u u (rises-upto (G .n)) (in-upto (G .n) u h) (same-group u u .1 (stay, stay)) .0)
 
-  pub made₂ : Visits (back G) (reverse (finished (pass₁ G))) [] (pass₂ G)
-  unfolding pass₂
-  made₂ = made (back G) (upto (G .n)) from-vertices (suc (G .n)) _ [] (λ q h. only-vertices q (rw among-reverse at h)) enough
+  -- two vertices have one name exactly where they are in one group
+  pub name-one : (u v : ℕ) → u < G .n → v < G .n → (nameOf G u ≡ nameOf G v) ↔ OneGroup G u v
+  name-one u v h k = (
+    λ e. group-on (name-group u h) (group-turn (subst (OneGroup G v) (sym e) (name-group v k))),
+    λ m. omega (
+      arith,
+      name-smallest u (nameOf G v) (name-low v k) (group-on m (name-group v k)),
+      name-smallest v (nameOf G u) (name-low u h) (group-on (group-turn m) (name-group u h)),
+    ),
+  )
 
-  -- a vertex's name is the least of its tree
-  pub name-is-least :
-      (u w : ℕ) → u < G .n → w < G .n → Together (trees (pass₂ G)) u w
-      → ((v : ℕ) → v < G .n → Together (trees (pass₂ G)) u v → w ≤ v) → nameOf G u ≡ w
-  name-is-least u w i j t low =
-      let trees-are = groups-are-trees G made₁ made₂ in
-      let (to, from) = trees-are u w i j .0 t in
-      let (s, k, l) = name-facts G ends u w j (same-both G ends u w to from) in
-      let h : nameOf G u < G .n = upto-low (G .n) (nameOf G u) k in
-      omega (arith, l, low (nameOf G u) h (trees-are u (nameOf G u) i h .1 (same-to G ends u (nameOf G u) s, same-from G ends u (nameOf G u) s)))
+  -- a name is its own name
+  pub name-own : (u : ℕ) → u < G .n → nameOf G (nameOf G u) ≡ nameOf G u
+  name-own u h = sym (name-one u (nameOf G u) h (name-low u h) .1 (name-group u h))
 
--- 0, 1 and 2 reach each other; 3 is only reached
-example : trees (pass₂ (record { n = 4; sources = 0 ∷ 1 ∷ 2 ∷ 2 ∷ []; targets = 1 ∷ 2 ∷ 0 ∷ 3 ∷ [] })) ≡ (1 ∷ 2 ∷ 0 ∷ []) ∷ (3 ∷ []) ∷ []
-unfolding pass₂
-example = refl
+  -- the names as a list
+  pub names-long : length (namesOf G) ≡ G .n
+  unfolding namesOf
+  names-long = table-long (nameOf G) (G .n)
+
+  pub name-at : (v : ℕ) → v < G .n → getD (namesOf G) v 0 ≡ nameOf G v
+  unfolding namesOf
+  name-at v h = table-at (nameOf G) (G .n) v 0 h
