@@ -2,10 +2,9 @@
 use mathlib.Core.Bool.{Bool, _&&_, and-true, and-assoc}
 use mathlib.Core.Path.{_≡_, refl, sym, ap, _∙_}
 use mathlib.Core.List.{List, [], _∷_, _++_, map, map-append}
-use Prim.Native.Nat.{ℕ, zero, suc, _+_, _*_, _≤_, _<_}
+use Prim.Native.Nat.{ℕ, zero, suc, _+_, _*_}
 use native.Mathlib.Omega.{arith}
 use Rattle.lineage.specs.Lists.{upto, allBelow, allOf}
-use Rattle.lineage.specs.Labels.{Labelling}
 use Rattle.lineage.specs.Sound.{labelsPass}
 use Rattle.numbers.specs.Regions.{Part}
 use Rattle.sections.specs.Sections.{labellingIn, triplesOf, placesOf, labelsIn}

@@ -1,12 +1,11 @@
 -- Marks cleared, then set at each number of a list, one at a time; and what they then tell: the mark of p is 0 exactly where p does not stand in the list.
-use mathlib.Core.Bool.{Bool, true, false, not, _&&_}
+use mathlib.Core.Bool.{true, not, _&&_}
 use mathlib.Core.Path.{_≡_, refl, sym, ap, _∙_}
 use mathlib.Core.List.{List, [], _∷_, _++_}
 use Prim.Native.Nat.{ℕ, suc, _+_, _≤_, _<_}
 use native.Mathlib.Omega.{arith}
 use native.Mathlib.Decide.{ℕ-discrete}
 use native.Mathlib.Numerals.{add-one}
-use lib.Dec.{eqb}
 use lib.ListN.{length, getD, drop, set, replicate, length-set, length-append, length-drop, length-replicate, getD-replicate, drop-of-length-le, List·getD-append}
 use lib.Seq.{drop-cons, drop-at, drop-set-lt, getD-set-same, getD-set-other}
 use borrow.Author.Tests.{eq-eqb, ne-eqb}
