@@ -21,7 +21,7 @@ use Rattle.sections.proofs.Sections.{children-long}
 use Rattle.stored.proofs.Starts.{starts-rise, rows-joined}
 use Rattle.sound_groups.specs.Fit.{Places}
 use Rattle.sound_groups.proofs.Passed.{all-at}
-use Rattle.sound_labels.specs.Marks.{marked, Tells}
+use Rattle.sound_labels.specs.Marks.{marked, unmarked, Tells}
 use Rattle.sound_labels.proofs.Marks.{cleared-long, cleared-at, marked-at, marked-long, marked-cleared}
 
 -- what holds of each row's members holds of those of the rows joined
@@ -64,18 +64,23 @@ module _ {w k c : ℕ} {starts children : List ℕ} (P : Places w starts childre
   entry-low j h =
       omega (arith, member-low (getD entries j 0) (in-getD entries j (omega (arith, numbers-long w children c))), numbers-at w children c j h)
 
-  -- cleared marks, marked at the child entries, tell who is nobody's child
-  module _ (n : ℕ) (marks : List ℕ) (small : k ≤ n) (room : n ≤ length marks) where
-    pub tells : Tells rows (marked entries (cleared n marks)) k
+  -- marks cleared, then marked at the child entries, tell who is nobody's child; cleared again, they are as cleared at first
+  module _ {n : ℕ} (first : List ℕ) {clear told : List ℕ} (small : k ≤ n) (room : n ≤ length first) (cleared-is : clear ≡ cleared n first) (told-is : told ≡ marked entries clear) where
+    clear-long : length clear ≡ length first
+    clear-long = ap length cleared-is ∙ cleared-long n first room
+
+    pub tells : Tells rows told k
     unfolding nobodysChild
     tells = record {
-      long = omega (arith, marked-long entries (cleared n marks), cleared-long n marks room);
+      long = omega (arith, ap length told-is, marked-long entries clear, clear-long);
       right = λ p h.
-          marked-at entries (cleared n marks) p (omega (arith, cleared-long n marks room))
-          ∙ ap₂ (λ (a b : Bool). not a && b) (ap (among p) (sym joined-is)) (eq-eqb (getD (cleared n marks) p 0) 0 (cleared-at n marks p (omega arith)))
+          ap (λ (marks : List ℕ). unmarked marks p) told-is
+          ∙ marked-at entries clear p (omega (arith, clear-long))
+          ∙ ap₂ (λ (a b : Bool). not a && b) (ap (among p) (sym joined-is))
+          (eq-eqb (getD clear p 0) 0 (ap (λ (marks : List ℕ). getD marks p 0) cleared-is ∙ cleared-at n first p (omega arith)))
           ∙ and-true (not (among p (joined rows)));
     }
 
-    -- cleared again, they are the marks cleared
-    pub cleared-again : cleared n (marked entries (cleared n marks)) ≡ cleared n marks
-    cleared-again = marked-cleared entries n marks (λ q i. omega (arith, member-low q i))
+    pub told-cleared : {last : List ℕ} → last ≡ cleared n told → last ≡ cleared n first
+    told-cleared e =
+        e ∙ ap (cleared n) (told-is ∙ ap (marked entries) cleared-is) ∙ marked-cleared entries n first (λ q i. omega (arith, member-low q i))

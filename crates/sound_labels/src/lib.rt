@@ -2,7 +2,7 @@
 ghost use mathlib.Core.Path.{_≡_};
 ghost use Prim.Native.Nat.{_+_, _*_, _^_, _≤_, _<_, min};
 ghost use lib.ListN.{length};
-ghost use Rattle.lineage.specs.Lists.{allBelow, allOf};
+ghost use Rattle.lineage.specs.Lists.{allBelow, allOf, cleared};
 ghost use Rattle.lineage.specs.Numbers.{numAt, numbers};
 ghost use Rattle.lineage.specs.Sound.{childOf, walkEnds, rankPasses, fallPasses, outerPasses, innerPasses, blockPasses, labelsPass};
 ghost use Rattle.sections.specs.Sections.{childrenIn, labellingIn, labelsIn};
@@ -10,6 +10,7 @@ ghost use Rattle.sound_groups.specs.Fit.{Places};
 ghost use Rattle.sound_labels.specs.Tests.{leastBelow, labellingPasses};
 ghost use Rattle.sound_labels.specs.Marks.{marked, unmarked, Within, Tells};
 ghost use Rattle.sound_labels.specs.Fit.{Triples, Labels, Labelled, Ranked, Labellings};
+use numbers::clear_marks;
 use numbers::num;
 use sound_groups::row_span;
 
@@ -299,7 +300,7 @@ fn blocks_pass(
 }
 
 // Marks every child: sets the mark of each of the c child entries to 1.
-pub fn mark_children(children: &[u8], marks: &mut [u8], w: usize, c: usize)
+fn mark_children(children: &[u8], marks: &mut [u8], w: usize, c: usize)
     requires { ⌜ Within w (now children) c (length (now marks)) ⌝ }
     ensures { λ _. ⌜ now (marks .exit) ≡ marked (numbers w (now (children .entry)) c) (now (marks .entry)) ⌝ }
 {
@@ -385,7 +386,7 @@ fn labelling_passes(
 }
 
 // Whether each of d labellings is.
-pub fn labellings_pass(
+fn labellings_pass(
     starts: &[u8],
     children: &[u8],
     labels: &[u8],
@@ -408,4 +409,29 @@ pub fn labellings_pass(
         j += 1;
     }
     true
+}
+
+// Whether each of d labellings is by the rules over the children. Marks tell meanwhile who is somebody's child; those below n are 0 afterwards.
+pub fn labels_sound(
+    starts: &[u8],
+    children: &[u8],
+    labels: &[u8],
+    marks: &mut [u8],
+    w: usize,
+    n: usize,
+    k: usize,
+    c: usize,
+    d: usize,
+) -> bool
+    requires { ⌜ Places w (now starts) (now children) k c ⌝ }
+    requires { ⌜ Labellings w (now labels) k d ⌝ }
+    requires { ⌜ (k ≤ n) × (n ≤ length (now marks)) ⌝ }
+    ensures { λ a. ⌜ a ≡ allOf (labelsPass (childrenIn w (now (starts .entry)) (now (children .entry)) k c)) (labelsIn w (now (labels .entry)) k d) ⌝ }
+    ensures { λ _. ⌜ now (marks .exit) ≡ cleared n (now (marks .entry)) ⌝ }
+{
+    clear_marks(marks, n);
+    mark_children(children, marks, w, c);
+    let passed = labellings_pass(starts, children, labels, marks, w, k, c, d);
+    clear_marks(marks, n);
+    passed
 }
