@@ -58,3 +58,65 @@ fn parts_sound(
     }
     labels_sound(starts, children, labels, marks, w, n, k, c, d)
 }
+
+// Whether the contents of bytes whose header passes are sound: whether some edge list and some orders yield exactly these bytes. Marks below n are 0 afterwards.
+pub fn contents_sound(index: &[u8], l: Layout, marks: &mut [u8]) -> bool
+    requires { ⌜ Laid (now index) l ⌝ }
+    requires { ⌜ l .n ≤ length (now marks) ⌝ }
+    ensures { λ r. ⌜ r ≡ contentsSound (l .width) (now (index .entry)) ⌝ }
+    ensures { λ _. ⌜ now (marks .exit) ≡ cleared (l .n) (now (marks .entry)) ⌝ }
+{
+    parts_sound(
+        stored::sections::names(index, l),
+        stored::sections::groups(index, l),
+        stored::sections::levels(index, l),
+        stored::sections::starts(index, l),
+        stored::sections::children(index, l),
+        stored::sections::labels(index, l),
+        marks,
+        l.width,
+        l.n,
+        l.k,
+        l.c,
+        l.d,
+    )
+}
+
+// Opens bytes whose header passes: refusals 13 and 15, or the counts.
+fn open_laid(index: &[u8], l: Layout, marks: &mut [u8]) -> Opened
+    requires { ⌜ Laid (now index) l ⌝ }
+    ensures { λ r. ⌜ openedOf r ≡ lateAnswer (now (index .entry)) (length (now (marks .entry))) ⌝ }
+    ensures { λ _. ⌜ now (marks .exit) ≡ lateMarks (now (index .entry)) (now (marks .entry)) ⌝ }
+{
+    let n = l.n;
+    if marks.len() < n {
+        return Opened::Refused {
+            number: 13,
+            extra: n,
+        };
+    }
+    if !contents_sound(index, l, marks) {
+        return Opened::Refused {
+            number: 15,
+            extra: 0,
+        };
+    }
+    Opened::Index {
+        n,
+        k: l.k,
+        c: l.c,
+        d: l.d,
+    }
+}
+
+// Opens a stored index: refusals 10, 11, 12, 13 and 15 in order, or its counts. Marks below n are 0 after 15 and after success; the refusals before leave them
+// as they were.
+pub fn open(index: &[u8], marks: &mut [u8]) -> Opened
+    ensures { λ r. ⌜ openedOf r ≡ openAnswer (now (index .entry)) (length (now (marks .entry))) ⌝ }
+    ensures { λ _. ⌜ now (marks .exit) ≡ openMarks (now (index .entry)) (now (marks .entry)) ⌝ }
+{
+    match header::read_header(index) {
+        Header::Refused(number, extra) => Opened::Refused { number, extra },
+        Header::Passed(l) => open_laid(index, l, marks),
+    }
+}
