@@ -22,7 +22,7 @@ use Rattle.sound_labels.specs.Marks.{marked, unmarked, Tells}
 use Rattle.sound_labels.proofs.Marks.{cleared-long, cleared-at, marked-at, marked-long, marked-cleared}
 
 -- what holds of each row's members holds of those of the rows joined
-joined-all : (Q : ℕ → Type 0) (rows : List (List ℕ))
+pub joined-all : (Q : ℕ → Type 0) (rows : List (List ℕ))
     → ((p : ℕ) → p < length rows → (x : ℕ) → among x (getD rows p []) ≡ true → Q x)
     → (x : ℕ)
     → among x (joined rows) ≡ true
