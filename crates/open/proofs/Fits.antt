@@ -7,17 +7,15 @@ use native.Mathlib.Omega.{arith}
 use lib.Dec.{leb}
 use lib.ListN.{length}
 use borrow.Author.Tests.{leb-true}
-use Rattle.lineage.specs.Lists.{joined, Every}
-use Rattle.lineage.specs.Graph.{Graph, Ends, levelsOf, condense}
+use Rattle.lineage.specs.Lists.{Every}
+use Rattle.lineage.specs.Graph.{Graph, Ends, levelsOf}
 use Rattle.lineage.specs.Labels.{Order, Labelling}
 use Rattle.lineage.specs.Index.{Index, indexBy, indexOf}
-use Rattle.lineage.specs.Stored.{Form, form1, Counts, countsOf, countsFit, encode, headerAt, countsIn, formOf, section, decode}
+use Rattle.lineage.specs.Stored.{Form, form1, Counts, countsOf, countsFit, encode, headerAt, countsIn, formOf, section}
 use Rattle.lineage.specs.Sound.{startsPass, sound, contentsSound}
 use Rattle.lineage.specs.Calls.{answered, openAnswer}
 use Rattle.laws.specs.Sound.{SoundLabelling, Sound}
 use Rattle.laws.proofs.Sound.{made-sound}
-use Rattle.laws.proofs.Decides.{sound-decides}
-use Rattle.stored.specs.Header.{layoutIn, Laid}
 use Rattle.stored.specs.Fits.{Full, Fits}
 use Rattle.stored.proofs.Tests.{both}
 use Rattle.stored.proofs.Encoded.{header-read, counts-read, decode-encode, encode-passes, encode-laid}

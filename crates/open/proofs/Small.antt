@@ -1,13 +1,13 @@
 -- The numbers of an index that some edge list and orders yield are small: vertices and names below n, places, levels and ranks at most k, starts at most c. So a
 -- form's width holds them.
-use mathlib.Core.Bool.{Bool, true}
-use mathlib.Core.Path.{_≡_, refl, sym, ap, _∙_, subst}
-use mathlib.Core.List.{List, [], _∷_, _++_, map}
-use Prim.Native.Nat.{ℕ, zero, suc, _≤_, _<_, max}
+use mathlib.Core.Bool.{true}
+use mathlib.Core.Path.{_≡_, subst}
+use mathlib.Core.List.{List, [], _∷_, map}
+use Prim.Native.Nat.{ℕ, zero, suc, _≤_, _<_}
 use native.Mathlib.Omega.{arith}
 use lib.Dec.{eqb}
 use lib.ListN.{length, getD}
-use Rattle.lineage.specs.Lists.{upto, among, those, position, greatest, least, joined, Every}
+use Rattle.lineage.specs.Lists.{upto, among, position, greatest, joined, Every}
 use Rattle.lineage.specs.Graph.{groupList, level, levelsOf}
 use Rattle.lineage.specs.Labels.{Labelling}
 use Rattle.lineage.specs.Index.{Index}
@@ -16,7 +16,6 @@ use Rattle.laws.specs.Sound.{SoundLabelling, SoundGroups, Sound}
 use Rattle.laws.proofs.Lists.{in-getD, those-pass, upto-low, length-upto, position-low, at-position, least-below}
 use Rattle.laws.proofs.Rising.{those-short}
 use Rattle.laws.proofs.Inverse.{e-most}
-use Rattle.numbers.proofs.Tables.{table-long, table-at}
 use Rattle.stored.proofs.Starts.{starts-long, starts-rise, starts-low}
 use Rattle.sound_labels.proofs.Nobody.{joined-all}
 use Rattle.open.proofs.Every.{every-getD, every-append, every-joined, every-table}
