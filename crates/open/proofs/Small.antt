@@ -48,7 +48,7 @@ module _ {children : List (List ℕ)} {l : Labelling} (L : SoundLabelling childr
       (every-getD (λ x. x < N) 0 (l .byRank) (λ r h. omega (arith, L .at-low r (omega (arith, L .at-long)))))
 
 -- the whole index
-module _ {I : Index} (S : Sound I) (levels-are : I .levels ≡ levelsOf (I .children)) where
+module _ {I : Index} (S : Sound I) where
   G : SoundGroups (I .names) (I .groups) (I .levels) (I .children)
   G = S .condensed
 
@@ -58,10 +58,10 @@ module _ {I : Index} (S : Sound I) (levels-are : I .levels ≡ levelsOf (I .chil
       rw (G .groups-are)
       (omega (arith, those-short (λ v. eqb (getD (I .names) v 0) v) (upto (length (I .names))), length-upto (length (I .names))))
 
-  pub places-few : length (I .children) ≤ length (I .names)
+  places-few : length (I .children) ≤ length (I .names)
   places-few = omega (arith, groups-few, G .children-long)
 
-  module _ (N : ℕ) (few : length (I .names) < N) (few-entries : length (joined (I .children)) < N) where
+  module _ (levels-are : I .levels ≡ levelsOf (I .children)) (N : ℕ) (few : length (I .names) < N) (few-entries : length (joined (I .children)) < N) where
     abbrev Low : List ℕ → Type 0
     Low xs = Every (λ x. x < N) xs
 

@@ -16,12 +16,13 @@ use Rattle.lineage.specs.Index.{Index, indexOf, Made}
 use Rattle.lineage.specs.Stored.{Form, form1, Counts, countsOf, countsFit, encode, headerAt, countsIn, formOf, stretch, section, labellingAt, decode}
 use Rattle.lineage.specs.Sound.{startsPass, sound, contentsSound}
 use Rattle.lineage.specs.Calls.{answered, openAnswer, indexIn}
-use Rattle.laws.proofs.Sound.{made-sound, sound-is-made}
+use Rattle.laws.proofs.Sound.{made-sound, sound-is-made, made-long}
 use Rattle.laws.proofs.Decides.{sound-decides}
 use Rattle.numbers.proofs.Numbers.{numbers-long}
 use Rattle.numbers.proofs.Tables.{table-long}
 use Rattle.numbers.proofs.Written.{Bytes}
 use Rattle.stored.specs.Header.{layoutIn}
+use Rattle.stored.specs.Fits.{Fits}
 use Rattle.stored.proofs.Tests.{both}
 use Rattle.stored.proofs.Starts.{starts-rise, rows-joined}
 use Rattle.stored.proofs.Laid.{header-laid}
@@ -32,7 +33,7 @@ use Rattle.open.proofs.Checks.{opened-header, opened-counts, opened-con
 use Rattle.open.specs.declared.Opened.{Opened}
 use Rattle.open.specs.declared.Opened.the-variants.{Index as IndexOf, Refused}
 use Rattle.open.specs.Opened.{openedOf}
-use Rattle.open.proofs.Fits.{Wide, form1-wide, yielded-fits, fits-opens}
+use Rattle.open.proofs.Fits.{form1-wide, bounds-kept, yielded-fits, fits-opens}
 
 -- every number stands for form 1, the only one there is
 form-is : (number : ℕ) → formOf number ≡ form1
@@ -82,30 +83,39 @@ module _ (b : List ℕ) (marks : ℕ) {a : Counts} (e : answered a ≡ openAnswe
       }
 
 -- What is yielded.
-module _ {F : Form} (W : Wide F) (G : Graph) (ends : Ends G) (orders : List (List ℕ)) (permuted : Every (Order (G .n)) orders)
-    (bounds : countsFit F (countsOf (indexOf G orders)) ≡ true)
-  where
-    -- what a build of accepted input stores opens
-    pub built-opens : (marks : ℕ) → length (indexOf G orders .names) ≤ marks → answered (countsOf (indexOf G orders)) ≡ openAnswer (encode F (indexOf G orders)) marks
-    built-opens marks h =
-        fits-opens (yielded-fits W G ends orders permuted bounds) (sound-decides (indexOf G orders) .1 (made-sound G ends orders permuted)) marks h
-
-    pub built-counts : countsIn (encode F (indexOf G orders)) ≡ countsOf (indexOf G orders)
-    built-counts = counts-read (yielded-fits W G ends orders permuted bounds)
-
 yielded-opens : (b : List ℕ) (marks : ℕ) → countsIn b .n ≤ marks → Yielded form1 b → answered (countsIn b) ≡ openAnswer b marks
 yielded-opens b marks h Y =
     let I : Index = indexOf (Y .graph) (Y .orders) in
-    let counts : countsIn (encode form1 I) ≡ countsOf I = built-counts form1-wide (Y .graph) (Y .ends) (Y .orders) (Y .permuted) (Y .bounds) in
-    let n : countsIn b .n ≡ length (I .names) = ap (λ (z : List ℕ). countsIn z .n) (sym (Y .yields)) ∙ ap (λ (z : Counts). z .n) counts in
+    let E : Fits form1 I = yielded-fits form1-wide (Y .graph) (Y .ends) (Y .orders) (Y .permuted) (Y .bounds) in
+    let n : countsIn b .n ≡ length (I .names) = ap (λ (z : List ℕ). countsIn z .n) (sym (Y .yields)) ∙ ap (λ (z : Counts). z .n) (counts-read E) in
     ap (λ (z : List ℕ). answered (countsIn z)) (sym (Y .yields))
-    ∙ ap answered counts
-    ∙ built-opens form1-wide (Y .graph) (Y .ends) (Y .orders) (Y .permuted) (Y .bounds) marks (omega arith)
+    ∙ ap answered (counts-read E)
+    ∙ fits-opens E (sound-decides I .1 (made-sound (Y .graph) (Y .ends) (Y .orders) (Y .permuted))) marks (omega arith)
     ∙ ap (λ (z : List ℕ). openAnswer z marks) (Y .yields)
 
 -- bytes open exactly where some edge list, of any length, and some orders, n, c and d being within form 1's bounds, yield exactly these bytes
 pub opens-exactly : (b : List ℕ) (marks : ℕ) → Bytes b → countsIn b .n ≤ marks → (openAnswer b marks ≡ answered (countsIn b)) ↔ Yielded form1 b
 opens-exactly b marks small room = ((λ e. opened-yielded b marks (sym e) small), λ Y. sym (yielded-opens b marks room Y))
+
+-- and so of the code: whatever answer its contract allows
+pub accepts-exactly : (b : List ℕ) (marks : ℕ) → Bytes b → countsIn b .n ≤ marks → (r : Opened) → openedOf r ≡ openAnswer b marks
+    → (openedOf r ≡ answered (countsIn b)) ↔ Yielded form1 b
+accepts-exactly b marks small room r e = rw e (opens-exactly b marks small room)
+
+-- what a build of accepted input stores opens
+pub built-opens : (G : Graph) → Ends G → (orders : List (List ℕ)) → Every (Order (G .n)) orders
+    → G .n ≤ 4096
+    → length (G .sources) ≤ 16384
+    → 1 ≤ length orders
+    → length orders ≤ 5
+    → (marks : ℕ)
+    → G .n ≤ marks
+    → openAnswer (encode form1 (indexOf G orders)) marks ≡ answered (countsOf (indexOf G orders))
+built-opens G ends orders permuted vertices edges least most marks room =
+    let bounds = bounds-kept form1 G ends orders permuted vertices edges least most in
+    let passes = sound-decides (indexOf G orders) .1 (made-sound G ends orders permuted) in
+    let n = made-long (record { graph = G; ends = ends; orders = orders; permuted = permuted; yields = refl }) in
+    sym (fits-opens (yielded-fits form1-wide G ends orders permuted bounds) passes marks (omega arith))
 
 -- two answers allowed by open's contract are equal
 pub opened-once : (r r' : Opened) → openedOf r ≡ openedOf r' → r ≡ r'
