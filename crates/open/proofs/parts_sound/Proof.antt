@@ -11,7 +11,7 @@ groups-pass-requires : tie.Need-groups-pass-requires
 groups-pass-requires c κs = c .before .before .before .before .before .before .before .pre .0 .condensed
 
 clear-marks-requires : tie.Need-clear-marks-requires
-clear-marks-requires c κs = c .before .before .before .before .before .before .before .before .before .before .pre .1
+clear-marks-requires c κs = search needs
 
 same-length : tie.Need-same-length
 same-length c = search needs
