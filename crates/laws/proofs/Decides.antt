@@ -1,0 +1,256 @@
+-- The computed tests decide Sound.
+use mathlib.Core.Bool.{Bool, true, false, _&&_, false≢true}
+use mathlib.Core.Logic.{_↔_}
+use mathlib.Core.Path.{_≡_, refl, ap, ap₂}
+use mathlib.Core.List.{List, [], _∷_, map}
+use Prim.Native.Nat.{ℕ, zero, suc, _<_, _≤_, _-_}
+use native.Mathlib.Nat.{not-suc-le-zero}
+use native.Mathlib.Decide.{ℕ-discrete}
+use native.Mathlib.Omega.{arith}
+use lib.Dec.{eqb, leb, ltb}
+use lib.ListN.{length, getD, drop}
+use borrow.Author.Tests.{eqb-true, eq-eqb, leb-true, le-leb, lt-leb, ltb-true, lt-ltb}
+use Rattle.lineage.specs.Lists.{among, position, least, greatest, sameList}
+use Rattle.lineage.specs.Graph.{groupList}
+use Rattle.lineage.specs.Labels.{Labelling, nobodysChild}
+use Rattle.lineage.specs.Index.{Index}
+use Rattle.lineage.specs.Sound.{childOf}
+use Rattle.lineage.specs.Lists.{Every}
+use Rattle.laws.specs.Tests.{LeftWalk, arrived, left, SoundLabelling, SoundGroups, Sound}
+use Rattle.lineage.specs.Lists.{allBelow, allOf}
+use Rattle.lineage.specs.Sound.{walkEnds, labelsPass, namesPass, groupsPass, sound}
+use Rattle.laws.proofs.Tests.{and-both, and-left, and-right}
+use Rattle.laws.proofs.Lists.{in-getD, position-low, at-position}
+use Rattle.laws.proofs.Inverse.{e-high}
+
+-- the test is true exactly where the fact holds
+abbrev pub Decides : Bool → Type 0 → Type 0
+Decides b P = (b ≡ true) ↔ P
+
+-- two tests, the second read where the first holds
+both : (a b : Bool) {P Q : Type 0} → Decides a P → (P → Decides b Q) → Decides (a && b) (P × Q)
+both a b da db = ((λ h. let p = da .0 (and-left a b h) in (p, db p .0 (and-right a b h))), λ pq. and-both (da .1 (pq .0)) (db (pq .0) .1 (pq .1)))
+
+equal : (a b : ℕ) → Decides (eqb a b) (a ≡ b)
+equal a b = (eqb-true a b, eq-eqb a b)
+
+at-most : (a b : ℕ) → Decides (leb a b) (a ≤ b)
+at-most a b = (leb-true a b, le-leb a b)
+
+less : (a b : ℕ) → Decides (ltb a b) (a < b)
+less a b = (ltb-true a b, lt-ltb a b)
+
+same-list : (xs ys : List ℕ) → Decides (sameList xs ys) (xs ≡ ys)
+same-list [] [] = ((λ h. refl), λ h. refl)
+same-list [] (y ∷ ys) = ((λ h. absurd (false≢true h)), λ h. absurd (omega (arith, ap length h)))
+same-list (x ∷ xs) [] = ((λ h. absurd (false≢true h)), λ h. absurd (omega (arith, ap length h)))
+same-list (x ∷ xs) (y ∷ ys) = (
+  (λ h. ap₂ _∷_ (eqb-true x y (and-left (eqb x y) (sameList xs ys) h)) (same-list xs ys .0 (and-right (eqb x y) (sameList xs ys) h))),
+  λ h. and-both (eq-eqb x y (ap (λ l. getD l 0 0) h)) (same-list xs ys .1 (ap (λ l. drop 1 l) h)),
+)
+
+-- a test of all numbers below n, of all members of a list
+below : (n : ℕ) (p : ℕ → Bool) (P : ℕ → Type 0) → ((i : ℕ) → i < n → Decides (p i) (P i)) → Decides (allBelow n p) ((i : ℕ) → i < n → P i)
+below zero p P d = ((λ h i l. absurd (not-suc-le-zero l)), λ h. refl)
+below (suc n) p P d =
+    let ih = below n p P (λ i l. d i (omega arith)) in (
+      (λ h i l. at h i l (ℕ-discrete i n) (ih .0 (and-left (allBelow n p) (p n) h))),
+      λ h. and-both (ih .1 (λ i l. h i (omega arith))) (d n (omega arith) .1 (h n (omega arith))),
+    )
+  where
+    at : (allBelow n p && p n) ≡ true → (i : ℕ) → i < suc n → Dec (i ≡ n) → ((j : ℕ) → j < n → P j) → P i
+    at h i l (yes e) rest = rw e (d n (omega arith) .0 (and-right (allBelow n p) (p n) h))
+    at h i l (no e) rest = rest i (omega arith)
+
+members : (p : ℕ → Bool) (P : ℕ → Type 0) → ((q : ℕ) → Decides (p q) (P q)) → (xs : List ℕ) → Decides (allBelow (length xs) (λ i. p (getD xs i 0))) ((q : ℕ) → among q xs ≡ true → P q)
+members p P d xs =
+    let all = below (length xs) (λ i. p (getD xs i 0)) (λ i. P (getD xs i 0)) (λ i l. d (getD xs i 0)) in
+    ((λ h q i. rw (at-position q xs i) at (all .0 h (position q xs) (position-low q xs i))), λ h. all .1 (λ i l. h (getD xs i 0) (in-getD xs i l)))
+
+every : {A : Type 0} (p : A → Bool) (P : A → Type 0) → ((x : A) → Decides (p x) (P x)) → (xs : List A) → Decides (allOf p xs) (Every P xs)
+every p P d [] = ((λ h. tt), λ h. refl)
+every p P d (x ∷ xs) =
+    let ih = every p P d xs in
+    ((λ h. (d x .0 (and-left (p x) (allOf p xs) h), ih .0 (and-right (p x) (allOf p xs) h))), λ h. and-both (d x .1 (h .0)) (ih .1 (h .1)))
+
+-- the walk, where each step goes left
+module _
+    (l : Labelling) (test : ℕ → Bool) (k : ℕ)
+    (shorter : (q : ℕ) → q < k → getD (l .m) (getD (l .byRank) q 0) 0 - 1 ≤ q)
+  where
+    walk-up : {hi lo : ℕ} → hi ≤ k → LeftWalk l test hi lo → lo ≤ hi
+    walk-up h arrived = omega arith
+    walk-up h (left {q = q} t w) = omega (arith, shorter q h, walk-up (omega (arith, shorter q h)) w)
+
+    walk-sound : (f hi lo : ℕ) → walkEnds l test f hi lo ≡ true → LeftWalk l test hi lo
+    unfolding walkEnds
+    walk-sound zero hi lo h = rw (eqb-true hi lo h) arrived
+    walk-sound (suc f) zero lo h = rw (eqb-true 0 lo h) arrived
+    walk-sound (suc f) (suc q) lo h = at (leb (suc q) lo) refl (walk-sound f (getD (l .m) (getD (l .byRank) q 0) 0 - 1) lo)
+      where
+        p : ℕ
+        p = getD (l .byRank) q 0
+
+        at : (b : Bool) → leb (suc q) lo ≡ b → (walkEnds l test f (getD (l .m) p 0 - 1) lo ≡ true → LeftWalk l test (getD (l .m) p 0 - 1) lo) → LeftWalk l test (suc q) lo
+        at true e ih = let z : suc q ≡ lo = eqb-true (suc q) lo (rw (e, walkEnds) at h) in rw z arrived
+        at false e ih = let z : (test p && walkEnds l test f (getD (l .m) p 0 - 1) lo) ≡ true = rw (e, walkEnds) at h in left (and-left (test p) _ z) (ih (and-right (test p) _ z))
+
+    stops : (f q : ℕ) → walkEnds l test f q q ≡ true
+    unfolding walkEnds
+    stops zero q = eq-eqb q q refl
+    stops (suc f) zero = eq-eqb 0 0 refl
+    stops (suc f) (suc q) = rw (le-leb (suc q) (suc q) (omega arith), walkEnds) (eq-eqb (suc q) (suc q) refl)
+
+    walk-complete : (f : ℕ) {hi lo : ℕ} → hi ≤ f → hi ≤ k → LeftWalk l test hi lo → walkEnds l test f hi lo ≡ true
+    unfolding walkEnds
+    walk-complete zero i j (arrived {q = q}) = stops zero q
+    walk-complete zero i j (left t w) = absurd (not-suc-le-zero i)
+    walk-complete (suc f) i j (arrived {q = q}) = stops (suc f) q
+    walk-complete (suc f) i j (left {q = q} {lo = lo} t w) =
+        let on : getD (l .m) (getD (l .byRank) q 0) 0 - 1 ≤ k = omega (arith, shorter q j) in
+        rw (lt-leb (suc q) lo (omega (arith, shorter q j, walk-up on w)), walkEnds) (and-both t (walk-complete f (omega (arith, shorter q j)) on w))
+
+    walk-decides : (hi lo : ℕ) → hi ≤ k → Decides (walkEnds l test k hi lo) (LeftWalk l test hi lo)
+    walk-decides hi lo h = (walk-sound k hi lo, λ w. walk-complete k h h w)
+
+module _ (kids : List (List ℕ)) (l : Labelling) where
+  abbrev k : ℕ
+  k = length kids
+
+  abbrev e : ℕ → ℕ
+  e p = getD (l .e) p 0
+
+  abbrev m : ℕ → ℕ
+  m p = getD (l .m) p 0
+
+  abbrev s : ℕ → ℕ
+  s p = getD (l .s) p 0
+
+  abbrev at : ℕ → ℕ
+  at r = getD (l .byRank) r 0
+
+  -- the fields of SoundLabelling, in the sequence of the tests
+  abbrev Ranks : Type 0
+  Ranks = (r : ℕ) → r < k → (at r < k) × (e (at r) ≡ suc r)
+
+  abbrev Mins : Type 0
+  Mins = (p : ℕ) → p < k → (1 ≤ m p) × (m p ≤ e p)
+
+  abbrev Fields : Type 0
+  Fields =
+      ((length (l .s) ≡ k) × ((length (l .m) ≡ k) × ((length (l .e) ≡ k) × (length (l .byRank) ≡ k))))
+      × (Ranks
+      × (((p : ℕ) → p < k → (q : ℕ) → childOf kids p q ≡ true → e q < e p)
+      × (((p : ℕ) → p < k → s p ≡ least (e p) (map s (getD kids p [])))
+      × (Mins
+      × (((p : ℕ) → p < k → LeftWalk l (childOf kids p) (e p - 1) (m p - 1))
+      × LeftWalk l (nobodysChild kids) k 0)))))
+
+  shorter : Ranks → Mins → (q : ℕ) → q < k → m (at q) - 1 ≤ q
+  shorter R M q h = omega (arith, R q h, M (at q) (R q h .0))
+
+  high : (length (l .s) ≡ k) × ((length (l .m) ≡ k) × ((length (l .e) ≡ k) × (length (l .byRank) ≡ k))) → Ranks → (p : ℕ) → p < k → e p - 1 ≤ k
+  high sizes R p h = omega (arith, e-high k (l .byRank) e (sizes .1 .1 .1) (λ r i. R r i .0) (λ r i. R r i .1) p h)
+
+  fields : Decides (labelsPass kids l) Fields
+  unfolding labelsPass
+  fields =
+      both _ _ (both _ _ (equal _ _) (λ a. both _ _ (equal _ _) (λ b. both _ _ (equal _ _) (λ c. equal _ _)))) (λ sizes.
+      both _ _ (below k _ _ (λ r h. both _ _ (less _ _) (λ a. equal _ _))) (λ R.
+      both _ _ (below k _ _ (λ p h. members (λ q. ltb (e q) (e p)) (λ q. e q < e p) (λ q. less _ _) (getD kids p []))) (λ falls.
+      both _ _ (below k _ _ (λ p h. equal _ _)) (λ outer.
+      both _ _ (below k _ _ (λ p h. both _ _ (at-most _ _) (λ a. at-most _ _))) (λ M.
+      both _ _ (below k _ _ (λ p h. walk-decides l (childOf kids p) k (shorter R M) (e p - 1) (m p - 1) (high sizes R p h))) (λ blocks.
+      walk-decides l (nobodysChild kids) k (shorter R M) k 0 (omega arith)))))))
+
+  labels-decide : Decides (labelsPass kids l) (SoundLabelling kids l)
+  labels-decide = (
+    (λ t. let f = fields .0 t in
+        record {
+          s-long = f .0 .0;
+          m-long = f .0 .1 .0;
+          e-long = f .0 .1 .1 .0;
+          at-long = f .0 .1 .1 .1;
+          at-low = λ r h. f .1 .0 r h .0;
+          e-at = λ r h. f .1 .0 r h .1;
+          falls = λ p q h i. f .1 .1 .0 p h q i;
+          outer-is = f .1 .1 .1 .0;
+          m-low = λ p h. f .1 .1 .1 .1 .0 p h .0;
+          m-high = λ p h. f .1 .1 .1 .1 .0 p h .1;
+          blocks = f .1 .1 .1 .1 .1 .0;
+          roots = f .1 .1 .1 .1 .1 .1;
+        }),
+    λ S. fields .1 (
+      (S .s-long, (S .m-long, (S .e-long, S .at-long))),
+      (
+        (λ r h. (S .at-low r h, S .e-at r h)),
+        (
+          (λ p h q i. S .falls p q h i),
+          (
+            S .outer-is,
+            (
+              (λ p h. (S .m-low p h, S .m-high p h)),
+              (S .blocks, S .roots),
+            ),
+          ),
+        ),
+      ),
+    ),
+  )
+
+module _ (names groups levels : List ℕ) (kids : List (List ℕ)) where
+  abbrev row : ℕ → List ℕ
+  row p = getD kids p []
+
+  -- the fields of SoundGroups, in the sequence of the tests
+  abbrev Names : Type 0
+  Names = ((v : ℕ) → v < length names → (getD names v 0 ≤ v) × (getD names (getD names v 0) 0 ≡ getD names v 0)) × (groups ≡ groupList names)
+
+  abbrev Rows : Type 0
+  Rows =
+      (p : ℕ) → p < length kids
+      → ((i : ℕ) → i < length (row p) → getD (row p) i 0 < length kids)
+      × ((i : ℕ) → i < length (row p) - 1 → getD (row p) i 0 < getD (row p) (suc i) 0)
+
+  abbrev Levels : Type 0
+  Levels = (p : ℕ) → p < length kids → getD levels p 0 ≡ greatest (map (λ q. suc (getD levels q 0)) (row p))
+
+  names-decide : Decides (namesPass names groups) Names
+  unfolding namesPass
+  names-decide = both _ _ (below (length names) _ _ (λ v h. both _ _ (at-most _ _) (λ a. equal _ _))) (λ a. same-list groups (groupList names))
+
+  group-fields : Decides (groupsPass names groups levels kids) (Names × (((length kids ≡ length groups) × (length levels ≡ length kids)) × (Rows × Levels)))
+  unfolding groupsPass
+  group-fields =
+      both _ _ names-decide (λ a.
+      both _ _ (both _ _ (equal _ _) (λ b. equal _ _)) (λ b.
+      both _ _ (below (length kids) _ _ (λ p h. both _ _ (below (length (row p)) _ _ (λ i j. less _ _)) (λ c. below (length (row p) - 1) _ _ (λ i j. less _ _)))) (λ c.
+      below (length kids) _ _ (λ p h. equal _ _))))
+
+  groups-decide : Decides (groupsPass names groups levels kids) (SoundGroups names groups levels kids)
+  groups-decide = (
+    (λ t. let f = group-fields .0 t in
+        record {
+          name-low = λ v h. f .0 .0 v h .0;
+          name-own = λ v h. f .0 .0 v h .1;
+          groups-are = f .0 .1;
+          kids-long = f .1 .0 .0;
+          levels-long = f .1 .0 .1;
+          kid-low = λ p i h j. f .1 .1 .0 p h .0 i j;
+          kid-rises = λ p i h j. f .1 .1 .0 p h .1 i (omega arith);
+          level-is = f .1 .1 .1;
+        }),
+    λ S. group-fields .1 (
+      ((λ v h. (S .name-low v h, S .name-own v h)), S .groups-are),
+      (
+        (S .kids-long, S .levels-long),
+        ((λ p h. ((λ i j. S .kid-low p i h j), λ i j. S .kid-rises p i h (omega arith))), S .level-is),
+      ),
+    ),
+  )
+
+pub sound-decides : (I : Index) → Decides (sound I) (Sound I)
+unfolding sound
+sound-decides I =
+    let d = both _ _ (groups-decide (I .names) (I .groups) (I .levels) (I .children)) (λ g. every (labelsPass (I .children)) (SoundLabelling (I .children)) (labels-decide (I .children)) (I .labels)) in
+    ((λ h. let f = d .0 h in record { condensed = f .0; labelled = f .1 }), λ S. d .1 (S .condensed, S .labelled))

@@ -1,0 +1,80 @@
+-- Edges of joined and mapped lists, and tests of edges.
+use mathlib.Core.Bool.{Bool, true, false≢true}
+use mathlib.Core.Logic.{_⊎_, inl, inr}
+use mathlib.Core.Path.{_≡_, refl, subst}
+use mathlib.Core.List.{List, [], _∷_, _++_, map}
+use Prim.Native.Nat.{ℕ}
+use native.Mathlib.Omega.{arith}
+use lib.Dec.{eqb}
+use lib.ListN.{length, length-append}
+use borrow.Author.Tests.{eqb-true}
+use Rattle.lineage.specs.Lists.{among, joined}
+use Rattle.lineage.specs.Graph.{Edge, first, later, someEdge}
+use Rattle.laws.proofs.Tests.{or-left, or-right, or-cases}
+use Rattle.laws.proofs.Lists.{here, there}
+
+-- some edge passes a test
+pub some-sound : (p : ℕ → ℕ → Bool) (S T : List ℕ) → someEdge p S T ≡ true → (s : ℕ) × (t : ℕ) × Edge S T s t × (p s t ≡ true)
+some-sound p [] T h = absurd (false≢true h)
+some-sound p (x ∷ S) [] h = absurd (false≢true h)
+some-sound p (x ∷ S) (y ∷ T) h =
+    elim (or-cases (p x y) _ h) [
+      | inl i ↦ (x, y, first, i)
+      | inr i ↦ let (s, t, e, j) = some-sound p S T i in (s, t, later e, j)
+    ]
+
+pub some-complete : (p : ℕ → ℕ → Bool) {S T : List ℕ} {s t : ℕ} → Edge S T s t → p s t ≡ true → someEdge p S T ≡ true
+some-complete p first h = or-left _ h
+some-complete p (later {x = x} {y = y} e) h = or-right (p x y) (some-complete p e h)
+
+-- joined lists
+pub edge-left : (S S′ T T′ : List ℕ) {u v : ℕ} → Edge S T u v → Edge (S ++ S′) (T ++ T′) u v
+edge-left S S′ T T′ first = first
+edge-left S S′ T T′ (later {S = A} {T = B} e) = later (edge-left A S′ B T′ e)
+
+pub edge-right : (S S′ T T′ : List ℕ) {u v : ℕ} → length S ≡ length T → Edge S′ T′ u v → Edge (S ++ S′) (T ++ T′) u v
+edge-right [] S′ [] T′ l e = e
+edge-right [] S′ (y ∷ T) T′ l e = absurd (omega arith)
+edge-right (x ∷ S) S′ [] T′ l e = absurd (omega arith)
+edge-right (x ∷ S) S′ (y ∷ T) T′ l e = later (edge-right S S′ T T′ (omega arith) e)
+
+pub edge-split : (S S′ T T′ : List ℕ) {u v : ℕ} → length S ≡ length T → Edge (S ++ S′) (T ++ T′) u v → Edge S T u v ⊎ Edge S′ T′ u v
+edge-split [] S′ [] T′ l e = inr e
+edge-split [] S′ (y ∷ T) T′ l e = absurd (omega arith)
+edge-split (x ∷ S) S′ [] T′ l e = absurd (omega arith)
+edge-split (x ∷ S) S′ (y ∷ T) T′ l first = inl first
+edge-split (x ∷ S) S′ (y ∷ T) T′ l (later e) = elim (edge-split S S′ T T′ (omega arith) e) [ inl i ↦ inl (later i) | inr i ↦ inr i ]
+
+-- mapped lists
+pub edge-map : (f g : ℕ → ℕ) (x : ℕ) (xs : List ℕ) → among x xs ≡ true → Edge (map f xs) (map g xs) (f x) (g x)
+edge-map f g x [] i = absurd (false≢true i)
+edge-map f g x (y ∷ xs) i =
+    elim (or-cases (eqb x y) _ i) [ inl e ↦ rw (eqb-true x y e) first | inr j ↦ later (edge-map f g x xs j) ]
+
+pub map-edge : (P : ℕ → ℕ → Type 0) (f g : ℕ → ℕ) (xs : List ℕ) → ((x : ℕ) → among x xs ≡ true → P (f x) (g x)) → {u v : ℕ} → Edge (map f xs) (map g xs) u v → P u v
+map-edge P f g (x ∷ xs) all first = all x (here x xs)
+map-edge P f g (x ∷ xs) all (later e) = map-edge P f g xs (λ y i. all y (there y x xs i)) e
+
+-- a list of lists
+module _ (f g : ℕ → List ℕ) (paired : (x : ℕ) → length (f x) ≡ length (g x)) where
+  pub joined-paired : (xs : List ℕ) → length (joined (map f xs)) ≡ length (joined (map g xs))
+  joined-paired [] = refl
+  joined-paired (x ∷ xs) =
+      omega (arith, length-append (f x) (joined (map f xs)), length-append (g x) (joined (map g xs)), paired x, joined-paired xs)
+
+  pub edge-joined : (x : ℕ) (xs : List ℕ) {u v : ℕ} → among x xs ≡ true → Edge (f x) (g x) u v → Edge (joined (map f xs)) (joined (map g xs)) u v
+  edge-joined x [] i e = absurd (false≢true i)
+  edge-joined x (y ∷ xs) {u} {v} i e =
+      elim (or-cases (eqb x y) _ i) [
+        | inl j ↦ edge-left (f y) (joined (map f xs)) (g y) (joined (map g xs)) (subst (λ z. Edge (f z) (g z) u v) (eqb-true x y j) e)
+        | inr j ↦ edge-right (f y) (joined (map f xs)) (g y) (joined (map g xs)) (paired y) (edge-joined x xs j e)
+      ]
+
+  pub joined-edge :
+      (P : ℕ → ℕ → Type 0) (xs : List ℕ) → ((x : ℕ) → among x xs ≡ true → (u v : ℕ) → Edge (f x) (g x) u v → P u v)
+      → (u v : ℕ) → Edge (joined (map f xs)) (joined (map g xs)) u v → P u v
+  joined-edge P (x ∷ xs) all u v e =
+      elim (edge-split (f x) (joined (map f xs)) (g x) (joined (map g xs)) (paired x) e) [
+        | inl i ↦ all x (here x xs) u v i
+        | inr i ↦ joined-edge P xs (λ y j. all y (there y x xs j)) u v i
+      ]

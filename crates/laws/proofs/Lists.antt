@@ -1,0 +1,190 @@
+-- Lists of numbers: membership, filters, positions.
+use mathlib.Core.Bool.{Bool, true, false, not, false≢true}
+use mathlib.Core.Logic.{_⊎_, inl, inr}
+use mathlib.Core.Path.{_≡_, refl, sym, ap, ap₂, _∙_}
+use mathlib.Core.List.{List, [], _∷_, _++_, map, append-nil}
+use Prim.Native.Nat.{ℕ, zero, suc, _<_, _+_}
+use native.Mathlib.Nat.{not-suc-le-zero}
+use native.Mathlib.Decide.{ℕ-discrete, decLt}
+use native.Mathlib.Omega.{arith}
+use lib.Dec.{eqb}
+use lib.ListN.{length, getD, length-append, length-map, List·getD-append}
+use lib.Seq.{getD-at, ext-getD}
+use borrow.Author.Tests.{eqb-true, eq-eqb, ne-eqb}
+use Rattle.lineage.specs.Lists.{among, those, upto, position}
+use Rattle.laws.proofs.Tests.{or-left, or-right, or-cases}
+use Rattle.laws.proofs.Ranks.{clash, among-append, Distinct, position-in}
+
+-- the head is a member, and a member of the tail is one
+pub here : (x : ℕ) (xs : List ℕ) → among x (x ∷ xs) ≡ true
+here x xs = or-left _ (eq-eqb x x refl)
+
+pub there : (x y : ℕ) (xs : List ℕ) → among x xs ≡ true → among x (y ∷ xs) ≡ true
+there x y xs h = or-right (eqb x y) h
+
+pub in-left : (x : ℕ) (a b : List ℕ) → among x a ≡ true → among x (a ++ b) ≡ true
+in-left x a b h = rw (among-append x a b) (or-left _ h)
+
+pub in-right : (x : ℕ) (a b : List ℕ) → among x b ≡ true → among x (a ++ b) ≡ true
+in-right x a b h = rw (among-append x a b) (or-right (among x a) h)
+
+-- a member of a list joined of two
+pub in-append : (x : ℕ) (a b : List ℕ) → among x (a ++ b) ≡ true → (among x a ≡ true) ⊎ (among x b ≡ true)
+in-append x a b h = or-cases (among x a) (among x b) (rw among-append at h)
+
+-- a filter of a list joined of two
+pub those-append : (p : ℕ → Bool) (a b : List ℕ) → those p (a ++ b) ≡ those p a ++ those p b
+those-append p [] b = refl
+those-append p (x ∷ a) b = at (p x) refl (those-append p a b)
+  where
+    at : (t : Bool) → p x ≡ t → those p (a ++ b) ≡ those p a ++ those p b → those p (x ∷ (a ++ b)) ≡ those p (x ∷ a) ++ those p b
+    at true e ih = rw (e, those) (ap (x ∷_) ih)
+    at false e ih = rw (e, those) ih
+
+pub those-yes : (p : ℕ → Bool) (x : ℕ) (xs : List ℕ) → p x ≡ true → those p (x ∷ xs) ≡ x ∷ those p xs
+those-yes p x xs h = rw (h, those)
+
+pub those-no : (p : ℕ → Bool) (x : ℕ) (xs : List ℕ) → p x ≡ false → those p (x ∷ xs) ≡ those p xs
+those-no p x xs h = rw (h, those)
+
+-- what a filter keeps: members that pass
+pub those-pass : (p : ℕ → Bool) (x : ℕ) (xs : List ℕ) → among x (those p xs) ≡ true → (p x ≡ true) × (among x xs ≡ true)
+those-pass p x [] h = absurd (false≢true h)
+those-pass p x (y ∷ xs) h = at (p y) refl (those-pass p x xs)
+  where
+    at : (t : Bool) → p y ≡ t → (among x (those p xs) ≡ true → (p x ≡ true) × (among x xs ≡ true)) → (p x ≡ true) × (among x (y ∷ xs) ≡ true)
+    at true e ih =
+        elim (or-cases (eqb x y) _ (rw (those-yes p y xs e) at h)) [
+          | inl i ↦ (rw (eqb-true x y i) e, or-left _ i)
+          | inr i ↦ (ih i .0, there x y xs (ih i .1))
+        ]
+    at false e ih = let i = ih (rw (those-no p y xs e) at h) in (i .0, there x y xs (i .1))
+
+pub those-keep : (p : ℕ → Bool) (x : ℕ) (xs : List ℕ) → p x ≡ true → among x xs ≡ true → among x (those p xs) ≡ true
+those-keep p x [] t h = h
+those-keep p x (y ∷ xs) t h = at (p y) refl (or-cases (eqb x y) _ h) (those-keep p x xs t)
+  where
+    at : (b : Bool) → p y ≡ b → (eqb x y ≡ true) ⊎ (among x xs ≡ true) → (among x xs ≡ true → among x (those p xs) ≡ true) → among x (those p (y ∷ xs)) ≡ true
+    at true e (inl i) ih = rw (those-yes p y xs e) (or-left _ i)
+    at true e (inr i) ih = rw (those-yes p y xs e) (there x y (those p xs) (ih i))
+    at false e (inl i) ih = clash t (rw (eqb-true x y i) e)
+    at false e (inr i) ih = rw (those-no p y xs e) (ih i)
+
+pub those-all : (p : ℕ → Bool) (xs : List ℕ) → ((x : ℕ) → among x xs ≡ true → p x ≡ true) → those p xs ≡ xs
+those-all p [] all = refl
+those-all p (x ∷ xs) all = those-yes p x xs (all x (here x xs)) ∙ ap (x ∷_) (those-all p xs (λ y i. all y (there y x xs i)))
+
+pub those-none : (p : ℕ → Bool) (xs : List ℕ) → ((x : ℕ) → among x xs ≡ true → p x ≡ false) → those p xs ≡ []
+those-none p [] all = refl
+those-none p (x ∷ xs) all = those-no p x xs (all x (here x xs)) ∙ those-none p xs (λ y i. all y (there y x xs i))
+
+-- tests and functions that agree on a list's members
+pub those-same : (p q : ℕ → Bool) (xs : List ℕ) → ((x : ℕ) → among x xs ≡ true → p x ≡ q x) → those p xs ≡ those q xs
+those-same p q [] all = refl
+those-same p q (x ∷ xs) all = at (p x) refl (all x (here x xs)) (those-same p q xs (λ y i. all y (there y x xs i)))
+  where
+    at : (t : Bool) → p x ≡ t → p x ≡ q x → those p xs ≡ those q xs → those p (x ∷ xs) ≡ those q (x ∷ xs)
+    at true e s ih = those-yes p x xs e ∙ ap (x ∷_) ih ∙ sym (those-yes q x xs (sym s ∙ e))
+    at false e s ih = those-no p x xs e ∙ ih ∙ sym (those-no q x xs (sym s ∙ e))
+
+pub map-same : {A : Type 0} (f g : ℕ → A) (xs : List ℕ) → ((x : ℕ) → among x xs ≡ true → f x ≡ g x) → map f xs ≡ map g xs
+map-same f g [] all = refl
+map-same f g (x ∷ xs) all = ap₂ _∷_ (all x (here x xs)) (map-same f g xs (λ y i. all y (there y x xs i)))
+
+-- those that pass and those that do not are all
+pub those-split : (p : ℕ → Bool) (xs : List ℕ) → length (those p xs) + length (those (λ x. not (p x)) xs) ≡ length xs
+those-split p [] = omega arith
+those-split p (x ∷ xs) = at (p x) refl (those-split p xs)
+  where
+    at : (t : Bool) → p x ≡ t → length (those p xs) + length (those (λ y. not (p y)) xs) ≡ length xs → length (those p (x ∷ xs)) + length (those (λ y. not (p y)) (x ∷ xs)) ≡ suc (length xs)
+    at true e ih = rw (those-yes p x xs e, those-no (λ y. not (p y)) x xs (ap not e)) (omega arith)
+    at false e ih = rw (those-no p x xs e, those-yes (λ y. not (p y)) x xs (ap not e)) (omega arith)
+
+-- the numbers below n
+pub in-upto : (n v : ℕ) → v < n → among v (upto n) ≡ true
+in-upto zero v h = absurd (not-suc-le-zero h)
+in-upto (suc n) v h = at (ℕ-discrete v n) (in-upto n v)
+  where
+    at : Dec (v ≡ n) → (v < n → among v (upto n) ≡ true) → among v (upto n ++ (n ∷ [])) ≡ true
+    at (yes e) ih = in-right v (upto n) (n ∷ []) (rw e (here n []))
+    at (no ne) ih = in-left v (upto n) (n ∷ []) (ih (omega arith))
+
+pub upto-low : (n v : ℕ) → among v (upto n) ≡ true → v < n
+upto-low zero v h = absurd (false≢true h)
+upto-low (suc n) v h =
+    elim (in-append v (upto n) (n ∷ []) h) [
+      | inl i ↦ omega (arith, upto-low n v i)
+      | inr i ↦ elim (or-cases (eqb v n) false i) [ inl e ↦ omega (arith, eqb-true v n e) | inr e ↦ absurd (false≢true e) ]
+    ]
+
+pub length-upto : (n : ℕ) → length (upto n) ≡ n
+length-upto zero = refl
+length-upto (suc n) = omega (arith, length-append (upto n) (n ∷ []), length-upto n)
+
+pub getD-upto : (n i : ℕ) → i < n → getD (upto n) i 0 ≡ i
+getD-upto zero i h = absurd (not-suc-le-zero h)
+getD-upto (suc n) i h = at (decLt i n) (getD-upto n i)
+  where
+    at : Dec (i < n) → (i < n → getD (upto n) i 0 ≡ i) → getD (upto n ++ (n ∷ [])) i 0 ≡ i
+    at (yes l) ih = List·getD-append (upto n) (n ∷ []) 0 i (omega (arith, length-upto n)) ∙ ih l
+    at (no l) ih = getD-at (upto n) n [] 0 i (omega (arith, length-upto n)) ∙ omega arith
+
+-- an element of a mapped list, whatever stands for what is not there
+pub getD-mapped : {A B : Type 0} (f : A → B) (xs : List A) (i : ℕ) (a : A) (b : B) → i < length xs → getD (map f xs) i b ≡ f (getD xs i a)
+getD-mapped f [] i a b h = absurd (not-suc-le-zero h)
+getD-mapped f (x ∷ xs) zero a b h = refl
+getD-mapped f (x ∷ xs) (suc i) a b h = getD-mapped f xs i a b (omega arith)
+
+-- a table of a function over the numbers below n
+pub table-at : {A : Type 0} (f : ℕ → A) (n i : ℕ) (d : A) → i < n → getD (map f (upto n)) i d ≡ f i
+table-at f n i d h = getD-mapped f (upto n) i 0 d (omega (arith, length-upto n)) ∙ ap f (getD-upto n i h)
+
+pub table-long : {A : Type 0} (f : ℕ → A) (n : ℕ) → length (map f (upto n)) ≡ n
+table-long f n = length-map (upto n) f ∙ length-upto n
+
+pub table-is : {A : Type 0} (f : ℕ → A) (xs : List A) (n : ℕ) (d : A) → length xs ≡ n → ((i : ℕ) → i < n → f i ≡ getD xs i d) → map f (upto n) ≡ xs
+table-is f xs n d l all =
+    ext-getD d (map f (upto n)) xs (table-long f n ∙ sym l) (λ i h. let k : i < n = omega (arith, table-long f n) in table-at f n i d k ∙ all i k)
+
+-- a member stands at its position
+pub position-low : (x : ℕ) (xs : List ℕ) → among x xs ≡ true → position x xs < length xs
+position-low x xs h = rw (append-nil xs) at (position-in x xs [] h)
+
+pub at-position : (x : ℕ) (xs : List ℕ) → among x xs ≡ true → getD xs (position x xs) 0 ≡ x
+at-position x [] h = absurd (false≢true h)
+at-position x (y ∷ xs) h = at (eqb x y) refl (at-position x xs)
+  where
+    at : (t : Bool) → eqb x y ≡ t → (among x xs ≡ true → getD xs (position x xs) 0 ≡ x) → getD (y ∷ xs) (position x (y ∷ xs)) 0 ≡ x
+    at true e ih = rw (e, position) (sym (eqb-true x y e))
+    at false e ih = rw (e, position) (ih (rw e at h))
+
+pub in-getD : (xs : List ℕ) (i : ℕ) → i < length xs → among (getD xs i 0) xs ≡ true
+in-getD [] i h = absurd (not-suc-le-zero h)
+in-getD (x ∷ xs) zero h = here x xs
+in-getD (x ∷ xs) (suc i) h = there (getD xs i 0) x xs (in-getD xs i (omega arith))
+
+-- in a list without repeats each element stands at its position alone
+pub position-getD : (xs : List ℕ) → Distinct xs → (i : ℕ) → i < length xs → position (getD xs i 0) xs ≡ i
+position-getD [] d i h = absurd (not-suc-le-zero h)
+position-getD (x ∷ xs) d zero h = rw (eq-eqb x x refl, position)
+position-getD (x ∷ xs) d (suc i) h =
+    let l : i < length xs = omega arith in
+    let apart : eqb (getD xs i 0) x ≡ false = ne-eqb (getD xs i 0) x (λ e. clash (rw e at (in-getD xs i l)) (d .0)) in
+    rw (apart, position) (ap suc (position-getD xs (d .1) i l))
+
+-- members of a mapped list
+pub in-map : (f : ℕ → ℕ) (x : ℕ) (xs : List ℕ) → among x xs ≡ true → among (f x) (map f xs) ≡ true
+in-map f x [] h = h
+in-map f x (y ∷ xs) h =
+    elim (or-cases (eqb x y) _ h) [
+      | inl e ↦ or-left _ (eq-eqb (f x) (f y) (ap f (eqb-true x y e)))
+      | inr i ↦ or-right (eqb (f x) (f y)) (in-map f x xs i)
+    ]
+
+pub of-map : (f : ℕ → ℕ) (y : ℕ) (xs : List ℕ) → among y (map f xs) ≡ true → (x : ℕ) × (among x xs ≡ true) × (y ≡ f x)
+of-map f y [] h = absurd (false≢true h)
+of-map f y (x ∷ xs) h =
+    elim (or-cases (eqb y (f x)) _ h) [
+      | inl e ↦ (x, here x xs, eqb-true y (f x) e)
+      | inr i ↦ let (z, j, o) = of-map f y xs i in (z, there z x xs j, o)
+    ]

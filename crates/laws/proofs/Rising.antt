@@ -1,0 +1,164 @@
+-- Rising lists: a filter of the numbers below n is one, and its members determine it. Counting.
+use mathlib.Core.Bool.{Bool, true, false, not, false≢true}
+use mathlib.Core.Logic.{_⊎_, inl, inr}
+use mathlib.Core.Path.{_≡_, refl, sym, ap, ap₂}
+use mathlib.Core.List.{List, [], _∷_, _++_}
+use Prim.Native.Nat.{ℕ, zero, suc, _<_, _≤_, _+_}
+use native.Mathlib.Nat.{not-suc-le-zero}
+use native.Mathlib.Omega.{arith}
+use lib.Dec.{eqb}
+use lib.ListN.{length, getD}
+use borrow.Author.Tests.{eqb-true, eq-eqb, ne-eqb}
+use Rattle.lineage.specs.Lists.{among, those, upto, position}
+use Rattle.lineage.specs.Lists.{firstOf}
+use Rattle.laws.proofs.Tests.{or-cases}
+use Rattle.laws.proofs.Ranks.{clash, is-false, Distinct}
+use Rattle.laws.proofs.Lists.{here, there, in-append, in-getD, those-yes, those-no, those-pass, those-keep, upto-low, in-upto, length-upto, position-low, at-position}
+
+abbrev pub Rises : List ℕ → Type 0
+Rises [] = Unit {0}
+Rises (x ∷ xs) = ((y : ℕ) → among y xs ≡ true → x < y) × Rises xs
+
+rises-snoc : (xs : List ℕ) (n : ℕ) → Rises xs → ((y : ℕ) → among y xs ≡ true → y < n) → Rises (xs ++ (n ∷ []))
+rises-snoc [] n r l = ((λ y i. absurd (false≢true i)), tt)
+rises-snoc (x ∷ xs) n r l = (
+  (λ y i. elim (in-append y xs (n ∷ []) i) [
+    | inl j ↦ r .0 y j
+    | inr j ↦ elim (or-cases (eqb y n) false j) [ inl e ↦ rw (eqb-true y n e) (l x (here x xs)) | inr e ↦ absurd (false≢true e) ]
+  ]),
+  rises-snoc xs n (r .1) (λ y i. l y (there y x xs i)),
+)
+
+pub rises-upto : (n : ℕ) → Rises (upto n)
+rises-upto zero = tt
+rises-upto (suc n) = rises-snoc (upto n) n (rises-upto n) (upto-low n)
+
+pub rises-those : (p : ℕ → Bool) (xs : List ℕ) → Rises xs → Rises (those p xs)
+rises-those p [] r = tt
+rises-those p (x ∷ xs) r = at (p x) refl (rises-those p xs (r .1))
+  where
+    at : (t : Bool) → p x ≡ t → Rises (those p xs) → Rises (those p (x ∷ xs))
+    at true e ih = rw (those-yes p x xs e) ((λ y i. r .0 y (those-pass p y xs i .1)), ih)
+    at false e ih = rw (those-no p x xs e) ih
+
+pub rises-distinct : (xs : List ℕ) → Rises xs → Distinct xs
+rises-distinct [] r = tt
+rises-distinct (x ∷ xs) r = (is-false (among x xs) (λ i. absurd (omega (arith, r .0 x i))), rises-distinct xs (r .1))
+
+-- the head is the least
+head-least : (x y : ℕ) (xs : List ℕ) → Rises (x ∷ xs) → among y (x ∷ xs) ≡ true → x ≤ y
+head-least x y xs r i = elim (or-cases (eqb y x) _ i) [ inl e ↦ omega (arith, eqb-true y x e) | inr j ↦ omega (arith, r .0 y j) ]
+
+-- rising lists with the same members are equal
+pub rises-unique : (xs ys : List ℕ) → Rises xs → Rises ys → ((q : ℕ) → among q xs ≡ true → among q ys ≡ true) → ((q : ℕ) → among q ys ≡ true → among q xs ≡ true) → xs ≡ ys
+rises-unique [] [] r s to from = refl
+rises-unique [] (y ∷ ys) r s to from = absurd (false≢true (from y (here y ys)))
+rises-unique (x ∷ xs) [] r s to from = absurd (false≢true (to x (here x xs)))
+rises-unique (x ∷ xs) (y ∷ ys) r s to from =
+    let same : x ≡ y = omega (arith, head-least x y xs r (from y (here y ys)), head-least y x ys s (to x (here x xs))) in
+    ap₂ _∷_ same (rises-unique xs ys (r .1) (s .1)
+    (λ q i. elim (or-cases (eqb q y) _ (to q (there q x xs i))) [ inl e ↦ absurd (omega (arith, r .0 q i, eqb-true q y e)) | inr j ↦ j ])
+    (λ q i. elim (or-cases (eqb q x) _ (from q (there q y ys i))) [ inl e ↦ absurd (omega (arith, s .0 q i, eqb-true q x e)) | inr j ↦ j ]))
+
+-- rising, neighbour by neighbour
+pub rises-next : (xs : List ℕ) → Rises xs → (i : ℕ) → suc i < length xs → getD xs i 0 < getD xs (suc i) 0
+rises-next [] r i h = absurd (not-suc-le-zero h)
+rises-next (x ∷ xs) r zero h = r .0 (getD xs 0 0) (in-getD xs 0 (omega arith))
+rises-next (x ∷ xs) r (suc i) h = rises-next xs (r .1) i (omega arith)
+
+pub next-rises : (xs : List ℕ) → ((i : ℕ) → suc i < length xs → getD xs i 0 < getD xs (suc i) 0) → Rises xs
+next-rises [] n = tt
+next-rises (x ∷ []) n = ((λ y i. absurd (false≢true i)), tt)
+next-rises (x ∷ z ∷ xs) n =
+    let r : Rises (z ∷ xs) = next-rises (z ∷ xs) (λ i h. n (suc i) (omega arith)) in
+    ((λ y i. omega (arith, n 0 (omega arith), head-least z y xs r i)), r)
+
+-- the first that passes, in a rising list
+pub first-of :
+    (p : ℕ → Bool) (xs : List ℕ) (other a : ℕ) → Rises xs → among a xs ≡ true → p a ≡ true
+    → (p (firstOf p xs other) ≡ true) × (among (firstOf p xs other) xs ≡ true) × (firstOf p xs other ≤ a)
+first-of p [] other a r i t = absurd (false≢true i)
+first-of p (x ∷ xs) other a r i t = at (p x) refl (or-cases (eqb a x) _ i) (λ j. first-of p xs other a (r .1) j t)
+  where
+    at :
+        (b : Bool) → p x ≡ b → (eqb a x ≡ true) ⊎ (among a xs ≡ true)
+        → (among a xs ≡ true → (p (firstOf p xs other) ≡ true) × (among (firstOf p xs other) xs ≡ true) × (firstOf p xs other ≤ a))
+        → (p (firstOf p (x ∷ xs) other) ≡ true) × (among (firstOf p (x ∷ xs) other) (x ∷ xs) ≡ true) × (firstOf p (x ∷ xs) other ≤ a)
+    at true e c ih = rw (e, firstOf) (e, here x xs, head-least x a xs r i)
+    at false e (inl j) ih = clash t (rw (eqb-true a x j) e)
+    at false e (inr j) ih = let f = ih j in rw (e, firstOf) (f .0, there (firstOf p xs other) x xs (f .1), f .2)
+
+-- a stronger test keeps fewer
+pub those-le : (p q : ℕ → Bool) (xs : List ℕ) → ((x : ℕ) → p x ≡ true → q x ≡ true) → length (those p xs) ≤ length (those q xs)
+those-le p q [] w = omega arith
+those-le p q (x ∷ xs) w = at (p x) refl (q x) refl (those-le p q xs w)
+  where
+    at : (a : Bool) → p x ≡ a → (b : Bool) → q x ≡ b → length (those p xs) ≤ length (those q xs) → length (those p (x ∷ xs)) ≤ length (those q (x ∷ xs))
+    at true e true f ih = rw (those-yes p x xs e, those-yes q x xs f) (omega arith)
+    at true e false f ih = clash (w x e) f
+    at false e true f ih = rw (those-no p x xs e, those-yes q x xs f) (omega arith)
+    at false e false f ih = rw (those-no p x xs e, those-no q x xs f) ih
+
+pub those-lt : (p q : ℕ → Bool) (xs : List ℕ) (a : ℕ) → ((x : ℕ) → p x ≡ true → q x ≡ true) → among a xs ≡ true → q a ≡ true → p a ≡ false → length (those p xs) < length (those q xs)
+those-lt p q [] a w i t n = absurd (false≢true i)
+those-lt p q (x ∷ xs) a w i t n = at (or-cases (eqb a x) _ i) (p x) refl (q x) refl (λ j. those-lt p q xs a w j t n)
+  where
+    at :
+        (eqb a x ≡ true) ⊎ (among a xs ≡ true) → (b : Bool) → p x ≡ b → (c : Bool) → q x ≡ c
+        → (among a xs ≡ true → length (those p xs) < length (those q xs))
+        → length (those p (x ∷ xs)) < length (those q (x ∷ xs))
+    at (inl j) b e c f ih =
+        rw (those-no p x xs (rw (← eqb-true a x j) n), those-yes q x xs (rw (← eqb-true a x j) t)) (omega (arith, those-le p q xs w))
+    at (inr j) true e true f ih = rw (those-yes p x xs e, those-yes q x xs f) (omega (arith, ih j))
+    at (inr j) true e false f ih = clash (w x e) f
+    at (inr j) false e true f ih = rw (those-no p x xs e, those-yes q x xs f) (omega (arith, ih j))
+    at (inr j) false e false f ih = rw (those-no p x xs e, those-no q x xs f) (ih j)
+
+pub those-short : (p : ℕ → Bool) (xs : List ℕ) → length (those p xs) ≤ length xs
+those-short p [] = omega arith
+those-short p (x ∷ xs) = at (p x) refl (those-short p xs)
+  where
+    at : (t : Bool) → p x ≡ t → length (those p xs) ≤ length xs → length (those p (x ∷ xs)) ≤ suc (length xs)
+    at true e ih = rw (those-yes p x xs e) (omega arith)
+    at false e ih = rw (those-no p x xs e) (omega arith)
+
+without : (x : ℕ) (ys : List ℕ) → among x ys ≡ true → length (those (λ y. not (eqb y x)) ys) < length ys
+without x [] i = absurd (false≢true i)
+without x (y ∷ ys) i = at (eqb y x) refl (or-cases (eqb x y) _ i) (without x ys)
+  where
+    others : ℕ → Bool
+    others z = not (eqb z x)
+
+    at : (t : Bool) → eqb y x ≡ t → (eqb x y ≡ true) ⊎ (among x ys ≡ true) → (among x ys ≡ true → length (those others ys) < length ys) → length (those others (y ∷ ys)) < suc (length ys)
+    at true e c ih = rw (those-no others y ys (ap not e)) (omega (arith, those-short others ys))
+    at false e (inl j) ih = clash (eq-eqb y x (sym (eqb-true x y j))) e
+    at false e (inr j) ih = rw (those-yes others y ys (ap not e)) (omega (arith, ih j))
+
+-- a list without repeats is no longer than a list that has all its members
+pub pigeonhole : (xs ys : List ℕ) → Distinct xs → ((x : ℕ) → among x xs ≡ true → among x ys ≡ true) → length xs ≤ length ys
+pigeonhole [] ys d all = omega arith
+pigeonhole (x ∷ xs) ys d all =
+    let rest : length xs ≤ length (those (λ y. not (eqb y x)) ys) =
+    pigeonhole xs (those (λ y. not (eqb y x)) ys) (d .1) (λ z i. those-keep (λ y. not (eqb y x)) z ys (ap not (ne-eqb z x (λ e. clash (rw e at i) (d .0)))) (all z (there z x xs i))) in
+    omega (arith, rest, without x ys (all x (here x xs)))
+
+-- a list whose values under f count up has no repeats
+pub counting-distinct : (f : ℕ → ℕ) (xs : List ℕ) (c : ℕ) → ((i : ℕ) → i < length xs → f (getD xs i 0) ≡ c + i) → Distinct xs
+counting-distinct f [] c up = tt
+counting-distinct f (x ∷ xs) c up = (
+  is-false (among x xs) (λ i. absurd (omega (arith, up 0 (omega arith), up (suc (position x xs)) (omega (arith, position-low x xs i)), ap f (at-position x xs i)))),
+  counting-distinct f xs (suc c) (λ i h. omega (arith, up (suc i) (omega arith))),
+)
+
+-- a list without repeats of all of n numbers below n has each
+pub pigeonhole-all : (xs : List ℕ) → Distinct xs → ((x : ℕ) → among x xs ≡ true → x < length xs) → (v : ℕ) → v < length xs → among v xs ≡ true
+pigeonhole-all xs d low v h = at (among v xs) refl
+  where
+    at : (t : Bool) → among v xs ≡ t → among v xs ≡ true
+    at true e = e
+    at false e =
+        absurd (omega (
+          arith,
+          length-upto (length xs),
+          pigeonhole (v ∷ xs) (upto (length xs)) (e, d) (λ x i. in-upto (length xs) x (elim (or-cases (eqb x v) _ i) [ inl j ↦ rw (eqb-true x v j) h | inr j ↦ low x j ])),
+        ))

@@ -1,0 +1,51 @@
+-- The trees of a forest.
+use mathlib.Core.Bool.{Bool, true, false, false≢true}
+use mathlib.Core.Path.{_≡_, refl, ap, _∙_}
+use mathlib.Core.List.{List, [], _∷_, _++_, append-assoc}
+use Prim.Native.Nat.{ℕ, zero, suc, _<_}
+use native.Mathlib.Omega.{arith}
+use lib.ListN.{length, getD}
+use Rattle.lineage.specs.Lists.{among, joined}
+use Rattle.lineage.specs.Labels.{Forest, done, visit, finished}
+use Rattle.laws.proofs.Tests.{or-left, or-right}
+use Rattle.laws.proofs.Ranks.{clash, among-append, Distinct, distinct-right, distinct-apart}
+
+-- the trees of a forest, each as it is finished, its root last
+abbrev pub trees : Forest → List (List ℕ)
+trees done = []
+trees (visit p below rest) = (finished below ++ (p ∷ [])) ∷ trees rest
+
+-- two numbers stand in the same list
+pub data Together : List (List ℕ) → ℕ → ℕ → Type 0 where
+  here : {t : List ℕ} {ts : List (List ℕ)} {u v : ℕ} → among u t ≡ true → among v t ≡ true → Together (t ∷ ts) u v
+  later : {t : List ℕ} {ts : List (List ℕ)} {u v : ℕ} → Together ts u v → Together (t ∷ ts) u v
+
+pub joined-trees : (f : Forest) → joined (trees f) ≡ finished f
+joined-trees done = refl
+joined-trees (visit p below rest) = append-assoc (finished below) (p ∷ []) (joined (trees rest)) ∙ ap (λ z. finished below ++ (p ∷ z)) (joined-trees rest)
+
+-- exactly one of the lists holds v
+abbrev pub OnlyOne : List (List ℕ) → ℕ → Type 0
+OnlyOne ts v = (i : ℕ) × (i < length ts) × (among v (getD ts i []) ≡ true) × ((j : ℕ) → among v (getD ts j []) ≡ true → j ≡ i)
+
+holds : (ts : List (List ℕ)) (v j : ℕ) → among v (getD ts j []) ≡ true → among v (joined ts) ≡ true
+holds [] v j h = h
+holds (t ∷ ts) v zero h = rw among-append (or-left _ h)
+holds (t ∷ ts) v (suc j) h = rw among-append (or-right (among v t) (holds ts v j h))
+
+-- a number of lists without repeats stands in one of them only
+pub only-one : (ts : List (List ℕ)) (v : ℕ) → Distinct (joined ts) → among v (joined ts) ≡ true → OnlyOne ts v
+only-one [] v d h = absurd (false≢true h)
+only-one (t ∷ ts) v d h = at (among v t) refl (only-one ts v (distinct-right t (joined ts) d))
+  where
+    at : (b : Bool) → among v t ≡ b → (among v (joined ts) ≡ true → OnlyOne ts v) → OnlyOne (t ∷ ts) v
+    at true e ih = (0, omega arith, e, alone)
+      where
+        alone : (j : ℕ) → among v (getD (t ∷ ts) j []) ≡ true → j ≡ 0
+        alone zero k = refl
+        alone (suc j) k = clash e (distinct-apart t (joined ts) d v (holds ts v j k))
+    at false e ih = let (i, less, k, alone) = ih (rw (among-append, e) at h) in (suc i, omega arith, k, one-more i alone)
+      where
+        one-more : (i : ℕ) → ((j : ℕ) → among v (getD ts j []) ≡ true → j ≡ i) → (j : ℕ) → among v (getD (t ∷ ts) j []) ≡ true → j ≡ suc i
+        one-more i alone zero m = clash m e
+        one-more i alone (suc j) m = ap suc (alone j m)

@@ -1,0 +1,3 @@
+-- What the laws are told in: relations that only proofs need.
+pub mod Visits
+pub mod Tests

@@ -1,0 +1,1 @@
+// The laws over the definitions of `lineage` stand in proofs/; there is no code here.
