@@ -1,0 +1,2 @@
+-- What the contracts inside this crate say of the stored sections.
+pub mod Intervals

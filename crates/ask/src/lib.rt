@@ -1,0 +1,2 @@
+// Asking an index: the two interval tests, and above them the walk and the six rules.
+pub mod intervals;
