@@ -1,222 +1,129 @@
--- What an edge list yields passes the tests of names, group list, children and levels.
-use mathlib.Core.Bool.{true, not, _&&_}
-use mathlib.Core.Path.{_≡_, refl, sym, ap, _∙_}
-use mathlib.Core.List.{List, [], map}
-use Prim.Native.Nat.{ℕ, zero, suc, _<_, _≤_}
+-- What an edge list comes to passes the tests of names, group list, children and levels. A group reaches its children and none of them reaches it,
+-- so the number of groups that a group reaches falls along children, and that number bounds how deep the level has to look.
+use mathlib.Core.Bool.{Bool, true}
+use mathlib.Core.Path.{_≡_, refl, sym, _∙_}
+use mathlib.Core.List.{List, []}
+use Prim.Native.Nat.{ℕ, _<_, _≤_}
 use native.Mathlib.Omega.{arith}
-use lib.Dec.{eqb}
 use lib.ListN.{length, getD, length-map}
-use borrow.Author.Tests.{eqb-true, eqb-false, eq-eqb, not-true}
-use Rattle.lineage.specs.Lists.{among, those, upto, greatest}
-use Rattle.lineage.specs.Graph.{Graph, Ends, Reaches, stay, step, reaches, sameGroup, nameOf, namesOf, groupList, isChild, childrenOf, level, levelsOf}
+use Rattle.lineage.specs.Lists.{those, upto}
+use Rattle.lineage.specs.Graph.{Graph, Ends, Reaches, stay, step, reaches, nameOf, namesOf, groupList, isChild, childrenOf, levelsOf}
 use Rattle.lineage.specs.Sound.{childOf}
-use Rattle.laws.specs.Tests.{SoundGroups}
-use Rattle.laws.proofs.Tests.{and-both, and-left, and-right}
-use Rattle.laws.proofs.Reach.{append, sound, complete}
-use Rattle.laws.proofs.Ranks.{is-false}
-use Rattle.laws.proofs.Lists.{in-getD, position-low, map-same, getD-mapped, table-at, table-long, those-pass, those-keep, in-upto, upto-low, length-upto}
-use Rattle.laws.proofs.Rising.{Rises, rises-upto, rises-those, rises-next, first-of, those-lt, those-short}
-use Rattle.laws.proofs.Edges.{some-sound}
-
--- the group list of names that are their own
-module _ (names : List ℕ) where
-  pub group-name : (v : ℕ) → among v (groupList names) ≡ true → (v < length names) × (getD names v 0 ≡ v)
-  unfolding groupList
-  group-name v i =
-      let t = those-pass (λ x. eqb (getD names x 0) x) v (upto (length names)) i in
-      (upto-low (length names) v (t .1), eqb-true (getD names v 0) v (t .0))
-
-  pub name-group : (v : ℕ) → v < length names → getD names v 0 ≡ v → among v (groupList names) ≡ true
-  unfolding groupList
-  name-group v h e = those-keep (λ x. eqb (getD names x 0) x) v (upto (length names)) (eq-eqb (getD names v 0) v e) (in-upto (length names) v h)
-
-  pub groups-rise : Rises (groupList names)
-  unfolding groupList
-  groups-rise = rises-those (λ x. eqb (getD names x 0) x) (upto (length names)) (rises-upto (length names))
-
--- Levels by the equation, where some number falls along children.
-module _
-    (kids : List (List ℕ)) (lv : ℕ → ℕ)
-    (kid-low : (p q : ℕ) → p < length kids → childOf kids p q ≡ true → q < length kids)
-    (low : (p : ℕ) → p < length kids → 1 ≤ lv p)
-    (down : (p q : ℕ) → p < length kids → childOf kids p q ≡ true → lv q < lv p)
-  where
-    level-stable : (f p : ℕ) → p < length kids → lv p ≤ f → level kids f p ≡ level kids (suc f) p
-    unfolding level
-    level-stable zero p h l = absurd (omega (arith, low p h))
-    level-stable (suc f) p h l =
-        ap greatest (map-same (λ q. suc (level kids f q)) (λ q. suc (level kids (suc f) q)) (getD kids p [])
-        (λ q i. ap suc (level-stable f q (kid-low p q h i) (omega (arith, down p q h i)))))
-
-    level-meets : (f p : ℕ) → p < length kids → lv p ≤ f → level kids f p ≡ greatest (map (λ q. suc (level kids f q)) (getD kids p []))
-    unfolding level
-    level-meets f p h l = level-stable f p h l
-
-    pub levels-meet :
-        ((p : ℕ) → p < length kids → lv p ≤ length kids) → (p : ℕ) → p < length kids
-        → getD (levelsOf kids) p 0 ≡ greatest (map (λ q. suc (getD (levelsOf kids) q 0)) (getD kids p []))
-    unfolding levelsOf
-    levels-meet high p h =
-        let at : (q : ℕ) → q < length kids → getD (map (level kids (length kids)) (upto (length kids))) q 0 ≡ level kids (length kids) q =
-        λ q i. table-at (level kids (length kids)) (length kids) q 0 i in
-        at p h ∙ level-meets (length kids) p h (high p h)
-        ∙ ap greatest (map-same (λ q. suc (level kids (length kids) q)) (λ q. suc (getD (map (level kids (length kids)) (upto (length kids))) q 0)) (getD kids p [])
-        (λ q i. ap suc (sym (at q (kid-low p q h i)))))
+use Rattle.laws.specs.Leads.{OneGroup}
+use Rattle.laws.specs.Sound.{SoundGroups}
+use Rattle.laws.proofs.Tests.{is-false}
+use Rattle.laws.proofs.Lists.{in-getD, position-low, getD-mapped, those-pass, those-keep, in-upto, upto-low, length-upto}
+use Rattle.laws.proofs.Rising.{Rises, rises-upto, rises-those, rises-next, those-lt, those-short}
+use Rattle.laws.proofs.Reaches.{reaches-on, reaches-exactly}
+use Rattle.laws.proofs.Edges.{child-to}
+use Rattle.laws.proofs.Levels.{levels-meet, levels-long}
+use Rattle.laws.proofs.Grouped.{listed-name}
+use Rattle.laws.proofs.Names
 
 module _ (G : Graph) (ends : Ends G) where
-  -- `reaches` decides paths
-  path : {u v : ℕ} → reaches G u v ≡ true → Reaches G u v
-  unfolding reaches
-  path {u} {v} h = sound G (G .n) u v h
-
-  reach : {u v : ℕ} → Reaches G u v → reaches G u v ≡ true
-  reach r = complete G (ends .targets-low) r
-
-  pub same-to : (u v : ℕ) → sameGroup G u v ≡ true → Reaches G u v
-  unfolding sameGroup
-  same-to u v h = path (and-left (reaches G u v) (reaches G v u) h)
-
-  pub same-from : (u v : ℕ) → sameGroup G u v ≡ true → Reaches G v u
-  unfolding sameGroup
-  same-from u v h = path (and-right (reaches G u v) (reaches G v u) h)
-
-  pub same-both : (u v : ℕ) → Reaches G u v → Reaches G v u → sameGroup G u v ≡ true
-  unfolding sameGroup
-  same-both u v r s = and-both (reach r) (reach s)
-
-  -- the name: the least of the group
-  pub name-facts : (u a : ℕ) → a < G .n → sameGroup G u a ≡ true → (sameGroup G u (nameOf G u) ≡ true) × (among (nameOf G u) (upto (G .n)) ≡ true) × (nameOf G u ≤ a)
-  unfolding nameOf
-  name-facts u a h s = first-of (sameGroup G u) (upto (G .n)) u a (rises-upto (G .n)) (in-upto (G .n) a h) s
-
-  itself : (u : ℕ) → sameGroup G u u ≡ true
-  itself u = same-both u u stay stay
-
-  name-same : (u : ℕ) → u < G .n → sameGroup G u (nameOf G u) ≡ true
-  name-same u h = name-facts u u h (itself u) .0
-
-  name-in : (u : ℕ) → u < G .n → nameOf G u < G .n
-  name-in u h = upto-low (G .n) (nameOf G u) (name-facts u u h (itself u) .1)
-
-  name-le : (u w : ℕ) → u < G .n → w < G .n → sameGroup G u w ≡ true → nameOf G u ≤ nameOf G w
-  name-le u w h k s =
-      let t = name-same w k in
-      name-facts u (nameOf G w) (name-in w k)
-      (same-both u (nameOf G w) (append (same-to u w s) (same-to w (nameOf G w) t)) (append (same-from w (nameOf G w) t) (same-from u w s))) .2
-
-  pub name-cong : (u w : ℕ) → u < G .n → w < G .n → sameGroup G u w ≡ true → nameOf G u ≡ nameOf G w
-  name-cong u w h k s = omega (arith, name-le u w h k s, name-le w u k h (same-both w u (same-from u w s) (same-to u w s)))
-
   abbrev names : List ℕ
   names = namesOf G
-
-  names-long : length names ≡ G .n
-  unfolding namesOf
-  names-long = table-long (nameOf G) (G .n)
-
-  pub name-at : (v : ℕ) → v < G .n → getD names v 0 ≡ nameOf G v
-  unfolding namesOf
-  name-at v h = table-at (nameOf G) (G .n) v 0 h
 
   abbrev groups : List ℕ
   groups = groupList names
 
-  abbrev k : ℕ
-  k = length groups
+  abbrev children : List (List ℕ)
+  children = childrenOf G names groups
 
-  abbrev g : ℕ → ℕ
-  g p = getD groups p 0
+  -- the name at a place
+  abbrev nameAt : ℕ → ℕ
+  nameAt p = getD groups p 0
 
-  pub g-low : (p : ℕ) → p < k → g p < G .n
-  g-low p h = omega (arith, names-long, group-name names (g p) (in-getD groups p h))
+  name-at : (v : ℕ) → v < G .n → getD names v 0 ≡ nameOf G v
+  name-at = Names.name-at G ends
 
-  g-name : (p : ℕ) → p < k → nameOf G (g p) ≡ g p
-  g-name p h = sym (name-at (g p) (g-low p h)) ∙ group-name names (g p) (in-getD groups p h) .1
+  group-name : (p : ℕ) → p < length groups → (nameAt p < G .n) × (nameOf G (nameAt p) ≡ nameAt p)
+  group-name p h =
+      let (l, own) = listed-name names (nameAt p) (in-getD groups p h) in
+      let low : nameAt p < G .n = omega (arith, Names.names-long G ends) in
+      (low, sym (name-at (nameAt p) low) ∙ own)
 
-  abbrev kids : List (List ℕ)
-  kids = childrenOf G names groups
-
-  kids-long : length kids ≡ k
+  pub children-long : length children ≡ length groups
   unfolding childrenOf
-  kids-long = length-map groups (λ a. those (λ q. isChild G names a (g q)) (upto k))
+  children-long = length-map groups (λ a. those (λ q. isChild G names a (nameAt q)) (upto (length groups)))
 
-  kids-at : (p : ℕ) → p < k → getD kids p [] ≡ those (λ q. isChild G names (g p) (g q)) (upto k)
+  pub children-at : (p : ℕ) → p < length groups → getD children p [] ≡ those (λ q. isChild G names (nameAt p) (nameAt q)) (upto (length groups))
   unfolding childrenOf
-  kids-at p h = getD-mapped (λ a. those (λ q. isChild G names a (g q)) (upto k)) groups p 0 [] h
+  children-at p h = getD-mapped (λ a. those (λ q. isChild G names a (nameAt q)) (upto (length groups))) groups p 0 [] h
 
-  -- a child is downstream, and not upstream
-  kid-facts : (p q : ℕ) → p < k → childOf kids p q ≡ true → (isChild G names (g p) (g q) ≡ true) × (q < k)
-  kid-facts p q h i =
-      let t = those-pass (λ x. isChild G names (g p) (g x)) q (upto k) (rw (kids-at p h) at i) in
-      (t .0, upto-low k q (t .1))
+  child-is : (p q : ℕ) → p < length groups → childOf children p q ≡ true → (isChild G names (nameAt p) (nameAt q) ≡ true) × (q < length groups)
+  child-is p q h i =
+      let t = those-pass (λ x. isChild G names (nameAt p) (nameAt x)) q (upto (length groups)) (rw (children-at p h) at i) in
+      (t .0, upto-low (length groups) q (t .1))
 
-  child-path : (p q : ℕ) → p < k → q < k → isChild G names (g p) (g q) ≡ true → Reaches G (g p) (g q)
-  unfolding isChild
-  child-path p q h j c =
-      let (s, t, e, b) = some-sound (λ s t. eqb (getD names s 0) (g p) && eqb (getD names t 0) (g q)) (G .sources) (G .targets) (and-right (not (eqb (g p) (g q))) _ c) in
+  -- a group reaches its children
+  pub child-path : (p q : ℕ) → p < length groups → childOf children p q ≡ true → Reaches G (nameAt p) (nameAt q)
+  child-path p q h i =
+      let (apart, s, t, e, es, et) = child-to G names (nameAt p) (nameAt q) (child-is p q h i .0) in
       let ls : s < G .n = ends .sources-low s t e in
       let lt : t < G .n = ends .targets-low s t e in
-      let es : nameOf G s ≡ g p = sym (name-at s ls) ∙ eqb-true (getD names s 0) (g p) (and-left (eqb (getD names s 0) (g p)) _ b) in
-      let et : nameOf G t ≡ g q = sym (name-at t lt) ∙ eqb-true (getD names t 0) (g q) (and-right (eqb (getD names s 0) (g p)) _ b) in
-      let to : Reaches G (g p) s = rw es at (same-from s (nameOf G s) (name-same s ls)) in
-      let on : Reaches G t (g q) = rw et at (same-to t (nameOf G t) (name-same t lt)) in
-      append to (step e on)
+      let ns : nameOf G s ≡ nameAt p = sym (name-at s ls) ∙ es in
+      let nt : nameOf G t ≡ nameAt q = sym (name-at t lt) ∙ et in
+      let to : OneGroup G s (nameAt p) = rw ns at (Names.name-group G ends s ls) in
+      let on : OneGroup G t (nameAt q) = rw nt at (Names.name-group G ends t lt) in
+      reaches-on (to .1) (step e (on .0))
 
-  child-apart : (p q : ℕ) → p < k → q < k → isChild G names (g p) (g q) ≡ true → Reaches G (g q) (g p) → ⊥
-  unfolding isChild
-  child-apart p q h j c r =
-      let same : nameOf G (g p) ≡ nameOf G (g q) = name-cong (g p) (g q) (g-low p h) (g-low q j) (same-both (g p) (g q) (child-path p q h j c) r) in
-      eqb-false (g p) (g q) (not-true (eqb (g p) (g q)) (and-left (not (eqb (g p) (g q))) _ c)) (sym (g-name p h) ∙ same ∙ g-name q j)
+  -- and none of them reaches it
+  child-apart : (p q : ℕ) → p < length groups → childOf children p q ≡ true → Reaches G (nameAt q) (nameAt p) → ⊥
+  child-apart p q h i r =
+      let (c, j) = child-is p q h i in
+      let (lp, np) = group-name p h in
+      let (lq, nq) = group-name q j in
+      child-to G names (nameAt p) (nameAt q) c .0 (sym np ∙ Names.name-one G ends (nameAt p) (nameAt q) lp lq .1 (child-path p q h i, r) ∙ nq)
 
   -- how many groups a group reaches
-  abbrev pub reached : ℕ → ℕ
-  reached p = length (those (λ q. reaches G (g p) (g q)) (upto k))
+  abbrev reached : ℕ → ℕ
+  reached p = length (those (λ q. reaches G (nameAt p) (nameAt q)) (upto (length groups)))
 
-  pub reached-low : (p : ℕ) → p < k → 1 ≤ reached p
-  reached-low p h =
-      omega (arith, position-low p (those (λ q. reaches G (g p) (g q)) (upto k)) (those-keep (λ q. reaches G (g p) (g q)) p (upto k) (reach stay) (in-upto k p h)))
+  reach : {u v : ℕ} → Reaches G u v → reaches G u v ≡ true
+  reach {u} {v} = reaches-exactly G ends u v .1
 
-  pub reached-high : (p : ℕ) → reached p ≤ k
-  reached-high p = omega (arith, those-short (λ q. reaches G (g p) (g q)) (upto k), length-upto k)
+  reached-some : (p : ℕ) → p < length groups → 1 ≤ reached p
+  reached-some p h =
+      let test : ℕ → Bool = λ q. reaches G (nameAt p) (nameAt q) in
+      omega (arith, position-low p (those test (upto (length groups))) (those-keep test p (upto (length groups)) (reach stay) (in-upto (length groups) p h)))
 
-  pub reached-falls : (p q : ℕ) → p < k → childOf kids p q ≡ true → reached q < reached p
+  reached-most : (p : ℕ) → reached p ≤ length groups
+  reached-most p = omega (arith, those-short (λ q. reaches G (nameAt p) (nameAt q)) (upto (length groups)), length-upto (length groups))
+
+  reached-falls : (p q : ℕ) → p < length groups → childOf children p q ≡ true → reached q < reached p
   reached-falls p q h i =
-      let (c, j) = kid-facts p q h i in
-      those-lt (λ x. reaches G (g q) (g x)) (λ x. reaches G (g p) (g x)) (upto k) p
-      (λ x t. reach (append (child-path p q h j c) (path t)))
-      (in-upto k p h) (reach stay) (is-false (reaches G (g q) (g p)) (λ t. child-apart p q h j c (path t)))
+      those-lt (λ x. reaches G (nameAt q) (nameAt x)) (λ x. reaches G (nameAt p) (nameAt x)) (upto (length groups)) p
+      (λ x t. reach (reaches-on (child-path p q h i) (reaches-exactly G ends (nameAt q) (nameAt x) .0 t)))
+      (in-upto (length groups) p h) (reach stay)
+      (is-false (reaches G (nameAt q) (nameAt p)) (λ t. child-apart p q h i (reaches-exactly G ends (nameAt q) (nameAt p) .0 t)))
 
-  kids-rise : (p : ℕ) → p < k → Rises (getD kids p [])
-  kids-rise p h = rw (kids-at p h) (rises-those (λ q. isChild G names (g p) (g q)) (upto k) (rises-upto k))
+  children-rise : (p : ℕ) → p < length groups → Rises (getD children p [])
+  children-rise p h = rw (children-at p h) (rises-those (λ q. isChild G names (nameAt p) (nameAt q)) (upto (length groups)) (rises-upto (length groups)))
 
-  levels-long : length (levelsOf kids) ≡ length kids
-  unfolding levelsOf
-  levels-long = table-long (level kids (length kids)) (length kids)
+  -- the same with the number of rows as the bound
+  listed : {p : ℕ} → p < length children → p < length groups
+  listed h = omega (arith, children-long)
 
-  -- the same facts with k as the length of the children's list
-  below : {p : ℕ} → p < length kids → p < k
-  below h = omega (arith, kids-long)
+  child-in : (p q : ℕ) → p < length children → childOf children p q ≡ true → q < length children
+  child-in p q h i = omega (arith, children-long, child-is p q (listed h) i .1)
 
-  pub kids-in : (p q : ℕ) → p < length kids → childOf kids p q ≡ true → q < length kids
-  kids-in p q h i = omega (arith, kids-long, kid-facts p q (below h) i .1)
-
-  pub groups-sound : SoundGroups names groups (levelsOf kids) kids
+  pub groups-sound : SoundGroups names groups (levelsOf children) children
   groups-sound =
       record {
-        name-low = λ v h. let l : v < G .n = omega (arith, names-long) in omega (arith, name-at v l, name-facts v v l (itself v));
-        name-own = name-own;
+        name-low = λ v h. let l : v < G .n = omega (arith, Names.names-long G ends) in omega (arith, name-at v l, Names.name-smallest G ends v v l (stay, stay));
+        name-own = own;
         groups-are = refl;
-        kids-long = kids-long;
-        kid-low = λ p i h j. kids-in p (getD (getD kids p []) i 0) h (in-getD (getD kids p []) i j);
-        kid-rises = λ p i h j. rises-next (getD kids p []) (kids-rise p (below h)) i j;
-        levels-long = levels-long;
+        children-long = children-long;
+        child-low = λ p i h j. child-in p (getD (getD children p []) i 0) h (in-getD (getD children p []) i j);
+        child-rises = λ p i h j. rises-next (getD children p []) (children-rise p (listed h)) i j;
+        levels-long = levels-long children;
         level-is =
-            levels-meet kids reached kids-in (λ p h. reached-low p (below h)) (λ p q h i. reached-falls p q (below h) i)
-            (λ p h. omega (arith, kids-long, reached-high p));
+            levels-meet children child-in reached (λ p q h i. reached-falls p q (listed h) i) (λ p h. reached-some p (listed h))
+            (λ p h. omega (arith, children-long, reached-most p));
       }
     where
-      name-own : (v : ℕ) → v < length names → getD names (getD names v 0) 0 ≡ getD names v 0
-      name-own v h =
-          let l : v < G .n = omega (arith, names-long) in
-          let own : nameOf G (nameOf G v) ≡ nameOf G v = sym (name-cong v (nameOf G v) l (name-in v l) (name-same v l)) in
-          rw (name-at v l) (name-at (nameOf G v) (name-in v l) ∙ own)
+      own : (v : ℕ) → v < length names → getD names (getD names v 0) 0 ≡ getD names v 0
+      own v h =
+          let l : v < G .n = omega (arith, Names.names-long G ends) in
+          rw (name-at v l) (name-at (nameOf G v) (Names.name-low G ends v l) ∙ Names.name-own G ends v l)

@@ -10,18 +10,15 @@ use native.Mathlib.Omega.{arith}
 use lib.Dec.{eqb, leb, ltb}
 use lib.ListN.{length, getD, drop}
 use borrow.Author.Tests.{eqb-true, eq-eqb, leb-true, le-leb, lt-leb, ltb-true, lt-ltb}
-use Rattle.lineage.specs.Lists.{among, position, least, greatest, sameList}
+use Rattle.lineage.specs.Lists.{among, position, least, greatest, sameList, Every, allBelow, allOf}
 use Rattle.lineage.specs.Graph.{groupList}
 use Rattle.lineage.specs.Labels.{Labelling, nobodysChild}
 use Rattle.lineage.specs.Index.{Index}
-use Rattle.lineage.specs.Sound.{childOf}
-use Rattle.lineage.specs.Lists.{Every}
-use Rattle.laws.specs.Tests.{LeftWalk, arrived, left, SoundLabelling, SoundGroups, Sound}
-use Rattle.lineage.specs.Lists.{allBelow, allOf}
-use Rattle.lineage.specs.Sound.{walkEnds, labelsPass, namesPass, groupsPass, sound}
+use Rattle.lineage.specs.Sound.{childOf, walkEnds, labelsPass, namesPass, groupsPass, sound}
+use Rattle.laws.specs.Sound.{LeftWalk, arrived, left, SoundLabelling, SoundGroups, Sound}
 use Rattle.laws.proofs.Tests.{and-both, and-left, and-right}
 use Rattle.laws.proofs.Lists.{in-getD, position-low, at-position}
-use Rattle.laws.proofs.Inverse.{e-high}
+use Rattle.laws.proofs.Inverse.{rank-most}
 
 -- the test is true exactly where the fact holds
 abbrev pub Decides : Bool → Type 0 → Type 0
@@ -113,9 +110,9 @@ module _
     walk-decides : (hi lo : ℕ) → hi ≤ k → Decides (walkEnds l test k hi lo) (LeftWalk l test hi lo)
     walk-decides hi lo h = (walk-sound k hi lo, λ w. walk-complete k h h w)
 
-module _ (kids : List (List ℕ)) (l : Labelling) where
+module _ (children : List (List ℕ)) (l : Labelling) where
   abbrev k : ℕ
-  k = length kids
+  k = length children
 
   abbrev e : ℕ → ℕ
   e p = getD (l .e) p 0
@@ -140,30 +137,30 @@ module _ (kids : List (List ℕ)) (l : Labelling) where
   Fields =
       ((length (l .s) ≡ k) × ((length (l .m) ≡ k) × ((length (l .e) ≡ k) × (length (l .byRank) ≡ k))))
       × (Ranks
-      × (((p : ℕ) → p < k → (q : ℕ) → childOf kids p q ≡ true → e q < e p)
-      × (((p : ℕ) → p < k → s p ≡ least (e p) (map s (getD kids p [])))
+      × (((p : ℕ) → p < k → (q : ℕ) → childOf children p q ≡ true → e q < e p)
+      × (((p : ℕ) → p < k → s p ≡ least (e p) (map s (getD children p [])))
       × (Mins
-      × (((p : ℕ) → p < k → LeftWalk l (childOf kids p) (e p - 1) (m p - 1))
-      × LeftWalk l (nobodysChild kids) k 0)))))
+      × (((p : ℕ) → p < k → LeftWalk l (childOf children p) (e p - 1) (m p - 1))
+      × LeftWalk l (nobodysChild children) k 0)))))
 
   shorter : Ranks → Mins → (q : ℕ) → q < k → m (at q) - 1 ≤ q
   shorter R M q h = omega (arith, R q h, M (at q) (R q h .0))
 
   high : (length (l .s) ≡ k) × ((length (l .m) ≡ k) × ((length (l .e) ≡ k) × (length (l .byRank) ≡ k))) → Ranks → (p : ℕ) → p < k → e p - 1 ≤ k
-  high sizes R p h = omega (arith, e-high k (l .byRank) e (sizes .1 .1 .1) (λ r i. R r i .0) (λ r i. R r i .1) p h)
+  high sizes R p h = omega (arith, rank-most k (l .byRank) e (sizes .1 .1 .1) (λ r i. R r i .0) (λ r i. R r i .1) p h)
 
-  fields : Decides (labelsPass kids l) Fields
+  fields : Decides (labelsPass children l) Fields
   unfolding labelsPass
   fields =
       both _ _ (both _ _ (equal _ _) (λ a. both _ _ (equal _ _) (λ b. both _ _ (equal _ _) (λ c. equal _ _)))) (λ sizes.
       both _ _ (below k _ _ (λ r h. both _ _ (less _ _) (λ a. equal _ _))) (λ R.
-      both _ _ (below k _ _ (λ p h. members (λ q. ltb (e q) (e p)) (λ q. e q < e p) (λ q. less _ _) (getD kids p []))) (λ falls.
+      both _ _ (below k _ _ (λ p h. members (λ q. ltb (e q) (e p)) (λ q. e q < e p) (λ q. less _ _) (getD children p []))) (λ falls.
       both _ _ (below k _ _ (λ p h. equal _ _)) (λ outer.
       both _ _ (below k _ _ (λ p h. both _ _ (at-most _ _) (λ a. at-most _ _))) (λ M.
-      both _ _ (below k _ _ (λ p h. walk-decides l (childOf kids p) k (shorter R M) (e p - 1) (m p - 1) (high sizes R p h))) (λ blocks.
-      walk-decides l (nobodysChild kids) k (shorter R M) k 0 (omega arith)))))))
+      both _ _ (below k _ _ (λ p h. walk-decides l (childOf children p) k (shorter R M) (e p - 1) (m p - 1) (high sizes R p h))) (λ blocks.
+      walk-decides l (nobodysChild children) k (shorter R M) k 0 (omega arith)))))))
 
-  labels-decide : Decides (labelsPass kids l) (SoundLabelling kids l)
+  labels-decide : Decides (labelsPass children l) (SoundLabelling children l)
   labels-decide = (
     (λ t. let f = fields .0 t in
         record {
@@ -198,9 +195,9 @@ module _ (kids : List (List ℕ)) (l : Labelling) where
     ),
   )
 
-module _ (names groups levels : List ℕ) (kids : List (List ℕ)) where
+module _ (names groups levels : List ℕ) (children : List (List ℕ)) where
   abbrev row : ℕ → List ℕ
-  row p = getD kids p []
+  row p = getD children p []
 
   -- the fields of SoundGroups, in the sequence of the tests
   abbrev Names : Type 0
@@ -208,43 +205,43 @@ module _ (names groups levels : List ℕ) (kids : List (List ℕ)) where
 
   abbrev Rows : Type 0
   Rows =
-      (p : ℕ) → p < length kids
-      → ((i : ℕ) → i < length (row p) → getD (row p) i 0 < length kids)
+      (p : ℕ) → p < length children
+      → ((i : ℕ) → i < length (row p) → getD (row p) i 0 < length children)
       × ((i : ℕ) → i < length (row p) - 1 → getD (row p) i 0 < getD (row p) (suc i) 0)
 
   abbrev Levels : Type 0
-  Levels = (p : ℕ) → p < length kids → getD levels p 0 ≡ greatest (map (λ q. suc (getD levels q 0)) (row p))
+  Levels = (p : ℕ) → p < length children → getD levels p 0 ≡ greatest (map (λ q. suc (getD levels q 0)) (row p))
 
   names-decide : Decides (namesPass names groups) Names
   unfolding namesPass
   names-decide = both _ _ (below (length names) _ _ (λ v h. both _ _ (at-most _ _) (λ a. equal _ _))) (λ a. same-list groups (groupList names))
 
-  group-fields : Decides (groupsPass names groups levels kids) (Names × (((length kids ≡ length groups) × (length levels ≡ length kids)) × (Rows × Levels)))
+  group-fields : Decides (groupsPass names groups levels children) (Names × (((length children ≡ length groups) × (length levels ≡ length children)) × (Rows × Levels)))
   unfolding groupsPass
   group-fields =
       both _ _ names-decide (λ a.
       both _ _ (both _ _ (equal _ _) (λ b. equal _ _)) (λ b.
-      both _ _ (below (length kids) _ _ (λ p h. both _ _ (below (length (row p)) _ _ (λ i j. less _ _)) (λ c. below (length (row p) - 1) _ _ (λ i j. less _ _)))) (λ c.
-      below (length kids) _ _ (λ p h. equal _ _))))
+      both _ _ (below (length children) _ _ (λ p h. both _ _ (below (length (row p)) _ _ (λ i j. less _ _)) (λ c. below (length (row p) - 1) _ _ (λ i j. less _ _)))) (λ c.
+      below (length children) _ _ (λ p h. equal _ _))))
 
-  groups-decide : Decides (groupsPass names groups levels kids) (SoundGroups names groups levels kids)
+  groups-decide : Decides (groupsPass names groups levels children) (SoundGroups names groups levels children)
   groups-decide = (
     (λ t. let f = group-fields .0 t in
         record {
           name-low = λ v h. f .0 .0 v h .0;
           name-own = λ v h. f .0 .0 v h .1;
           groups-are = f .0 .1;
-          kids-long = f .1 .0 .0;
+          children-long = f .1 .0 .0;
           levels-long = f .1 .0 .1;
-          kid-low = λ p i h j. f .1 .1 .0 p h .0 i j;
-          kid-rises = λ p i h j. f .1 .1 .0 p h .1 i (omega arith);
+          child-low = λ p i h j. f .1 .1 .0 p h .0 i j;
+          child-rises = λ p i h j. f .1 .1 .0 p h .1 i (omega arith);
           level-is = f .1 .1 .1;
         }),
     λ S. group-fields .1 (
       ((λ v h. (S .name-low v h, S .name-own v h)), S .groups-are),
       (
-        (S .kids-long, S .levels-long),
-        ((λ p h. ((λ i j. S .kid-low p i h j), λ i j. S .kid-rises p i h (omega arith))), S .level-is),
+        (S .children-long, S .levels-long),
+        ((λ p h. ((λ i j. S .child-low p i h j), λ i j. S .child-rises p i h (omega arith))), S .level-is),
       ),
     ),
   )

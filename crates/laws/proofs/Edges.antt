@@ -1,16 +1,16 @@
 -- Edges of joined and mapped lists, and tests of edges.
-use mathlib.Core.Bool.{Bool, true, false≢true}
+use mathlib.Core.Bool.{Bool, true, false≢true, _&&_, not}
 use mathlib.Core.Logic.{_⊎_, inl, inr}
-use mathlib.Core.Path.{_≡_, refl, subst}
+use mathlib.Core.Path.{_≡_, refl, subst, ap}
 use mathlib.Core.List.{List, [], _∷_, _++_, map}
 use Prim.Native.Nat.{ℕ}
 use native.Mathlib.Omega.{arith}
 use lib.Dec.{eqb}
-use lib.ListN.{length, length-append}
-use borrow.Author.Tests.{eqb-true}
+use lib.ListN.{length, length-append, getD}
+use borrow.Author.Tests.{eqb-true, eqb-false, ne-eqb, not-true, eq-eqb}
 use Rattle.lineage.specs.Lists.{among, joined}
-use Rattle.lineage.specs.Graph.{Edge, first, later, someEdge}
-use Rattle.laws.proofs.Tests.{or-left, or-right, or-cases}
+use Rattle.lineage.specs.Graph.{Edge, first, later, someEdge, Graph, isChild}
+use Rattle.laws.proofs.Tests.{or-left, or-right, or-cases, and-both, and-right, and-left}
 use Rattle.laws.proofs.Lists.{here, there}
 
 -- some edge passes a test
@@ -26,6 +26,29 @@ some-sound p (x ∷ S) (y ∷ T) h =
 pub some-complete : (p : ℕ → ℕ → Bool) {S T : List ℕ} {s t : ℕ} → Edge S T s t → p s t ≡ true → someEdge p S T ≡ true
 some-complete p first h = or-left _ h
 some-complete p (later {x = x} {y = y} e) h = or-right (p x y) (some-complete p e h)
+
+-- a group is a child of another where they differ and an edge leads from the one into the other
+module _ (G : Graph) (names : List ℕ) where
+  pub child-to :
+      (a b : ℕ) → isChild G names a b ≡ true
+      → (a ≡ b → ⊥) × (s : ℕ) × (t : ℕ) × Edge (G .sources) (G .targets) s t × (getD names s 0 ≡ a) × (getD names t 0 ≡ b)
+  unfolding isChild
+  child-to a b c =
+      let (s, t, e, h) = some-sound (λ s t. eqb (getD names s 0) a && eqb (getD names t 0) b) (G .sources) (G .targets) (and-right (not (eqb a b)) _ c) in (
+        eqb-false a b (not-true (eqb a b) (and-left (not (eqb a b)) _ c)),
+        s,
+        t,
+        e,
+        eqb-true (getD names s 0) a (and-left (eqb (getD names s 0) a) _ h),
+        eqb-true (getD names t 0) b (and-right (eqb (getD names s 0) a) _ h),
+      )
+
+  pub child-from :
+      {s t : ℕ} (a b : ℕ) → (a ≡ b → ⊥) → Edge (G .sources) (G .targets) s t → getD names s 0 ≡ a → getD names t 0 ≡ b → isChild G names a b ≡ true
+  unfolding isChild
+  child-from {s} {t} a b apart e es et =
+      and-both (ap not (ne-eqb a b apart))
+      (some-complete (λ s t. eqb (getD names s 0) a && eqb (getD names t 0) b) e (and-both (eq-eqb (getD names s 0) a es) (eq-eqb (getD names t 0) b et)))
 
 -- joined lists
 pub edge-left : (S S′ T T′ : List ℕ) {u v : ℕ} → Edge S T u v → Edge (S ++ S′) (T ++ T′) u v

@@ -1,4 +1,5 @@
--- A forest laid on ranks: each tree is one block of ranks, its root last.
+-- A forest laid on ranks: each tree is one block of ranks, its root last, and below the root the blocks of its children side by side. So a forest's
+-- groups are those whose rank lies in its block.
 use mathlib.Core.Bool.{Bool, true, false, _||_, false≢true}
 use mathlib.Core.Logic.{inl, inr}
 use mathlib.Core.Path.{_≡_, refl, ap}
@@ -8,17 +9,14 @@ use native.Mathlib.Decide.{decLe, ℕ-discrete}
 use native.Mathlib.Omega.{arith}
 use lib.Dec.{eqb}
 use lib.ListN.{length, length-append}
-use borrow.Author.Tests.{eqb-true}
 use Rattle.lineage.specs.Lists.{among}
 use Rattle.lineage.specs.Labels.{Forest, done, visit, finished}
-use Rattle.laws.proofs.Tests.{or-cases}
-use Rattle.laws.proofs.Ranks.{among-append}
-use Rattle.laws.proofs.Lists.{here, there, in-left, in-right, in-append}
+use Rattle.laws.proofs.Lists.{among-append, here, there, in-cons, in-left, in-right, in-append}
 
 -- a labelling as functions of places below k
 pub record Ranking : Type 0 where
   pub k : ℕ
-  pub kid : ℕ → ℕ → Bool
+  pub child : ℕ → ℕ → Bool
   pub e : ℕ → ℕ
   pub m : ℕ → ℕ
 
@@ -31,7 +29,7 @@ pub data Fits (R : Ranking) : (ℕ → Bool) → Forest → ℕ → ℕ → Type
       → p < R .k
       → R .m p ≡ suc lo
       → R .e p ≡ suc r
-      → Fits R (R .kid p) below lo r
+      → Fits R (R .child p) below lo r
       → Fits R ok next (suc r) hi
       → Fits R ok (visit p below next) lo hi
 
@@ -55,6 +53,7 @@ swap true false c = refl
 swap false true c = refl
 swap false false c = refl
 
+-- what is entered is what is finished
 pub entered-finished : (x : ℕ) (f : Forest) → among x (entered f) ≡ among x (finished f)
 entered-finished x done = refl
 entered-finished x (visit p below next) =
@@ -74,35 +73,34 @@ module _ {R : Ranking} where
   fits-count none = omega arith
   fits-count (tree {below = below} {next = next} t h x y u v) = omega (arith, fits-count u, fits-count v, length-append (entered below) (entered next))
 
-  -- the members of a forest are places, and their ranks lie in its block
-  pub member-low : {ok : ℕ → Bool} {f : Forest} {lo hi : ℕ} → Fits R ok f lo hi → (q : ℕ) → among q (entered f) ≡ true → q < R .k
-  member-low none q i = absurd (false≢true i)
-  member-low (tree {p = p} {below = below} {next = next} t h x y u v) q i =
-      elim (or-cases (eqb q p) _ i) [
-        | inl j ↦ rw (eqb-true q p j) h
-        | inr j ↦ elim (in-append q (entered below) (entered next) j) [ inl o ↦ member-low u q o | inr o ↦ member-low v q o ]
-      ]
-
-  pub member-rank : {ok : ℕ → Bool} {f : Forest} {lo hi : ℕ} → Fits R ok f lo hi → (q : ℕ) → among q (entered f) ≡ true → (lo < R .e q) × (R .e q ≤ hi)
-  member-rank none q i = absurd (false≢true i)
-  member-rank (tree {p = p} {below = below} {next = next} t h x y u v) q i =
-      elim (or-cases (eqb q p) _ i) [
-        | inl j ↦ rw (eqb-true q p j) (omega (arith, block-up u, block-up v))
+  -- what holds of each root holds of each group of a forest
+  members :
+      (P : ℕ → ℕ → ℕ → Type 0)
+      → ((p lo r hi : ℕ) → p < R .k → R .m p ≡ suc lo → R .e p ≡ suc r → lo ≤ r → suc r ≤ hi → P p lo hi)
+      → ((q lo r hi : ℕ) → lo ≤ r → suc r ≤ hi → P q lo r → P q lo hi)
+      → ((q lo r hi : ℕ) → lo ≤ r → suc r ≤ hi → P q (suc r) hi → P q lo hi)
+      → {ok : ℕ → Bool} {f : Forest} {lo hi : ℕ} → Fits R ok f lo hi → (q : ℕ) → among q (entered f) ≡ true → P q lo hi
+  members P root low high none q i = absurd (false≢true i)
+  members P root low high (tree {p = p} {lo = lo} {r = r} {hi = hi} {below = below} {next = next} t h x y u v) q i =
+      elim (in-cons q p (entered below ++ entered next) i) [
+        | inl e ↦ rw e (root p lo r hi h x y (block-up u) (block-up v))
         | inr j ↦ elim (in-append q (entered below) (entered next) j) [
-          | inl o ↦ omega (arith, member-rank u q o, block-up v)
-          | inr o ↦ omega (arith, member-rank v q o, block-up u)
+          | inl o ↦ low q lo r hi (block-up u) (block-up v) (members P root low high u q o)
+          | inr o ↦ high q lo r hi (block-up u) (block-up v) (members P root low high v q o)
         ]
       ]
 
-  pub member-m : {ok : ℕ → Bool} {f : Forest} {lo hi : ℕ} → Fits R ok f lo hi → (q : ℕ) → among q (entered f) ≡ true → R .m q ≤ R .e q
-  member-m none q i = absurd (false≢true i)
-  member-m (tree {p = p} {below = below} {next = next} t h x y u v) q i =
-      elim (or-cases (eqb q p) _ i) [
-        | inl j ↦ rw (eqb-true q p j) (omega (arith, block-up u))
-        | inr j ↦ elim (in-append q (entered below) (entered next) j) [ inl o ↦ member-m u q o | inr o ↦ member-m v q o ]
-      ]
+  -- the groups of a forest are places, with ranks in its block, and m does not pass e
+  pub member-low : {ok : ℕ → Bool} {f : Forest} {lo hi : ℕ} → Fits R ok f lo hi → (q : ℕ) → among q (entered f) ≡ true → q < R .k
+  member-low = members (λ q lo hi. q < R .k) (λ p lo r hi h x y a b. h) (λ q lo r hi a b i. i) (λ q lo r hi a b i. i)
 
-  -- a place whose rank lies in the block is a member
+  pub member-rank : {ok : ℕ → Bool} {f : Forest} {lo hi : ℕ} → Fits R ok f lo hi → (q : ℕ) → among q (entered f) ≡ true → (lo < R .e q) × (R .e q ≤ hi)
+  member-rank = members (λ q lo hi. (lo < R .e q) × (R .e q ≤ hi)) (λ p lo r hi h x y a b. omega arith) (λ q lo r hi a b i. omega arith) (λ q lo r hi a b i. omega arith)
+
+  pub member-m : {ok : ℕ → Bool} {f : Forest} {lo hi : ℕ} → Fits R ok f lo hi → (q : ℕ) → among q (entered f) ≡ true → R .m q ≤ R .e q
+  member-m = members (λ q lo hi. R .m q ≤ R .e q) (λ p lo r hi h x y a b. omega arith) (λ q lo r hi a b i. i) (λ q lo r hi a b i. i)
+
+  -- a place whose rank lies in the block is a group of the forest
   module _ (one : (p q : ℕ) → p < R .k → q < R .k → R .e p ≡ R .e q → p ≡ q) where
     pub rank-member : {ok : ℕ → Bool} {f : Forest} {lo hi : ℕ} → Fits R ok f lo hi → (q : ℕ) → q < R .k → lo < R .e q → R .e q ≤ hi → among q (entered f) ≡ true
     rank-member none q l low high = absurd (omega arith)

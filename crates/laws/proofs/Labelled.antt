@@ -1,29 +1,34 @@
--- A labelling that a traversal of a graph without cycles makes passes the tests.
+-- The labelling under an order passes the tests, and is what document 01 says. Going up from a group to a parent ends at a group that is nobody's
+-- child, so the traversal visits every group, and each once: the order of finishing is a list of all places by rank. The traversal fits the ranks that
+-- this gives; ranks fall along children as levels do; and s meets its equation since ranks bound its depth.
 use mathlib.Core.Bool.{Bool, true, false, false≢true}
-use mathlib.Core.Logic.{inl, inr}
+use mathlib.Core.Logic.{inl, inr, _↔_}
 use mathlib.Core.Path.{_≡_, refl, sym, ap, _∙_}
 use mathlib.Core.List.{List, [], _∷_, map}
 use Prim.Native.Nat.{ℕ, zero, suc, _<_, _≤_, _+_}
 use native.Mathlib.Omega.{arith}
 use lib.ListN.{length, getD}
 use borrow.Author.Tests.{not-false}
-use Rattle.lineage.specs.Lists.{among, those, upto, position, least, joined}
-use Rattle.lineage.specs.Labels.{Forest, finished, subtree, after, Labelling, nobodysChild, forestOf, outer, labelsBy}
-use Rattle.laws.specs.Visits.{Visits}
+use Rattle.lineage.specs.Lists.{among, those, upto, position, least, greatest, joined}
+use Rattle.lineage.specs.Labels.{Order, inOrder, Forest, finished, subtree, Labelling, nobodysChild, forestOf, outer, labelsBy, labelling}
 use Rattle.lineage.specs.Sound.{childOf}
-use Rattle.laws.specs.Tests.{SoundLabelling}
-use Rattle.laws.proofs.Tests.{or-cases}
-use Rattle.laws.proofs.Ranks.{Distinct, distinct, before, among-after}
-use Rattle.laws.proofs.Lists.{in-append, in-getD, position-low, at-position, position-getD, map-same, table-at, table-long, those-pass, those-keep, in-upto, upto-low, length-upto}
-use Rattle.laws.proofs.Rising.{rises-upto, rises-distinct, pigeonhole}
+use Rattle.laws.specs.Visits.{Visits}
+use Rattle.laws.specs.Sound.{SoundLabelling, SoundGroups}
+use Rattle.laws.proofs.Lists.{in-append, in-getD, position-low, at-position, map-same, table-at, table-long, those-pass, those-keep, in-upto, upto-low, length-upto, greatest-in}
+use Rattle.laws.proofs.Rising.{Distinct, position-getD, rises-upto, rises-distinct, pigeonhole}
+use Rattle.laws.proofs.Traversal.{nextIn, forest-visits, unique}
+use Rattle.laws.proofs.Visited.{held, listed, followed, from-todo, distinct}
+use Rattle.laws.proofs.Closed.{leads-keeps}
+use Rattle.laws.proofs.Ranks.{before, inner-law, m-made}
 use Rattle.laws.proofs.Forests.{Fits, entered, entered-finished, member-m}
 use Rattle.laws.proofs.Walks.{rankingOf, fits-walk, fits-block}
 use Rattle.laws.proofs.Outer.{outer-meets}
-use Rattle.laws.proofs.Relabel.{nextIn, forest-visits, m-made}
-use Rattle.laws.proofs.Fitted.{todo-visited, next-visited, visits-only, visits-fits, visits-fall}
+use Rattle.laws.proofs.Fitted.{visits-fits, visits-fall}
+use Rattle.laws.proofs.Grouped.{group-name, groups-distinct, child-in, levels-fall}
+use Rattle.laws.proofs.Orders.{places-low, places-all}
 
 -- a child of someone
-child-of : (kids : List (List ℕ)) (p : ℕ) → among p (joined kids) ≡ true → (q : ℕ) × (q < length kids) × (childOf kids q p ≡ true)
+child-of : (children : List (List ℕ)) (p : ℕ) → among p (joined children) ≡ true → (q : ℕ) × (q < length children) × (childOf children q p ≡ true)
 child-of [] p i = absurd (false≢true i)
 child-of (c ∷ cs) p i =
     elim (in-append p c (joined cs) i) [
@@ -32,149 +37,174 @@ child-of (c ∷ cs) p i =
     ]
 
 module _
-    (kids : List (List ℕ)) (ranked : List ℕ) (lv : ℕ → ℕ) (top : ℕ)
-    (kid-low : (p q : ℕ) → p < length kids → childOf kids p q ≡ true → q < length kids)
-    (lv-high : (p : ℕ) → p < length kids → lv p ≤ top)
-    (down : (p q : ℕ) → p < length kids → childOf kids p q ≡ true → lv q < lv p)
-    (ranked-low : (q : ℕ) → among q ranked ≡ true → q < length kids)
-    (ranked-all : (q : ℕ) → q < length kids → among q ranked ≡ true)
+    {names groups levels : List ℕ} {children : List (List ℕ)} (S : SoundGroups names groups levels children)
+    (order : List ℕ) (o : Order (length names) order)
   where
-    abbrev F : Forest
-    F = forestOf kids ranked
+    abbrev k : ℕ
+    k = length children
 
-    abbrev next : ℕ → List ℕ
-    next = nextIn kids ranked
+    abbrev ranked : List ℕ
+    ranked = inOrder order groups
 
-    visits : Visits next (those (nobodysChild kids) ranked) [] F
-    visits = forest-visits kids ranked (upto (length kids)) (λ q i. in-upto (length kids) q (ranked-low q i)) (omega (arith, length-upto (length kids)))
+    ranked-low : (p : ℕ) → among p ranked ≡ true → p < k
+    ranked-low p i = omega (arith, S .children-long, places-low groups order p i)
 
-    once : Distinct (finished F)
-    once = distinct visits
+    ranked-all : (p : ℕ) → p < k → among p ranked ≡ true
+    ranked-all p h = places-all groups order (groups-distinct S) p (omega (arith, S .children-long)) (o .all (getD groups p 0) (group-name S p h .0))
 
-    in-finished : (q : ℕ) → among q (after F []) ≡ true → among q (finished F) ≡ true
-    in-finished q i = elim (or-cases (among q (finished F)) false (rw (among-after q F []) at i)) [ inl j ↦ j | inr j ↦ absurd (false≢true j) ]
+    -- the traversal
+    abbrev forest : Forest
+    forest = forestOf children ranked
 
-    -- every group is visited: going up from child to parent ends at a group that is nobody's child
-    visited : (b p : ℕ) → p < length kids → top ≤ b + lv p → among p (finished F) ≡ true
+    visits : Visits (nextIn children ranked) (those (nobodysChild children) ranked) [] forest
+    visits = forest-visits children ranked (upto k) (λ q i. in-upto k q (ranked-low q i)) (omega (arith, length-upto k))
+
+    pub forest-unique : (f : Forest) → Visits (nextIn children ranked) (those (nobodysChild children) ranked) [] f → f ≡ forest
+    forest-unique f v = unique v visits
+
+    -- it visits every group, since going up from child to parent ends at a group that is nobody's child
+    visited : (b p : ℕ) → p < k → greatest levels < b + getD levels p 0 → among p (finished forest) ≡ true
     unfolding nobodysChild
-    visited zero p h l = at (nobodysChild kids p) refl
+    visited zero p h l = absurd (omega (arith, greatest-in levels p (omega (arith, S .levels-long))))
+    visited (suc b) p h l = at (nobodysChild children p) refl (visited b)
       where
-        at : (t : Bool) → nobodysChild kids p ≡ t → among p (finished F) ≡ true
-        at true e = in-finished p (todo-visited visits p (those-keep (nobodysChild kids) p ranked e (ranked-all p h)))
-        at false e = let (q, j, o) = child-of kids p (not-false (among p (joined kids)) e) in absurd (omega (arith, down q p j o, lv-high q j))
-    visited (suc b) p h l = at (nobodysChild kids p) refl (visited b)
-      where
-        at : (t : Bool) → nobodysChild kids p ≡ t → ((q : ℕ) → q < length kids → top ≤ b + lv q → among q (finished F) ≡ true) → among p (finished F) ≡ true
-        at true e ih = in-finished p (todo-visited visits p (those-keep (nobodysChild kids) p ranked e (ranked-all p h)))
+        at :
+            (t : Bool) → nobodysChild children p ≡ t
+            → ((q : ℕ) → q < k → greatest levels < b + getD levels q 0 → among q (finished forest) ≡ true)
+            → among p (finished forest) ≡ true
+        at true e ih = held forest p (listed visits p (those-keep (nobodysChild children) p ranked e (ranked-all p h)))
         at false e ih =
-            let (q, j, o) = child-of kids p (not-false (among p (joined kids)) e) in
-            in-finished p (next-visited visits q p (ih q j (omega (arith, down q p j o))) (those-keep (childOf kids q) p ranked o (ranked-all p h)))
+            let (q, j, c) = child-of children p (not-false (among p (joined children)) e) in
+            held forest p (followed visits q p (ih q j (omega (arith, levels-fall S q p j c))) (those-keep (childOf children q) p ranked c (ranked-all p h)))
 
-    finished-all : (p : ℕ) → p < length kids → among p (finished F) ≡ true
-    finished-all p h = visited top p h (omega arith)
+    pub finished-all : (p : ℕ) → p < k → among p (finished forest) ≡ true
+    finished-all p h = visited (suc (greatest levels)) p h (omega arith)
 
-    finished-low : (p : ℕ) → among p (finished F) ≡ true → p < length kids
-    finished-low =
-        visits-only (λ q. q < length kids) (λ p q i. ranked-low q (those-pass (childOf kids p) q ranked i .1)) visits
-        (λ q i. ranked-low q (those-pass (nobodysChild kids) q ranked i .1))
+    -- only groups, and each once
+    pub finished-low : (p : ℕ) → among p (finished forest) ≡ true → p < k
+    finished-low p i =
+        let (q, j, l) = from-todo visits p i in
+        leads-keeps (λ x. x < k) (λ x y h c. ranked-low y (those-pass (childOf children x) y ranked c .1)) l (ranked-low q (those-pass (nobodysChild children) q ranked j .1))
 
-    count : length (finished F) ≡ length kids
-    count =
+    pub finished-once : Distinct (finished forest)
+    finished-once = distinct visits
+
+    finished-count : length (finished forest) ≡ k
+    finished-count =
         omega (
           arith,
-          length-upto (length kids),
-          pigeonhole (finished F) (upto (length kids)) once (λ x i. in-upto (length kids) x (finished-low x i)),
-          pigeonhole (upto (length kids)) (finished F) (rises-distinct (upto (length kids)) (rises-upto (length kids))) (λ x i. finished-all x (upto-low (length kids) x i)),
+          length-upto k,
+          pigeonhole (finished forest) (upto k) finished-once (λ x i. in-upto k x (finished-low x i)),
+          pigeonhole (upto k) (finished forest) (rises-distinct (upto k) (rises-upto k)) (λ x i. finished-all x (upto-low k x i)),
         )
 
+    -- the labelling
     abbrev l : Labelling
-    l = labelsBy (length kids) kids F
+    l = labelling groups children order
 
     abbrev e : ℕ → ℕ
     e p = getD (l .e) p 0
 
-    by-rank : l .byRank ≡ finished F
-    unfolding labelsBy
+    abbrev m : ℕ → ℕ
+    m p = getD (l .m) p 0
+
+    abbrev s : ℕ → ℕ
+    s p = getD (l .s) p 0
+
+    by-rank : l .byRank ≡ finished forest
+    unfolding labelling labelsBy
     by-rank = refl
 
-    e-is : (p : ℕ) → p < length kids → e p ≡ suc (position p (finished F))
-    unfolding labelsBy
-    e-is p h = table-at (λ q. suc (position q (finished F))) (length kids) p 0 h
+    -- a place, bounded as the labelling bounds it
+    within : {p : ℕ} → p < k → p < length groups
+    within h = omega (arith, S .children-long)
 
-    m-is : (p : ℕ) → p < length kids → getD (l .m) p 0 ≡ suc (length (before p F))
-    unfolding labelsBy
+    -- e is the rank, counted from 1 as groups are finished
+    pub e-is : (p : ℕ) → p < k → e p ≡ suc (position p (finished forest))
+    unfolding labelling labelsBy
+    e-is p h = table-at (λ q. suc (position q (finished forest))) (length groups) p 0 (within h)
+
+    -- m is one more than what was finished before the group was entered
+    pub m-is : (p : ℕ) → p < k → m p ≡ suc (length (before p forest))
+    unfolding labelling labelsBy
     m-is p h =
-        table-at (λ q. least (e q) (map e (subtree q F))) (length kids) p 0 h
-        ∙ m-made F e once (λ q i. e-is q (finished-low q i)) p (finished-all p h)
+        table-at (λ q. least (e q) (map e (subtree q forest))) (length groups) p 0 (within h)
+        ∙ m-made forest finished-once p (finished-all p h) e (λ q i. e-is q (finished-low q i))
 
-    fits : Fits (rankingOf kids l) (nobodysChild kids) F 0 (length kids)
+    -- the inner interval holds the ranks of the group's subtree, and no others
+    pub inner-exactly : (p t : ℕ) → p < k → t < k → ((m p ≤ e t) × (e t ≤ e p)) ↔ (among t (subtree p forest) ≡ true)
+    inner-exactly p t h j =
+        let (to, from) = inner-law forest finished-once p (finished-all p h) t (finished-all t j) in (
+          (λ i. to (omega (arith, m-is p h, e-is t j), omega (arith, e-is p h, e-is t j))),
+          λ i. omega (arith, from i, m-is p h, e-is p h, e-is t j),
+        )
+
+    fits : Fits (rankingOf children l) (nobodysChild children) forest 0 k
     fits =
-        visits-fits (rankingOf kids l) next (λ p q i. those-pass (childOf kids p) q ranked i .0) 0 (length kids) visits
-        (λ q i. those-pass (nobodysChild kids) q ranked i .0) once
+        visits-fits (rankingOf children l) 0 k (λ p q i. those-pass (childOf children p) q ranked i .0) visits
+        (λ q i. those-pass (nobodysChild children) q ranked i .0) finished-once
         record {
           low = finished-low;
           e-is = λ x i. omega (arith, e-is x (finished-low x i));
           m-is = λ x i. omega (arith, m-is x (finished-low x i));
         }
-        (omega (arith, count))
+        (omega (arith, finished-count))
 
-    e-falls : (p q : ℕ) → p < length kids → childOf kids p q ≡ true → e q < e p
+    e-falls : (p q : ℕ) → p < k → childOf children p q ≡ true → e q < e p
     e-falls p q h i =
-        visits-fall (rankingOf kids l) next lv (λ x y j o. down x y j (those-pass (childOf kids x) y ranked o .0)) (suc top) visits fits
-        (λ x j. omega (arith, lv-high x (ranked-low x (those-pass (nobodysChild kids) x ranked j .1))))
-        (λ x j. absurd (false≢true j)) p q (finished-all p h) (those-keep (childOf kids p) q ranked i (ranked-all q (kid-low p q h i)))
+        visits-fall (rankingOf children l) (nextIn children ranked) (λ x. getD levels x 0)
+        (λ x y j c. levels-fall S x y j (those-pass (childOf children x) y ranked c .0)) (suc (greatest levels)) visits fits
+        (λ x j. let z : x < k = ranked-low x (those-pass (nobodysChild children) x ranked j .1) in omega (arith, greatest-in levels x (omega (arith, S .levels-long))))
+        (λ x j. absurd (false≢true j)) p q (finished-all p h) (those-keep (childOf children p) q ranked i (ranked-all q (child-in S p q h i)))
 
-    at-rank : (p r : ℕ) → p < length kids → e p ≡ suc r → getD (l .byRank) r 0 ≡ p
+    at-rank : (p r : ℕ) → p < k → e p ≡ suc r → getD (l .byRank) r 0 ≡ p
     at-rank p r h i =
-        let r-is : r ≡ position p (finished F) = omega (arith, e-is p h) in
-        rw (by-rank, r-is) (at-position p (finished F) (finished-all p h))
+        let r-is : r ≡ position p (finished forest) = omega (arith, e-is p h) in
+        rw (by-rank, r-is) (at-position p (finished forest) (finished-all p h))
 
-    s-is : (p : ℕ) → p < length kids → getD (l .s) p 0 ≡ outer kids (l .e) (length kids) p
-    unfolding labelsBy
-    s-is p h = table-at (outer kids (l .e) (length kids)) (length kids) p 0 h
+    s-is : (p : ℕ) → p < k → s p ≡ outer children (l .e) (length groups) p
+    unfolding labelling labelsBy
+    s-is p h = table-at (outer children (l .e) (length groups)) (length groups) p 0 (within h)
 
-    e-low : (p : ℕ) → p < length kids → 1 ≤ e p
-    e-low p h = omega (arith, e-is p h)
-
-    e-high : (p : ℕ) → p < length kids → e p ≤ length kids
-    e-high p h = omega (arith, e-is p h, position-low p (finished F) (finished-all p h), count)
-
-    s-meets : (p : ℕ) → p < length kids → getD (l .s) p 0 ≡ least (e p) (map (λ q. getD (l .s) q 0) (getD kids p []))
+    s-meets : (p : ℕ) → p < k → s p ≡ least (e p) (map s (getD children p []))
     s-meets p h =
         s-is p h
-        ∙ outer-meets kids (l .e) e-low kid-low e-falls (length kids) p h (e-high p h)
-        ∙ ap (least (e p)) (map-same (outer kids (l .e) (length kids)) (λ q. getD (l .s) q 0) (getD kids p []) (λ q i. sym (s-is q (kid-low p q h i))))
+        ∙ outer-meets children (l .e) (λ q i. omega (arith, e-is q i)) (child-in S) e-falls (length groups) p h (omega (arith, e-most, S .children-long))
+        ∙ ap (least (e p)) (map-same (outer children (l .e) (length groups)) s (getD children p []) (λ q i. sym (s-is q (child-in S p q h i))))
+      where
+        e-most : e p ≤ k
+        e-most = omega (arith, e-is p h, position-low p (finished forest) (finished-all p h), finished-count)
 
-    long : (length (l .s) ≡ length kids) × (length (l .m) ≡ length kids) × (length (l .e) ≡ length kids)
-    unfolding labelsBy
+    long : (length (l .s) ≡ length groups) × (length (l .m) ≡ length groups) × (length (l .e) ≡ length groups)
+    unfolding labelling labelsBy
     long = (
-      table-long (outer kids (l .e) (length kids)) (length kids),
-      table-long (λ q. least (e q) (map e (subtree q F))) (length kids),
-      table-long (λ q. suc (position q (finished F))) (length kids),
+      table-long (outer children (l .e) (length groups)) (length groups),
+      table-long (λ q. least (e q) (map e (subtree q forest))) (length groups),
+      table-long (λ q. suc (position q (finished forest))) (length groups),
     )
 
-    at-low : (r : ℕ) → r < length kids → getD (l .byRank) r 0 < length kids
-    at-low r h = rw by-rank (finished-low (getD (finished F) r 0) (in-getD (finished F) r (omega (arith, count))))
+    at-low : (r : ℕ) → r < k → getD (l .byRank) r 0 < k
+    at-low r h = rw by-rank (finished-low (getD (finished forest) r 0) (in-getD (finished forest) r (omega (arith, finished-count))))
 
-    e-at : (r : ℕ) → r < length kids → e (getD (l .byRank) r 0) ≡ suc r
-    e-at r h = e-is (getD (l .byRank) r 0) (at-low r h) ∙ rw by-rank (ap suc (position-getD (finished F) once r (omega (arith, count))))
+    e-at : (r : ℕ) → r < k → e (getD (l .byRank) r 0) ≡ suc r
+    e-at r h = e-is (getD (l .byRank) r 0) (at-low r h) ∙ rw by-rank (ap suc (position-getD (finished forest) finished-once r (omega (arith, finished-count))))
 
-    in-entered : (p : ℕ) → p < length kids → among p (entered F) ≡ true
-    in-entered p h = rw (entered-finished p F) (finished-all p h)
+    in-entered : (p : ℕ) → p < k → among p (entered forest) ≡ true
+    in-entered p h = rw (entered-finished p forest) (finished-all p h)
 
-    pub labels-sound : SoundLabelling kids (labelsBy (length kids) kids F)
-    labels-sound =
+    pub labelling-sound : SoundLabelling children (labelling groups children order)
+    labelling-sound =
         record {
-          s-long = long .0;
-          m-long = long .1;
-          e-long = long .2;
-          at-long = rw by-rank count;
+          s-long = long .0 ∙ sym (S .children-long);
+          m-long = long .1 ∙ sym (S .children-long);
+          e-long = long .2 ∙ sym (S .children-long);
+          at-long = rw by-rank finished-count;
           at-low = at-low;
           e-at = e-at;
           falls = e-falls;
           outer-is = s-meets;
           m-low = λ p h. omega (arith, m-is p h);
           m-high = λ p h. member-m fits p (in-entered p h);
-          blocks = λ p h. fits-block kids l at-rank fits p (in-entered p h);
-          roots = fits-walk kids l at-rank fits;
+          blocks = λ p h. fits-block children l at-rank fits p (in-entered p h);
+          roots = fits-walk children l at-rank fits;
         }

@@ -1,30 +1,22 @@
--- The last to be finished of all that v reaches reaches v.
+-- The last to be finished of all that v reaches reaches v. When x's subtree is entered, all that was finished before has had its successors seen,
+-- so no edge leads from there into the subtree; a path from there to x would pass through something that is finished after x. So v, which reaches
+-- x and nothing that is finished after x, is in x's subtree.
 use mathlib.Core.Bool.{Bool, true, false, false≢true}
 use mathlib.Core.Logic.{_⊎_, inl, inr}
 use mathlib.Core.Path.{_≡_, refl, ap}
 use mathlib.Core.List.{List, [], _∷_, _++_}
 use Prim.Native.Nat.{ℕ}
 use lib.Dec.{eqb}
-use borrow.Author.Tests.{eqb-true, eq-eqb}
+use borrow.Author.Tests.{eq-eqb}
 use Rattle.lineage.specs.Lists.{among}
 use Rattle.lineage.specs.Labels.{Forest, visit, finished, subtree, after}
+use Rattle.laws.specs.Leads.{Leads, stay, step}
 use Rattle.laws.specs.Visits.{Visits, over, skip, enter}
-use Rattle.laws.proofs.Tests.{or-left, or-right, or-cases}
-use Rattle.laws.proofs.Ranks.{
-  clash,
-  or-false-left,
-  or-false-right,
-  among-append,
-  distinct-apart,
-  distinct,
-  fresh,
-  before,
-  behind,
-  run,
-  self,
-}
-use Rattle.laws.proofs.Below.{Leads, stay, step, subtree-leads}
-use Rattle.laws.proofs.Closed.{listed, followed, held}
+use Rattle.laws.proofs.Tests.{or-false-left, or-false-right, clash}
+use Rattle.laws.proofs.Lists.{among-append, in-append, in-left, in-cons}
+use Rattle.laws.proofs.Rising.{distinct-apart}
+use Rattle.laws.proofs.Visited.{listed, followed, held, fresh, distinct, subtree-leads}
+use Rattle.laws.proofs.Ranks.{before, behind, run, subtree-self, subtree-finished}
 
 -- what stands past x in a list
 abbrev pub past : ℕ → List ℕ → List ℕ
@@ -63,7 +55,7 @@ module _ {next : ℕ → List ℕ} where
       at false e true i l m = rw (past-within x (finished below) (p ∷ finished rest) i, e, i, behind) (ap (λ z. z ++ (p ∷ finished rest)) l)
       at false e false i l m = rw (past-beyond x (finished below) (p ∷ finished rest) i, e, i, behind, past) m
 
-  -- x's subtree is entered once all that went before is finished: no edge leads from there into it
+  -- no edge leads from what was finished before x was entered into x's subtree
   no-edge :
       {todo seen : List ℕ} {f : Forest} → Visits next todo seen f → (x b q : ℕ) → among x (finished f) ≡ true
       → among b (before x f) ≡ true → among q (next b) ≡ true → among q (subtree x f) ≡ true → ⊥
@@ -74,7 +66,7 @@ module _ {next : ℕ → List ℕ} where
     where
       -- what is visited in a later tree was not seen when p was finished
       late : among x (finished rest) ≡ true → among q (after below (p ∷ seen)) ≡ true → among q (subtree x rest) ≡ true → ⊥
-      late h′ seen-q k′ = clash seen-q (fresh s q (rw (run x rest h′, among-append, among-append) (or-right (among q (before x rest)) (or-left _ k′))))
+      late h′ seen-q k′ = clash seen-q (fresh s q (subtree-finished x q rest h′ k′))
 
       at :
           (t : Bool) → eqb x p ≡ t → (c : Bool) → among x (finished below) ≡ c
@@ -86,9 +78,9 @@ module _ {next : ℕ → List ℕ} where
       at false e false ic l m =
           let h′ : among x (finished rest) ≡ true = rw (among-append, ic, e) at h in
           let k′ : among q (subtree x rest) ≡ true = rw (e, ic, subtree) at k in
-          elim (or-cases (among b (finished below)) _ (rw (among-append b (finished below)) at (rw (e, ic, before) at i))) [
+          elim (in-append b (finished below) (p ∷ before x rest) (rw (e, ic, before) at i)) [
             | inl o ↦ late h′ (followed r b q o j) k′
-            | inr o ↦ elim (or-cases (eqb b p) _ o) [ inl o′ ↦ late h′ (listed r q (rw (eqb-true b p o′) at j)) k′ | inr o′ ↦ m h′ o′ k′ ]
+            | inr o ↦ elim (in-cons b p (before x rest) o) [ inl o′ ↦ late h′ (listed r q (rw o′ at j)) k′ | inr o′ ↦ m h′ o′ k′ ]
           ]
 
 module _ {next : ℕ → List ℕ} {todo : List ℕ} {f : Forest} (r : Visits next todo [] f) where
@@ -97,19 +89,19 @@ module _ {next : ℕ → List ℕ} {todo : List ℕ} {f : Forest} (r : Visits ne
       (x y : ℕ) → among x (finished f) ≡ true → among y (finished f) ≡ true
       → (among y (before x f) ≡ true) ⊎ ((among y (subtree x f) ≡ true) ⊎ (among y (past x (finished f)) ≡ true))
   when x y i j =
-      elim (or-cases (among y (before x f)) _ (rw (run x f i, among-append) at j)) [
+      elim (in-append y (before x f) (subtree x f ++ behind x f) (rw (run x f i) at j)) [
         | inl k ↦ inl k
-        | inr k ↦ elim (or-cases (among y (subtree x f)) _ (rw among-append at k)) [ inl m ↦ inr (inl m) | inr m ↦ inr (inr (rw (behind-past r x) at m)) ]
+        | inr k ↦ elim (in-append y (subtree x f) (behind x f) k) [ inl m ↦ inr (inl m) | inr m ↦ inr (inr (rw (behind-past r x) at m)) ]
       ]
 
-  -- a path from what went before x into x's subtree passes through what is finished after x
+  -- a path from what went before x to x passes through what is finished after x
   passes :
       {v x : ℕ} → Leads next v x → among x (finished f) ≡ true → among v (before x f) ≡ true
       → ((y : ℕ) → Leads next v y → among y (past x (finished f)) ≡ true → ⊥) → ⊥
   passes (stay {p = x}) i j n =
-      clash j (distinct-apart (before x f) (subtree x f ++ behind x f) (rw (run x f i) at (distinct r)) x (rw among-append (or-left _ (self x f i))))
+      clash j (distinct-apart (before x f) (subtree x f ++ behind x f) (rw (run x f i) at (distinct r)) x (in-left x (subtree x f) (behind x f) (subtree-self x f i)))
   passes {x = x} (step {p = v} {q = q} e l) i j n =
-      elim (when x q i (held f q (followed r v q (rw (run x f i, among-append) (or-left _ j)) e))) [
+      elim (when x q i (held f q (followed r v q (rw (run x f i) (in-left v (before x f) (subtree x f ++ behind x f) j)) e))) [
         | inl k ↦ passes l i k (λ y m. n y (step e m))
         | inr k ↦ elim k [ inl m ↦ no-edge r x v q i j e m | inr m ↦ n q (step e stay) m ]
       ]

@@ -1,19 +1,22 @@
 -- Lists of numbers: membership, filters, positions.
-use mathlib.Core.Bool.{Bool, true, false, not, false≢true}
+use mathlib.Core.Bool.{Bool, true, false, not, false≢true, _||_, or-assoc, or-comm, or-false}
 use mathlib.Core.Logic.{_⊎_, inl, inr}
 use mathlib.Core.Path.{_≡_, refl, sym, ap, ap₂, _∙_}
-use mathlib.Core.List.{List, [], _∷_, _++_, map, append-nil}
-use Prim.Native.Nat.{ℕ, zero, suc, _<_, _+_}
+use mathlib.Core.List.{List, [], _∷_, _++_, map, append-nil, reverse, reverse-cons}
+use Prim.Native.Nat.{ℕ, zero, suc, _<_, _+_, _≤_, min}
 use native.Mathlib.Nat.{not-suc-le-zero}
 use native.Mathlib.Decide.{ℕ-discrete, decLt}
 use native.Mathlib.Omega.{arith}
 use lib.Dec.{eqb}
 use lib.ListN.{length, getD, length-append, length-map, List·getD-append}
 use lib.Seq.{getD-at, ext-getD}
-use borrow.Author.Tests.{eqb-true, eq-eqb, ne-eqb}
-use Rattle.lineage.specs.Lists.{among, those, upto, position}
-use Rattle.laws.proofs.Tests.{or-left, or-right, or-cases}
-use Rattle.laws.proofs.Ranks.{clash, among-append, Distinct, position-in}
+use borrow.Author.Tests.{eqb-true, eq-eqb}
+use Rattle.lineage.specs.Lists.{any, least, greatest, among, those, upto, position}
+use Rattle.laws.proofs.Tests.{or-left, or-right, or-cases, clash, or-false-left, or-false-right}
+
+pub among-append : (x : ℕ) (a b : List ℕ) → among x (a ++ b) ≡ (among x a || among x b)
+among-append x [] b = refl
+among-append x (y ∷ a) b = rw (among-append x a b) (sym (or-assoc (eqb x y) (among x a) (among x b)))
 
 -- the head is a member, and a member of the tail is one
 pub here : (x : ℕ) (xs : List ℕ) → among x (x ∷ xs) ≡ true
@@ -21,6 +24,13 @@ here x xs = or-left _ (eq-eqb x x refl)
 
 pub there : (x y : ℕ) (xs : List ℕ) → among x xs ≡ true → among x (y ∷ xs) ≡ true
 there x y xs h = or-right (eqb x y) h
+
+-- a member of a list is its head or in its tail
+pub in-cons : (x y : ℕ) (xs : List ℕ) → among x (y ∷ xs) ≡ true → (x ≡ y) ⊎ (among x xs ≡ true)
+in-cons x y xs h = elim (or-cases (eqb x y) _ h) [ inl e ↦ inl (eqb-true x y e) | inr i ↦ inr i ]
+
+pub in-one : (x y : ℕ) → among x (y ∷ []) ≡ true → x ≡ y
+in-one x y h = elim (in-cons x y [] h) [ inl e ↦ e | inr i ↦ absurd (false≢true i) ]
 
 pub in-left : (x : ℕ) (a b : List ℕ) → among x a ≡ true → among x (a ++ b) ≡ true
 in-left x a b h = rw (among-append x a b) (or-left _ h)
@@ -100,6 +110,20 @@ those-split p (x ∷ xs) = at (p x) refl (those-split p xs)
     at true e ih = rw (those-yes p x xs e, those-no (λ y. not (p y)) x xs (ap not e)) (omega arith)
     at false e ih = rw (those-no p x xs e, those-yes (λ y. not (p y)) x xs (ap not e)) (omega arith)
 
+-- some member passes
+pub any-in : (p : ℕ → Bool) (x : ℕ) (xs : List ℕ) → among x xs ≡ true → p x ≡ true → any p xs ≡ true
+any-in p x [] i t = i
+any-in p x (y ∷ xs) i t =
+    elim (or-cases (eqb x y) _ i) [ inl e ↦ or-left _ (rw (eqb-true x y e) at t) | inr j ↦ or-right (p y) (any-in p x xs j t) ]
+
+pub in-any : (p : ℕ → Bool) (xs : List ℕ) → any p xs ≡ true → (x : ℕ) × (among x xs ≡ true) × (p x ≡ true)
+in-any p [] h = absurd (false≢true h)
+in-any p (y ∷ xs) h =
+    elim (or-cases (p y) _ h) [
+      | inl t ↦ (y, here y xs, t)
+      | inr j ↦ let (x, i, t) = in-any p xs j in (x, there x y xs i, t)
+    ]
+
 -- the numbers below n
 pub in-upto : (n v : ℕ) → v < n → among v (upto n) ≡ true
 in-upto zero v h = absurd (not-suc-le-zero h)
@@ -146,6 +170,28 @@ pub table-is : {A : Type 0} (f : ℕ → A) (xs : List A) (n : ℕ) (d : A) → 
 table-is f xs n d l all =
     ext-getD d (map f (upto n)) xs (table-long f n ∙ sym l) (λ i h. let k : i < n = omega (arith, table-long f n) in table-at f n i d k ∙ all i k)
 
+-- where a number stands in a joined list
+pub position-past : (q : ℕ) (a b : List ℕ) → among q a ≡ false → position q (a ++ b) ≡ length a + position q b
+position-past q [] b h = omega arith
+position-past q (x ∷ a) b h =
+    rw (or-false-left (eqb q x) _ h, position) (omega (arith, position-past q a b (or-false-right (eqb q x) _ h)))
+
+pub position-in : (q : ℕ) (a b : List ℕ) → among q a ≡ true → position q (a ++ b) < length a
+position-in q [] b h = absurd (false≢true h)
+position-in q (x ∷ a) b h = at (eqb q x) refl (position-in q a b)
+  where
+    at : (t : Bool) → eqb q x ≡ t → (among q a ≡ true → position q (a ++ b) < length a) → position q (x ∷ (a ++ b)) < suc (length a)
+    at true e ih = rw (e, position) (omega arith)
+    at false e ih = rw (e, position) (omega (arith, ih (rw e at h)))
+
+pub position-left : (x : ℕ) (a b : List ℕ) → among x a ≡ true → position x (a ++ b) ≡ position x a
+position-left x [] b i = absurd (false≢true i)
+position-left x (y ∷ a) b i = at (eqb x y) refl (position-left x a b)
+  where
+    at : (t : Bool) → eqb x y ≡ t → (among x a ≡ true → position x (a ++ b) ≡ position x a) → position x (y ∷ (a ++ b)) ≡ position x (y ∷ a)
+    at true e ih = rw (e, position)
+    at false e ih = rw (e, position) (ap suc (ih (rw e at i)))
+
 -- a member stands at its position
 pub position-low : (x : ℕ) (xs : List ℕ) → among x xs ≡ true → position x xs < length xs
 position-low x xs h = rw (append-nil xs) at (position-in x xs [] h)
@@ -163,15 +209,6 @@ in-getD [] i h = absurd (not-suc-le-zero h)
 in-getD (x ∷ xs) zero h = here x xs
 in-getD (x ∷ xs) (suc i) h = there (getD xs i 0) x xs (in-getD xs i (omega arith))
 
--- in a list without repeats each element stands at its position alone
-pub position-getD : (xs : List ℕ) → Distinct xs → (i : ℕ) → i < length xs → position (getD xs i 0) xs ≡ i
-position-getD [] d i h = absurd (not-suc-le-zero h)
-position-getD (x ∷ xs) d zero h = rw (eq-eqb x x refl, position)
-position-getD (x ∷ xs) d (suc i) h =
-    let l : i < length xs = omega arith in
-    let apart : eqb (getD xs i 0) x ≡ false = ne-eqb (getD xs i 0) x (λ e. clash (rw e at (in-getD xs i l)) (d .0)) in
-    rw (apart, position) (ap suc (position-getD xs (d .1) i l))
-
 -- members of a mapped list
 pub in-map : (f : ℕ → ℕ) (x : ℕ) (xs : List ℕ) → among x xs ≡ true → among (f x) (map f xs) ≡ true
 in-map f x [] h = h
@@ -188,3 +225,39 @@ of-map f y (x ∷ xs) h =
       | inl e ↦ (x, here x xs, eqb-true y (f x) e)
       | inr i ↦ let (z, j, o) = of-map f y xs i in (z, there z x xs j, o)
     ]
+
+pub among-reverse : (x : ℕ) (l : List ℕ) → among x (reverse l) ≡ among x l
+among-reverse x [] = refl
+among-reverse x (y ∷ l) = rw (reverse-cons, among-append, among-reverse x l, or-comm (among x l), or-false (eqb x y))
+
+-- the least of a list's values
+pub least-below : (f : ℕ → ℕ) (a : ℕ) (xs : List ℕ) → least a (map f xs) ≤ a
+least-below f a [] = omega arith
+least-below f a (x ∷ xs) = omega (arith, least-below f (min a (f x)) xs)
+
+pub least-at : (f : ℕ → ℕ) (a q : ℕ) (xs : List ℕ) → among q xs ≡ true → least a (map f xs) ≤ f q
+least-at f a q [] h = absurd (false≢true h)
+least-at f a q (x ∷ xs) h =
+    elim (or-cases (eqb q x) _ h) [
+      | inl e ↦ rw (eqb-true q x e) (omega (arith, least-below f (min a (f x)) xs))
+      | inr i ↦ least-at f (min a (f x)) q xs i
+    ]
+
+pub least-above : (f : ℕ → ℕ) (a b : ℕ) (xs : List ℕ) → b ≤ a → ((q : ℕ) → among q xs ≡ true → b ≤ f q) → b ≤ least a (map f xs)
+least-above f a b [] h all = h
+least-above f a b (x ∷ xs) h all =
+    least-above f (min a (f x)) b xs (omega (arith, all x (or-left _ (eq-eqb x x refl)))) (λ q i. all q (or-right (eqb q x) i))
+
+-- the greatest of a list's values
+pub greatest-at : (f : ℕ → ℕ) (q : ℕ) (xs : List ℕ) → among q xs ≡ true → f q ≤ greatest (map f xs)
+greatest-at f q [] i = absurd (false≢true i)
+greatest-at f q (x ∷ xs) i =
+    elim (or-cases (eqb q x) _ i) [
+      | inl e ↦ omega (arith, ap f (eqb-true q x e))
+      | inr j ↦ omega (arith, greatest-at f q xs j)
+    ]
+
+pub greatest-in : (xs : List ℕ) (i : ℕ) → i < length xs → getD xs i 0 ≤ greatest xs
+greatest-in [] i h = absurd (not-suc-le-zero h)
+greatest-in (x ∷ xs) zero h = omega arith
+greatest-in (x ∷ xs) (suc i) h = omega (arith, greatest-in xs i (omega arith))

@@ -1,4 +1,5 @@
--- s by its equation, and by a bounded recursion.
+-- s by its equation and by its bounded recursion. Ranks fall along children, so a depth of e(p) reaches all that is below p: the recursion meets
+-- the equation, and whatever meets the equation is what the recursion gives.
 use mathlib.Core.Bool.{true}
 use mathlib.Core.Path.{_≡_, refl, sym, ap, _∙_}
 use mathlib.Core.List.{List, [], _∷_, map}
@@ -11,36 +12,38 @@ use Rattle.lineage.specs.Sound.{childOf}
 use Rattle.laws.proofs.Lists.{here, map-same}
 
 module _
-    (kids : List (List ℕ)) (e : List ℕ)
-    (low : (p : ℕ) → p < length kids → 1 ≤ getD e p 0)
-    (kid-low : (p q : ℕ) → p < length kids → childOf kids p q ≡ true → q < length kids)
-    (falls : (p q : ℕ) → p < length kids → childOf kids p q ≡ true → getD e q 0 < getD e p 0)
+    (children : List (List ℕ)) (e : List ℕ)
+    (some : (p : ℕ) → p < length children → 1 ≤ getD e p 0)
+    (child-low : (p q : ℕ) → p < length children → childOf children p q ≡ true → q < length children)
+    (falls : (p q : ℕ) → p < length children → childOf children p q ≡ true → getD e q 0 < getD e p 0)
   where
     -- the first in rank has no children
-    childless : (p : ℕ) → p < length kids → getD e p 0 ≤ 1 → getD kids p [] ≡ []
-    childless p h l = at (getD kids p []) refl
+    childless : (p : ℕ) → p < length children → getD e p 0 ≤ 1 → getD children p [] ≡ []
+    childless p h l = at (getD children p []) refl
       where
-        at : (xs : List ℕ) → getD kids p [] ≡ xs → getD kids p [] ≡ []
+        at : (xs : List ℕ) → getD children p [] ≡ xs → getD children p [] ≡ []
         at [] i = i
-        at (q ∷ xs) i = let c : childOf kids p q ≡ true = rw i (here q xs) in absurd (omega (arith, falls p q h c, low q (kid-low p q h c)))
+        at (q ∷ xs) i = let c : childOf children p q ≡ true = rw i (here q xs) in absurd (omega (arith, falls p q h c, some q (child-low p q h c)))
 
-    -- whatever meets the equation is what the recursion gives
-    pub outer-is : (s : ℕ → ℕ) → ((p : ℕ) → p < length kids → s p ≡ least (getD e p 0) (map s (getD kids p []))) → (f p : ℕ) → p < length kids → getD e p 0 ≤ suc f → outer kids e f p ≡ s p
+    -- what meets the equation is what the recursion gives
+    pub outer-is :
+        (s : ℕ → ℕ) → ((p : ℕ) → p < length children → s p ≡ least (getD e p 0) (map s (getD children p [])))
+        → (f p : ℕ) → p < length children → getD e p 0 ≤ suc f → outer children e f p ≡ s p
     unfolding outer
     outer-is s eq zero p h l = sym (eq p h ∙ ap (λ xs. least (getD e p 0) (map s xs)) (childless p h l))
     outer-is s eq (suc f) p h l =
-        ap (least (getD e p 0)) (map-same (outer kids e f) s (getD kids p []) (λ q i. outer-is s eq f q (kid-low p q h i) (omega (arith, falls p q h i))))
+        ap (least (getD e p 0)) (map-same (outer children e f) s (getD children p [])
+        (λ q i. outer-is s eq f q (child-low p q h i) (omega (arith, falls p q h i))))
         ∙ sym (eq p h)
 
-    stable : (f p : ℕ) → p < length kids → getD e p 0 ≤ suc f → outer kids e f p ≡ outer kids e (suc f) p
+    stable : (f p : ℕ) → p < length children → getD e p 0 ≤ suc f → outer children e f p ≡ outer children e (suc f) p
     unfolding outer
-    stable zero p h l = sym (ap (λ xs. least (getD e p 0) (map (outer kids e 0) xs)) (childless p h l))
+    stable zero p h l = sym (ap (λ xs. least (getD e p 0) (map (outer children e 0) xs)) (childless p h l))
     stable (suc f) p h l =
-        ap (least (getD e p 0)) (map-same (outer kids e f) (outer kids e (suc f)) (getD kids p []) (λ q i. stable f q (kid-low p q h i) (omega (arith, falls p q h i))))
+        ap (least (getD e p 0)) (map-same (outer children e f) (outer children e (suc f)) (getD children p [])
+        (λ q i. stable f q (child-low p q h i) (omega (arith, falls p q h i))))
 
     -- what the recursion gives meets the equation
-    pub outer-meets : (f p : ℕ) → p < length kids → getD e p 0 ≤ f → outer kids e f p ≡ least (getD e p 0) (map (outer kids e f) (getD kids p []))
+    pub outer-meets : (f p : ℕ) → p < length children → getD e p 0 ≤ suc f → outer children e f p ≡ least (getD e p 0) (map (outer children e f) (getD children p []))
     unfolding outer
-    outer-meets zero p h l = absurd (omega (arith, low p h))
-    outer-meets (suc f) p h l =
-        ap (least (getD e p 0)) (map-same (outer kids e f) (outer kids e (suc f)) (getD kids p []) (λ q i. stable f q (kid-low p q h i) (omega (arith, falls p q h i))))
+    outer-meets f p h l = stable f p h l

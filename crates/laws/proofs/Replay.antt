@@ -1,4 +1,6 @@
--- The key law: a forest that fits the ranks is what a traversal makes under the forest's own order of entering.
+-- A forest that fits the ranks is what a traversal makes under the forest's own order of entering. At a group p the children in that order stand
+-- before p's block, in it, or after it. Those before and after have lower ranks than p, hence ranks below its block, and were visited by then; in the
+-- block stand the trees below p one after the other, and what else of them are children of p is visited once its tree is gone through.
 use mathlib.Core.Bool.{Bool, true, false, false≢true}
 use mathlib.Core.Logic.{inl, inr}
 use mathlib.Core.Path.{_≡_, sym, ap, _∙_}
@@ -6,31 +8,26 @@ use mathlib.Core.List.{List, [], _∷_, _++_, append-assoc, append-nil}
 use Prim.Native.Nat.{ℕ, suc, _<_, _≤_}
 use native.Mathlib.Decide.{decLe}
 use native.Mathlib.Omega.{arith}
-use lib.Dec.{eqb}
-use borrow.Author.Tests.{eqb-true}
 use Rattle.lineage.specs.Lists.{among, those}
-use Rattle.lineage.specs.Labels.{Forest, done, finished, after}
+use Rattle.lineage.specs.Labels.{Forest, done, after}
 use Rattle.laws.specs.Visits.{Visits, over, skip, enter}
-use Rattle.laws.proofs.Tests.{or-left, or-right, or-cases}
-use Rattle.laws.proofs.Ranks.{is-false, among-after}
-use Rattle.laws.proofs.Lists.{here, there, in-left, in-right, in-append, those-append, those-yes, those-pass}
+use Rattle.laws.proofs.Tests.{is-false}
+use Rattle.laws.proofs.Lists.{here, there, in-left, in-right, in-append, those-append, those-yes, those-pass, in-one, in-cons}
 use Rattle.laws.proofs.Forests.{Ranking, Fits, none, tree, entered, joinF, join-done, entered-finished, block-up, member-rank, rank-member}
+use Rattle.laws.proofs.Visited.{visited-seen, seen-cases}
+use Rattle.laws.proofs.Traversal.{Kept, kept}
 
 -- groups already seen are passed over
-pub skips :
-    {next : ℕ → List ℕ} {seen : List ℕ} {f : Forest} (xs todo : List ℕ)
-    → ((x : ℕ) → among x xs ≡ true → among x seen ≡ true)
-    → Visits next todo seen f
-    → Visits next (xs ++ todo) seen f
+skips : {next : ℕ → List ℕ} {seen : List ℕ} {f : Forest} (xs todo : List ℕ) → Kept xs seen → Visits next todo seen f → Visits next (xs ++ todo) seen f
 skips [] todo all v = v
 skips (x ∷ xs) todo all v = skip (all x (here x xs)) (skips xs todo (λ y i. all y (there y x xs i)) v)
 
 module _
     (R : Ranking) (ord : List ℕ) (next : ℕ → List ℕ)
-    (next-is : (p : ℕ) → next p ≡ those (R .kid p) ord)
+    (next-is : (p : ℕ) → next p ≡ those (R .child p) ord)
     (one : (p q : ℕ) → p < R .k → q < R .k → R .e p ≡ R .e q → p ≡ q)
     (low : (p : ℕ) → among p ord ≡ true → p < R .k)
-    (falls : (p q : ℕ) → p < R .k → R .kid p q ≡ true → R .e q < R .e p)
+    (falls : (p q : ℕ) → p < R .k → R .child p q ≡ true → R .e q < R .e p)
   where
     -- no rank of the list lies above lo and up to hi
     abbrev Outside : List ℕ → ℕ → ℕ → Type 0
@@ -41,16 +38,13 @@ module _
     Covered seen lo = (x : ℕ) → among x ord ≡ true → R .e x ≤ lo → among x seen ≡ true
 
     -- children of p that stand outside its block have been seen when it is entered
-    passed : (p : ℕ) {lo r : ℕ} (xs seen : List ℕ) → p < R .k → R .e p ≡ suc r → Outside xs lo r → Covered seen lo → ((x : ℕ) → among x xs ≡ true → among x ord ≡ true) → (x : ℕ) → among x (those (R .kid p) xs) ≡ true → among x seen ≡ true
+    passed : (p : ℕ) {lo r : ℕ} (xs seen : List ℕ) → p < R .k → R .e p ≡ suc r → Outside xs lo r → Covered seen lo → Kept xs ord → Kept (those (R .child p) xs) seen
     passed p xs seen h y o c i x j =
-        let t = those-pass (R .kid p) x xs j in
+        let t = those-pass (R .child p) x xs j in
         c x (i x (t .1)) (o x (t .1) (omega (arith, falls p x h (t .0))))
 
-    later-seen : (f : Forest) (seen : List ℕ) (x : ℕ) → among x seen ≡ true → among x (after f seen) ≡ true
-    later-seen f seen x i = rw (among-after x f seen) (or-right (among x (finished f)) i)
-
     entered-seen : (f : Forest) (seen : List ℕ) (x : ℕ) → among x (entered f) ≡ true → among x (after f seen) ≡ true
-    entered-seen f seen x i = rw (among-after x f seen) (or-left _ (rw entered-finished at i))
+    entered-seen f seen x i = visited-seen f seen x (rw entered-finished at i)
 
     -- at p: what stands before and after its block is passed over, and the block gives the forest below
     inside :
@@ -61,17 +55,17 @@ module _
         → Outside a lo r
         → Outside b lo r
         → Covered seen lo
-        → ((rest : List ℕ) (g : Forest) → Visits next rest (after below seen) g → Visits next (those (R .kid p) (entered below) ++ rest) seen (joinF below g))
+        → ((rest : List ℕ) (g : Forest) → Visits next rest (after below seen) g → Visits next (those (R .child p) (entered below) ++ rest) seen (joinF below g))
         → Visits next (next p) seen below
     inside p below a b seen h y o oa ob c go =
-        let kid : ℕ → Bool = R .kid p in
-        let parts : next p ≡ those kid a ++ (those kid (entered below) ++ those kid b) =
-        next-is p ∙ ap (those kid) o ∙ those-append kid a (entered below ++ b) ∙ ap (those kid a ++_) (those-append kid (entered below) b) in
-        let ia : (x : ℕ) → among x a ≡ true → among x ord ≡ true = λ x i. rw o (in-left x a (entered below ++ b) i) in
-        let ib : (x : ℕ) → among x b ≡ true → among x ord ≡ true = λ x i. rw o (in-right x a (entered below ++ b) (in-right x (entered below) b i)) in
-        let last : Visits next (those kid b) (after below seen) done =
-        rw (← append-nil (those kid b)) (skips (those kid b) [] (λ x i. later-seen below seen x (passed p b seen h y ob c ib x i)) over) in
-        rw parts (skips (those kid a) _ (passed p a seen h y oa c ia) (rw (join-done below) at (go (those kid b) done last)))
+        let child : ℕ → Bool = R .child p in
+        let parts : next p ≡ those child a ++ (those child (entered below) ++ those child b) =
+        next-is p ∙ ap (those child) o ∙ those-append child a (entered below ++ b) ∙ ap (those child a ++_) (those-append child (entered below) b) in
+        let ia : Kept a ord = λ x i. rw o (in-left x a (entered below ++ b) i) in
+        let ib : Kept b ord = λ x i. rw o (in-right x a (entered below ++ b) (in-right x (entered below) b i)) in
+        let last : Visits next (those child b) (after below seen) done =
+        rw (← append-nil (those child b)) (skips (those child b) [] (λ x i. kept below seen x (passed p b seen h y ob c ib x i)) over) in
+        rw parts (skips (those child a) _ (passed p a seen h y oa c ia) (rw (join-done below) at (go (those child b) done last)))
 
     -- the order's part for a forest, then the rest: the forest, then what the rest gives
     replay :
@@ -113,7 +107,7 @@ module _
         a-below z i l =
             elim (in-append z a (p ∷ []) i) [
               | inl j ↦ oa z j (omega (arith, block-up w))
-              | inr j ↦ elim (or-cases (eqb z p) false j) [ inl q ↦ absurd (omega (arith, ap (R .e) (eqb-true z p q))) | inr q ↦ absurd (false≢true q) ]
+              | inr j ↦ absurd (omega (arith, ap (R .e) (in-one z p j)))
             ]
 
         b-below : Outside (entered nxt ++ b) lo r
@@ -125,8 +119,8 @@ module _
 
         s-below : Outside (p ∷ seen) lo r
         s-below z i l =
-            elim (or-cases (eqb z p) _ i) [
-              | inl q ↦ absurd (omega (arith, ap (R .e) (eqb-true z p q)))
+            elim (in-cons z p seen i) [
+              | inl q ↦ absurd (omega (arith, ap (R .e) q))
               | inr j ↦ os z j (omega (arith, block-up w))
             ]
 
@@ -137,8 +131,8 @@ module _
         a-next z i l =
             elim (in-append z a (p ∷ entered below) i) [
               | inl j ↦ omega (arith, oa z j l, block-up u)
-              | inr j ↦ elim (or-cases (eqb z p) _ j) [
-                | inl q ↦ omega (arith, ap (R .e) (eqb-true z p q))
+              | inr j ↦ elim (in-cons z p (entered below) j) [
+                | inl q ↦ omega (arith, ap (R .e) q)
                 | inr q ↦ omega (arith, member-rank u z q)
               ]
             ]
@@ -148,10 +142,10 @@ module _
 
         s-next : Outside (after below (p ∷ seen)) (suc r) hi
         s-next z i l =
-            elim (or-cases (among z (finished below)) _ (rw among-after at i)) [
+            elim (seen-cases z below (p ∷ seen) i) [
               | inl j ↦ omega (arith, member-rank u z (rw (← entered-finished z below) at j))
-              | inr j ↦ elim (or-cases (eqb z p) _ j) [
-                | inl q ↦ omega (arith, ap (R .e) (eqb-true z p q))
+              | inr j ↦ elim (in-cons z p seen j) [
+                | inl q ↦ omega (arith, ap (R .e) q)
                 | inr q ↦ omega (arith, os z q l, block-up u)
               ]
             ]
@@ -160,12 +154,13 @@ module _
         seen-next z i l = at (decLe (R .e z) lo) (decLe (R .e z) r)
           where
             at : Dec (R .e z ≤ lo) → Dec (R .e z ≤ r) → among z (after below (p ∷ seen)) ≡ true
-            at (yes q) d = later-seen below (p ∷ seen) z (seen-below z i q)
+            at (yes q) d = kept below (p ∷ seen) z (seen-below z i q)
             at (no q) (yes d) = entered-seen below (p ∷ seen) z (rank-member one u z (low z i) (omega arith) d)
-            at (no q) (no d) = rw (one z p (low z i) h (omega arith)) (later-seen below (p ∷ seen) p (here p seen))
+            at (no q) (no d) = rw (one z p (low z i) h (omega arith)) (kept below (p ∷ seen) p (here p seen))
 
     -- the whole forest, from nothing seen
-    pub replayed : (root : ℕ → Bool) (f : Forest) (k : ℕ) → Fits R root f 0 k → ord ≡ entered f → ((p : ℕ) → p < R .k → 1 ≤ R .e p) → Visits next (those root ord) [] f
+    pub replayed :
+        (root : ℕ → Bool) (f : Forest) (k : ℕ) → Fits R root f 0 k → ord ≡ entered f → ((p : ℕ) → p < R .k → 1 ≤ R .e p) → Visits next (those root ord) [] f
     replayed root f k fits o above =
         let nothing : (z : ℕ) → among z [] ≡ true → R .e z ≤ k → R .e z ≤ 0 = λ z i l. absurd (false≢true i) in
         let v : Visits next (those root (entered f) ++ []) [] (joinF f done) =

@@ -9,12 +9,46 @@ use native.Mathlib.Omega.{arith}
 use lib.Dec.{eqb}
 use lib.ListN.{length, getD}
 use borrow.Author.Tests.{eqb-true, eq-eqb, ne-eqb}
-use Rattle.lineage.specs.Lists.{among, those, upto, position}
-use Rattle.lineage.specs.Lists.{firstOf}
-use Rattle.laws.proofs.Tests.{or-cases}
-use Rattle.laws.proofs.Ranks.{clash, is-false, Distinct}
-use Rattle.laws.proofs.Lists.{here, there, in-append, in-getD, those-yes, those-no, those-pass, those-keep, upto-low, in-upto, length-upto, position-low, at-position}
+use Rattle.lineage.specs.Lists.{among, those, upto, position, firstOf}
+use Rattle.laws.proofs.Tests.{or-cases, clash, is-false, or-left, or-right}
+use Rattle.laws.proofs.Lists.{here, there, in-append, in-getD, those-yes, those-no, those-pass, those-keep, upto-low, in-upto, length-upto, position-low, at-position, among-append, in-left}
 
+-- no number stands twice
+abbrev pub Distinct : List ℕ → Type 0
+Distinct [] = Unit {0}
+Distinct (x ∷ xs) = (among x xs ≡ false) × Distinct xs
+
+pub distinct-append : (a b : List ℕ) → Distinct a → Distinct b → ((x : ℕ) → among x a ≡ true → among x b ≡ false) → Distinct (a ++ b)
+distinct-append [] b da db apart = db
+distinct-append (x ∷ a) b da db apart =
+    (rw (among-append x a b, da .0) (apart x (or-left _ (eq-eqb x x refl))), distinct-append a b (da .1) db (λ y h. apart y (or-right (eqb y x) h)))
+
+pub distinct-right : (a b : List ℕ) → Distinct (a ++ b) → Distinct b
+distinct-right [] b d = d
+distinct-right (x ∷ a) b d = distinct-right a b (d .1)
+
+pub distinct-apart : (a b : List ℕ) → Distinct (a ++ b) → (x : ℕ) → among x b ≡ true → among x a ≡ false
+distinct-apart [] b d x h = refl
+distinct-apart (y ∷ a) b d x h =
+    is-false (among x (y ∷ a)) (λ t. elim (or-cases (eqb x y) _ t) [
+      | inl e ↦ clash (rw (among-append y a b, ← eqb-true x y e) (or-right (among x a) h)) (d .0)
+      | inr i ↦ clash i (distinct-apart a b (d .1) x h)
+    ])
+
+pub distinct-left : (a b : List ℕ) → Distinct (a ++ b) → Distinct a
+distinct-left [] b d = tt
+distinct-left (x ∷ a) b d = (is-false (among x a) (λ i. clash (in-left x a b i) (d .0)), distinct-left a b (d .1))
+
+-- in a list without repeats each element stands at its position alone
+pub position-getD : (xs : List ℕ) → Distinct xs → (i : ℕ) → i < length xs → position (getD xs i 0) xs ≡ i
+position-getD [] d i h = absurd (not-suc-le-zero h)
+position-getD (x ∷ xs) d zero h = rw (eq-eqb x x refl, position)
+position-getD (x ∷ xs) d (suc i) h =
+    let l : i < length xs = omega arith in
+    let apart : eqb (getD xs i 0) x ≡ false = ne-eqb (getD xs i 0) x (λ e. clash (rw e at (in-getD xs i l)) (d .0)) in
+    rw (apart, position) (ap suc (position-getD xs (d .1) i l))
+
+-- each number is less than those after it
 abbrev pub Rises : List ℕ → Type 0
 Rises [] = Unit {0}
 Rises (x ∷ xs) = ((y : ℕ) → among y xs ≡ true → x < y) × Rises xs

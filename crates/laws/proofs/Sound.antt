@@ -1,120 +1,66 @@
--- An index passes the tests exactly when some edge list and some orders make it.
+-- An index passes the tests exactly where some edge list and some orders make it, and the computed test decides this. What is made passes by the laws
+-- of the graph and of the labelling under an order; of what passes, names and children are those of a graph, and each labelling is that of an order.
 use mathlib.Core.Bool.{true}
 use mathlib.Core.Logic.{_↔_}
 use mathlib.Core.Path.{_≡_, refl, sym, ap, ap₂, subst, _∙_}
 use mathlib.Core.List.{List, [], _∷_, map}
-use Prim.Native.Nat.{ℕ, _<_}
-use native.Mathlib.Omega.{arith}
-use lib.ListN.{length, getD}
-use Rattle.lineage.specs.Lists.{among}
-use Rattle.lineage.specs.Graph.{Graph, Ends, namesOf, groupList, childrenOf, levelsOf, condense}
-use Rattle.lineage.specs.Labels.{Labelling, inOrder, Order, labelling}
-use Rattle.lineage.specs.Index.{Index, indexOf}
+use Prim.Native.Nat.{ℕ}
+use lib.ListN.{length}
 use Rattle.lineage.specs.Lists.{Every}
-use Rattle.laws.specs.Tests.{SoundLabelling, SoundGroups, Sound}
-use Rattle.laws.proofs.Rising.{rises-distinct}
-use Rattle.laws.proofs.Forests.{entered}
-use Rattle.laws.proofs.Walks.{forest}
-use Rattle.laws.proofs.Relabel.{all-entered, entered-low, entered-count, labelling-same}
-use Rattle.laws.proofs.Labelled.{labels-sound}
-use Rattle.laws.proofs.Condensed.{groups-rise, g-low, reached, reached-high, reached-falls, kids-in, groups-sound}
-use Rattle.laws.proofs.Regraph.{member-name, rising-groups, kid-in, graph, graph-ends, names-made, groups-made, kids-made, levels-made}
-use Rattle.laws.proofs.Orders.{places-low, places-all, orderOf, in-order, is-order}
+use Rattle.lineage.specs.Graph.{Graph, Ends, Condensed, condense}
+use Rattle.lineage.specs.Labels.{Labelling, Order, labelling}
+use Rattle.lineage.specs.Index.{Index, indexBy, indexOf, Made}
+use Rattle.lineage.specs.Sound.{sound}
+use Rattle.laws.specs.Sound.{SoundLabelling, SoundGroups, Sound}
+use Rattle.laws.proofs.Names.{names-long}
+use Rattle.laws.proofs.Condensed.{groups-sound}
+use Rattle.laws.proofs.GraphFound.{graph, graph-ends, condense-made}
+use Rattle.laws.proofs.Labelled.{labelling-sound}
+use Rattle.laws.proofs.OrderFound.{order-found}
+use Rattle.laws.proofs.Decides.{sound-decides}
 
 -- made, then sound
-module _ (G : Graph) (ends : Ends G) where
-  abbrev groups : List ℕ
-  groups = groupList (namesOf G)
+module _ {names groups levels : List ℕ} {children : List (List ℕ)} (S : SoundGroups names groups levels children) where
+  labellings-sound : (n : ℕ) → n ≡ length names → (orders : List (List ℕ)) → Every (Order n) orders → Every (SoundLabelling children) (map (labelling groups children) orders)
+  labellings-sound n e [] os = tt
+  labellings-sound n e (o ∷ orders) os = (labelling-sound S o (rw e at (os .0)), labellings-sound n e orders (os .1))
 
-  abbrev kids : List (List ℕ)
-  kids = childrenOf G (namesOf G) groups
-
-  groups-sized : length groups ≡ length kids
-  groups-sized = sym (groups-sound G ends .kids-long)
-
-  labelling-sound : (order : List ℕ) → Order (G .n) order → SoundLabelling kids (labelling groups kids order)
-  unfolding labelling
-  labelling-sound order o =
-      rw groups-sized
-      (labels-sound kids (inOrder order groups) (reached G ends) (length kids) (kids-in G ends)
-      (λ p h. omega (arith, reached-high G ends p, groups-sized))
-      (λ p q h i. reached-falls G ends p q (omega (arith, groups-sized)) i)
-      (λ q i. omega (arith, places-low order groups q i, groups-sized))
-      (λ q h. let l : q < length groups = omega (arith, groups-sized) in
-      places-all order groups (rises-distinct groups (groups-rise (namesOf G))) q l (o .all (getD groups q 0) (g-low G ends q l))))
-
-  labellings-sound : (orders : List (List ℕ)) → Every (Order (G .n)) orders → Every (SoundLabelling kids) (map (labelling groups kids) orders)
-  labellings-sound [] os = tt
-  labellings-sound (o ∷ orders) os = (labelling-sound o (os .0), labellings-sound orders (os .1))
-
-  pub made-sound : (orders : List (List ℕ)) → Every (Order (G .n)) orders → Sound (indexOf G orders)
-  unfolding indexOf condense
-  made-sound orders os = record { condensed = groups-sound G ends; labelled = labellings-sound orders os }
+pub made-sound : (G : Graph) → Ends G → (orders : List (List ℕ)) → Every (Order (G .n)) orders → Sound (indexOf G orders)
+unfolding indexOf indexBy condense
+made-sound G ends orders os =
+    record { condensed = groups-sound G ends; labelled = labellings-sound (groups-sound G ends) (G .n) (sym (names-long G ends)) orders os }
 
 -- sound, then made
-pub record Maker (I : Index) : Type 0 where
-  pub G : Graph
-  pub orders : List (List ℕ)
-  pub sized : G .n ≡ length (I .names)
-  pub ends : Ends G
-  pub permuted : Every (Order (G .n)) orders
-  pub makes : indexOf G orders ≡ I
-
-module _ (names groups levels : List ℕ) (kids : List (List ℕ)) (S : SoundGroups names groups levels kids) where
-  -- an order for one labelling
-  relabelled : (l : Labelling) → SoundLabelling kids l → (order : List ℕ) × Order (length names) order × (labelling groups kids order ≡ l)
-  relabelled l L = (
-    orderOf (length names) groups places (rising-groups names groups levels kids S) group-low low all full,
-    is-order (length names) groups places (rising-groups names groups levels kids S) group-low low all full,
-    labelling-same kids l L (kid-in names groups levels kids S) groups _ (sym (S .kids-long))
-        (in-order (length names) groups places (rising-groups names groups levels kids S) group-low low all full),
-  )
-    where
-      places : List ℕ
-      places = entered (forest kids l L .0)
-
-      group-low : (v : ℕ) → among v groups ≡ true → v < length names
-      group-low v i = member-name names groups levels kids S v i .0
-
-      low : (p : ℕ) → among p places ≡ true → p < length groups
-      low p i = omega (arith, S .kids-long, entered-low kids l L (kid-in names groups levels kids S) p i)
-
-      all : (p : ℕ) → p < length groups → among p places ≡ true
-      all p h = all-entered kids l L (kid-in names groups levels kids S) p (omega (arith, S .kids-long))
-
-      full : length places ≡ length groups
-      full = omega (arith, S .kids-long, entered-count kids l L (kid-in names groups levels kids S))
-
-  relabelled-all : (ls : List Labelling) → Every (SoundLabelling kids) ls → (orders : List (List ℕ)) × Every (Order (length names)) orders × (map (labelling groups kids) orders ≡ ls)
-  relabelled-all [] Ls = ([], tt, refl)
-  relabelled-all (l ∷ ls) Ls =
-      let (o, p, e) = relabelled l (Ls .0) in
-      let (os, ps, es) = relabelled-all ls (Ls .1) in
-      (o ∷ os, (p, ps), ap₂ _∷_ e es)
+orders-found :
+    {names groups levels : List ℕ} {children : List (List ℕ)} → SoundGroups names groups levels children → (ls : List Labelling) → Every (SoundLabelling children) ls
+    → (orders : List (List ℕ)) × Every (Order (length names)) orders × (map (labelling groups children) orders ≡ ls)
+orders-found S [] Ls = ([], tt, refl)
+orders-found S (l ∷ ls) Ls =
+    let (o, p, e) = order-found S (Ls .0) in
+    let (os, ps, es) = orders-found S ls (Ls .1) in
+    (o ∷ os, (p, ps), ap₂ _∷_ e es)
 
 module _ (I : Index) (S : Sound I) where
-  abbrev C : SoundGroups (I .names) (I .groups) (I .levels) (I .children)
-  C = S .condensed
+  index-made : (os : List (List ℕ)) → map (labelling (I .groups) (I .children)) os ≡ I .labels → indexOf (graph (S .condensed)) os ≡ I
+  unfolding indexOf indexBy
+  index-made os e =
+      let (c, v) = condense-made (S .condensed) in
+      ap (λ (c : Condensed). indexBy c os) c ∙ λ i. record { names = I .names; groups = I .groups; levels = v i; children = I .children; labels = e i }
 
-  abbrev G : Graph
-  G = graph (I .names) (I .groups) (I .levels) (I .children) C
-
-  index-made : (orders : List (List ℕ)) → map (labelling (I .groups) (I .children)) orders ≡ I .labels → indexOf G orders ≡ I
-  unfolding indexOf condense
-  index-made orders e =
-      let ns : namesOf G ≡ I .names = names-made (I .names) (I .groups) (I .levels) (I .children) C in
-      let gs : groupList (namesOf G) ≡ I .groups = groups-made (I .names) (I .groups) (I .levels) (I .children) C in
-      let cs : childrenOf G (namesOf G) (groupList (namesOf G)) ≡ I .children = kids-made (I .names) (I .groups) (I .levels) (I .children) C in
-      let vs : levelsOf (childrenOf G (namesOf G) (groupList (namesOf G))) ≡ I .levels = ap levelsOf cs ∙ levels-made (I .names) (I .groups) (I .levels) (I .children) C in
-      let ls : map (labelling (groupList (namesOf G)) (childrenOf G (namesOf G) (groupList (namesOf G)))) orders ≡ I .labels =
-      ap₂ (λ xs ks. map (labelling xs ks) orders) gs cs ∙ e in
-      λ i. record { names = ns i; groups = gs i; levels = vs i; children = cs i; labels = ls i }
-
-  pub sound-made : Maker I
+  pub sound-made : Made I
   sound-made =
-      let (os, ps, e) = relabelled-all (I .names) (I .groups) (I .levels) (I .children) C (I .labels) (S .labelled) in
-      record { G = G; orders = os; sized = refl; ends = graph-ends (I .names) (I .groups) (I .levels) (I .children) C; permuted = ps; makes = index-made os e }
+      let (os, ps, e) = orders-found (S .condensed) (I .labels) (S .labelled) in
+      record { graph = graph (S .condensed); ends = graph-ends (S .condensed); orders = os; permuted = ps; yields = index-made os e }
 
 -- the two together
-pub sound-exactly : (I : Index) → Sound I ↔ Maker I
-sound-exactly I = (sound-made I, λ M. subst Sound (M .makes) (made-sound (M .G) (M .ends) (M .orders) (M .permuted)))
+pub sound-exactly : (I : Index) → Sound I ↔ Made I
+sound-exactly I = (sound-made I, λ M. subst Sound (M .yields) (made-sound (M .graph) (M .ends) (M .orders) (M .permuted)))
+
+-- and as computed
+pub sound-is-made : (I : Index) → (sound I ≡ true) ↔ Made I
+sound-is-made I = ((λ h. sound-made I (sound-decides I .0 h)), λ M. sound-decides I .1 (sound-exactly I .1 M))
+
+-- the graph has as many vertices as the index has names
+pub made-long : {I : Index} (M : Made I) → length (I .names) ≡ M .graph .n
+unfolding indexOf indexBy condense
+made-long M = ap (λ (J : Index). length (J .names)) (sym (M .yields)) ∙ names-long (M .graph) (M .ends)

@@ -1,87 +1,95 @@
--- A traversal is determined by its start, and `traverse` makes it.
-use mathlib.Core.Bool.{Bool, true, false, false≢true, true≢false}
-use mathlib.Core.Logic.{inl, inr}
-use mathlib.Core.Path.{_≡_, refl, sym, ap₂, _∙_}
+-- A traversal is determined by its start, and `traverse` makes it: each place that is entered is seen from then on, so a depth above the number
+-- of places not yet seen suffices.
+use mathlib.Core.Bool.{Bool, true, false, not}
+use mathlib.Core.Path.{_≡_, refl, ap, ap₂}
 use mathlib.Core.List.{List, [], _∷_}
 use Prim.Native.Nat.{ℕ, zero, suc, _<_, _≤_}
 use native.Mathlib.Nat.{not-suc-le-zero}
 use native.Mathlib.Omega.{arith}
-use lib.Dec.{eqb}
-use borrow.Author.Tests.{eqb-true, eq-eqb}
-use Rattle.lineage.specs.Lists.{among}
-use Rattle.lineage.specs.Labels.{Forest, done, visit, after, along, traverse}
+use lib.ListN.{length}
+use borrow.Author.Tests.{not-true}
+use Rattle.lineage.specs.Lists.{among, those}
+use Rattle.lineage.specs.Labels.{Forest, done, visit, after, along, traverse, forestOf, nobodysChild}
 use Rattle.laws.specs.Visits.{Visits, over, skip, enter}
-use Rattle.laws.proofs.Tests.{or-left, or-right, or-cases}
+use Rattle.laws.proofs.Tests.{clash, is-false}
+use Rattle.laws.proofs.Lists.{here, there, those-all, those-pass}
+use Rattle.laws.proofs.Rising.{those-le, those-lt}
+use Rattle.lineage.specs.Sound.{childOf}
 
 pub unique : {next : ℕ → List ℕ} {todo seen : List ℕ} {f g : Forest} → Visits next todo seen f → Visits next todo seen g → f ≡ g
 unique over over = refl
 unique (skip a r) (skip b s) = unique r s
-unique (skip a r) (enter b s t) = absurd (true≢false (sym a ∙ b))
-unique (enter a r t) (skip b s) = absurd (true≢false (sym b ∙ a))
+unique (skip a r) (enter b s t) = clash a b
+unique (enter a r t) (skip b s) = clash b a
 unique (enter {p = p} a r t) (enter b s v) =
     let e = unique r s in
     ap₂ (visit p) e (unique t (rw (← e) at v))
 
--- how many of a list are not seen
-abbrev pub countIf : Bool → ℕ → ℕ
-countIf true n = n
-countIf false n = suc n
-
-abbrev pub unseen : List ℕ → List ℕ → ℕ
-unseen [] seen = 0
-unseen (q ∷ qs) seen = countIf (among q seen) (unseen qs seen)
+-- all of the one list is in the other
+abbrev pub Kept : List ℕ → List ℕ → Type 0
+Kept xs ys = (q : ℕ) → among q xs ≡ true → among q ys ≡ true
 
 -- what is seen stays seen
-abbrev pub Kept : List ℕ → List ℕ → Type 0
-Kept seen seen′ = (q : ℕ) → among q seen ≡ true → among q seen′ ≡ true
-
 pub kept : (f : Forest) (seen : List ℕ) → Kept seen (after f seen)
 kept done seen q h = h
-kept (visit p below next) seen q h = kept next _ q (kept below _ q (or-right (eqb q p) h))
+kept (visit p below next) seen q h = kept next _ q (kept below _ q (there q p seen h))
 
-count-le : (a b : Bool) {m n : ℕ} → (a ≡ true → b ≡ true) → m ≤ n → countIf b m ≤ countIf a n
-count-le true true k h = h
-count-le true false k h = absurd (false≢true (k refl))
-count-le false true k h = omega arith
-count-le false false k h = omega arith
+-- how many of a list are not seen
+abbrev pub unseen : List ℕ → List ℕ → ℕ
+unseen places seen = length (those (λ q. not (among q seen)) places)
 
-count-lt : (a b : Bool) {m n : ℕ} → (a ≡ true → b ≡ true) → m < n → countIf b m < countIf a n
-count-lt true true k h = h
-count-lt true false k h = absurd (false≢true (k refl))
-count-lt false true k h = omega arith
-count-lt false false k h = omega arith
+pub unseen-none : (places : List ℕ) → unseen places [] ≡ length places
+unseen-none places = ap length (those-all (λ q. not (among q [])) places (λ q i. refl))
 
-unseen-le : (qs seen seen′ : List ℕ) → Kept seen seen′ → unseen qs seen′ ≤ unseen qs seen
-unseen-le [] seen seen′ k = omega arith
-unseen-le (q ∷ qs) seen seen′ k = count-le (among q seen) (among q seen′) (k q) (unseen-le qs seen seen′ k)
+-- what is not in the greater list is not in the less
+not-kept : (xs ys : List ℕ) → Kept xs ys → (q : ℕ) → not (among q ys) ≡ true → not (among q xs) ≡ true
+not-kept xs ys k q h = ap not (is-false (among q xs) (λ i. clash (k q i) (not-true (among q ys) h)))
 
-unseen-lt : (qs : List ℕ) (p : ℕ) (seen : List ℕ) → among p qs ≡ true → among p seen ≡ false → unseen qs (p ∷ seen) < unseen qs seen
-unseen-lt [] p seen i new = absurd (false≢true i)
-unseen-lt (q ∷ qs) p seen i new =
-    elim (or-cases (eqb p q) _ i) [
-      | inl e ↦ rw (← eqb-true p q e, eq-eqb p p refl, new) (omega (arith, unseen-le qs seen (p ∷ seen) (λ x. or-right (eqb x p))))
-      | inr j ↦ count-lt (among q seen) (among q (p ∷ seen)) (or-right (eqb q p)) (unseen-lt qs p seen j new)
-    ]
+unseen-le : (places seen more : List ℕ) → Kept seen more → unseen places more ≤ unseen places seen
+unseen-le places seen more k = those-le (λ q. not (among q more)) (λ q. not (among q seen)) places (not-kept seen more k)
 
-module _ (next : ℕ → List ℕ) (places : List ℕ) (closed : (p q : ℕ) → among q (next p) ≡ true → among q places ≡ true) where
-  abbrev pub Made : ℕ → Type 0
-  Made f = (todo seen : List ℕ) → ((q : ℕ) → among q todo ≡ true → among q places ≡ true) → unseen places seen < f → Visits next todo seen (traverse next f todo seen)
+unseen-lt : (places : List ℕ) (p : ℕ) (seen : List ℕ) → among p places ≡ true → among p seen ≡ false → unseen places (p ∷ seen) < unseen places seen
+unseen-lt places p seen i new =
+    those-lt (λ q. not (among q (p ∷ seen))) (λ q. not (among q seen)) places p (not-kept seen (p ∷ seen) (λ q. there q p seen)) i (ap not new) (ap not (here p seen))
 
-  made-along : (f : ℕ) → Made f → (todo seen : List ℕ) → ((q : ℕ) → among q todo ≡ true → among q places ≡ true) → unseen places seen < suc f → Visits next todo seen (along (traverse next f) next todo seen)
+module _ (next : ℕ → List ℕ) (places : List ℕ) (closed : (p : ℕ) → Kept (next p) places) where
+  abbrev Made : ℕ → Type 0
+  Made f = (todo seen : List ℕ) → Kept todo places → unseen places seen < f → Visits next todo seen (traverse next f todo seen)
+
+  made-along : (f : ℕ) → Made f → (todo seen : List ℕ) → Kept todo places → unseen places seen < suc f → Visits next todo seen (along (traverse next f) next todo seen)
   made-along f ih [] seen all h = over
-  made-along f ih (p ∷ todo) seen all h = at (among p seen) refl (λ s k. made-along f ih todo s (λ q i. all q (or-right (eqb q p) i)) k)
+  made-along f ih (p ∷ todo) seen all h = at (among p seen) refl (λ s. made-along f ih todo s (λ q i. all q (there q p todo i)))
     where
       fewer : among p seen ≡ false → unseen places (p ∷ seen) < unseen places seen
-      fewer = unseen-lt places p seen (all p (or-left _ (eq-eqb p p refl)))
+      fewer = unseen-lt places p seen (all p (here p todo))
 
-      stays : (g : Forest) → unseen places (after g (p ∷ seen)) ≤ unseen places (p ∷ seen)
-      stays g = unseen-le places (p ∷ seen) (after g (p ∷ seen)) (kept g (p ∷ seen))
+      after-fewer : (g : Forest) → unseen places (after g (p ∷ seen)) ≤ unseen places (p ∷ seen)
+      after-fewer g = unseen-le places (p ∷ seen) (after g (p ∷ seen)) (kept g (p ∷ seen))
 
-      at : (b : Bool) → among p seen ≡ b → ((s : List ℕ) → unseen places s < suc f → Visits next todo s (along (traverse next f) next todo s)) → Visits next (p ∷ todo) seen (along (traverse next f) next (p ∷ todo) seen)
+      at :
+          (b : Bool) → among p seen ≡ b
+          → ((s : List ℕ) → unseen places s < suc f → Visits next todo s (along (traverse next f) next todo s))
+          → Visits next (p ∷ todo) seen (along (traverse next f) next (p ∷ todo) seen)
       at true e go = rw (e, along) (skip e (go seen h))
-      at false e go = rw (e, along) (enter e (ih (next p) (p ∷ seen) (closed p) (omega (arith, fewer e))) (go _ (omega (arith, fewer e, stays (traverse next f (next p) (p ∷ seen))))))
+      at false e go =
+          rw (e, along)
+          (enter e (ih (next p) (p ∷ seen) (closed p) (omega (arith, fewer e)))
+          (go _ (omega (arith, fewer e, after-fewer (traverse next f (next p) (p ∷ seen))))))
 
   pub made : (f : ℕ) → Made f
   unfolding traverse
   made zero todo seen all h = absurd (not-suc-le-zero h)
   made (suc f) todo seen all h = made-along f (made f) todo seen all h
+
+-- the children of p in the order
+abbrev pub nextIn : List (List ℕ) → List ℕ → ℕ → List ℕ
+nextIn children ranked p = those (childOf children p) ranked
+
+-- `forestOf` is the traversal from the groups that are nobody's child
+pub forest-visits :
+    (children : List (List ℕ)) (ranked places : List ℕ) → Kept ranked places → length places ≤ length children
+    → Visits (nextIn children ranked) (those (nobodysChild children) ranked) [] (forestOf children ranked)
+unfolding forestOf
+forest-visits children ranked places all l =
+    made (nextIn children ranked) places (λ p q i. all q (those-pass (childOf children p) q ranked i .1)) (suc (length children)) (those (nobodysChild children) ranked) []
+    (λ q i. all q (those-pass (nobodysChild children) q ranked i .1)) (omega (arith, unseen-none places))

@@ -1,4 +1,4 @@
--- The trees of a forest.
+-- The trees of a forest. One after the other they are the order of finishing, so where that has no repeats each vertex stands in one tree only.
 use mathlib.Core.Bool.{Bool, true, false, false≢true}
 use mathlib.Core.Path.{_≡_, refl, ap, _∙_}
 use mathlib.Core.List.{List, [], _∷_, _++_, append-assoc}
@@ -7,8 +7,9 @@ use native.Mathlib.Omega.{arith}
 use lib.ListN.{length, getD}
 use Rattle.lineage.specs.Lists.{among, joined}
 use Rattle.lineage.specs.Labels.{Forest, done, visit, finished}
-use Rattle.laws.proofs.Tests.{or-left, or-right}
-use Rattle.laws.proofs.Ranks.{clash, among-append, Distinct, distinct-right, distinct-apart}
+use Rattle.laws.proofs.Tests.{clash}
+use Rattle.laws.proofs.Lists.{among-append, in-left, in-right}
+use Rattle.laws.proofs.Rising.{Distinct, distinct-right, distinct-apart}
 
 -- the trees of a forest, each as it is finished, its root last
 abbrev pub trees : Forest → List (List ℕ)
@@ -17,8 +18,8 @@ trees (visit p below rest) = (finished below ++ (p ∷ [])) ∷ trees rest
 
 -- two numbers stand in the same list
 pub data Together : List (List ℕ) → ℕ → ℕ → Type 0 where
-  here : {t : List ℕ} {ts : List (List ℕ)} {u v : ℕ} → among u t ≡ true → among v t ≡ true → Together (t ∷ ts) u v
-  later : {t : List ℕ} {ts : List (List ℕ)} {u v : ℕ} → Together ts u v → Together (t ∷ ts) u v
+  both : {t : List ℕ} {ts : List (List ℕ)} {u v : ℕ} → among u t ≡ true → among v t ≡ true → Together (t ∷ ts) u v
+  beyond : {t : List ℕ} {ts : List (List ℕ)} {u v : ℕ} → Together ts u v → Together (t ∷ ts) u v
 
 pub joined-trees : (f : Forest) → joined (trees f) ≡ finished f
 joined-trees done = refl
@@ -30,8 +31,8 @@ OnlyOne ts v = (i : ℕ) × (i < length ts) × (among v (getD ts i []) ≡ true)
 
 holds : (ts : List (List ℕ)) (v j : ℕ) → among v (getD ts j []) ≡ true → among v (joined ts) ≡ true
 holds [] v j h = h
-holds (t ∷ ts) v zero h = rw among-append (or-left _ h)
-holds (t ∷ ts) v (suc j) h = rw among-append (or-right (among v t) (holds ts v j h))
+holds (t ∷ ts) v zero h = in-left v t (joined ts) h
+holds (t ∷ ts) v (suc j) h = in-right v t (joined ts) (holds ts v j h)
 
 -- a number of lists without repeats stands in one of them only
 pub only-one : (ts : List (List ℕ)) (v : ℕ) → Distinct (joined ts) → among v (joined ts) ≡ true → OnlyOne ts v

@@ -1,4 +1,6 @@
--- The left walks of a labelling and the forest on its ranks are the same thing.
+-- The left walks of a labelling and a forest on its ranks are the same thing. A walk passes the last tree of its stretch, whose block is again a
+-- walk, and goes on to the left of it: so the walks grow a forest from the right. Back, a forest that fits gives each walk, its order of finishing is
+-- the places by rank, and m is one more than what was finished before.
 use mathlib.Core.Bool.{Bool, true, false, false≢true}
 use mathlib.Core.Logic.{inl, inr}
 use mathlib.Core.Path.{_≡_, refl, sym, ap, _∙_}
@@ -13,50 +15,51 @@ use borrow.Author.Tests.{eqb-true}
 use Rattle.lineage.specs.Lists.{among}
 use Rattle.lineage.specs.Labels.{Forest, done, visit, finished, Labelling, nobodysChild}
 use Rattle.lineage.specs.Sound.{childOf}
-use Rattle.laws.specs.Tests.{LeftWalk, arrived, left, SoundLabelling}
-use Rattle.laws.proofs.Tests.{or-cases}
-use Rattle.laws.proofs.Ranks.{before, among-append}
-use Rattle.laws.proofs.Lists.{in-append}
+use Rattle.laws.specs.Sound.{LeftWalk, arrived, left, SoundLabelling}
+use Rattle.laws.proofs.Lists.{among-append, in-cons, in-append}
+use Rattle.laws.proofs.Ranks.{before}
 use Rattle.laws.proofs.Forests.{Ranking, Fits, none, tree, entered, joinF, join-fits, block-up}
 
 abbrev pub rankingOf : List (List ℕ) → Labelling → Ranking
-rankingOf kids l = record { k = length kids; kid = childOf kids; e = λ p. getD (l .e) p 0; m = λ p. getD (l .m) p 0 }
+rankingOf children l = record { k = length children; child = childOf children; e = λ p. getD (l .e) p 0; m = λ p. getD (l .m) p 0 }
 
 -- the left walks make a forest: the last tree's block, and what stands left of it
-module _ (kids : List (List ℕ)) (l : Labelling) (S : SoundLabelling kids l) where
+module _ {children : List (List ℕ)} {l : Labelling} (L : SoundLabelling children l) where
   abbrev Grown : (ℕ → Bool) → ℕ → ℕ → Type 0
-  Grown test lo hi = (f : Forest) × Fits (rankingOf kids l) test f lo hi
+  Grown test lo hi = (f : Forest) × Fits (rankingOf children l) test f lo hi
 
   abbrev at : ℕ → ℕ
   at q = getD (l .byRank) q 0
 
   -- the place at rank suc q, what is below it, and what stands left of it
-  tree-left : {test : ℕ → Bool} (q lo : ℕ) → q < length kids → test (at q) ≡ true → Grown (childOf kids (at q)) (getD (l .m) (at q) 0 - 1) q → Grown test lo (getD (l .m) (at q) 0 - 1) → Grown test lo (suc q)
+  tree-left :
+      {test : ℕ → Bool} (q lo : ℕ) → q < length children → test (at q) ≡ true
+      → Grown (childOf children (at q)) (getD (l .m) (at q) 0 - 1) q → Grown test lo (getD (l .m) (at q) 0 - 1) → Grown test lo (suc q)
   tree-left q lo n t (below, u) (rest, v) =
-      let low : at q < length kids = S .at-low q n in
-      (joinF rest (visit (at q) below done), join-fits {f = rest} v (tree {below = below} t low (omega (arith, S .m-low (at q) low)) (S .e-at q n) u none))
+      let low : at q < length children = L .at-low q n in
+      (joinF rest (visit (at q) below done), join-fits {f = rest} v (tree {below = below} t low (omega (arith, L .m-low (at q) low)) (L .e-at q n) u none))
 
-  block : (q : ℕ) → q < length kids → LeftWalk l (childOf kids (at q)) q (getD (l .m) (at q) 0 - 1)
+  block : (q : ℕ) → q < length children → LeftWalk l (childOf children (at q)) q (getD (l .m) (at q) 0 - 1)
   block q n =
-      let low : at q < length kids = S .at-low q n in
-      let rank : getD (l .e) (at q) 0 - 1 ≡ q = omega (arith, S .e-at q n) in
-      rw rank at (S .blocks (at q) low)
+      let low : at q < length children = L .at-low q n in
+      let rank : getD (l .e) (at q) 0 - 1 ≡ q = omega (arith, L .e-at q n) in
+      rw rank at (L .blocks (at q) low)
 
-  shorter : (q : ℕ) → q < length kids → getD (l .m) (at q) 0 - 1 ≤ q
-  shorter q n = omega (arith, S .e-at q n, S .m-high (at q) (S .at-low q n))
+  shorter : (q : ℕ) → q < length children → getD (l .m) (at q) 0 - 1 ≤ q
+  shorter q n = omega (arith, L .e-at q n, L .m-high (at q) (L .at-low q n))
 
-  grown : (b : ℕ) {test : ℕ → Bool} {hi lo : ℕ} → hi ≤ b → hi ≤ length kids → LeftWalk l test hi lo → Grown test lo hi
+  grown : (b : ℕ) {test : ℕ → Bool} {hi lo : ℕ} → hi ≤ b → hi ≤ length children → LeftWalk l test hi lo → Grown test lo hi
   grown zero h n arrived = (done, none)
   grown zero h n (left t w) = absurd (not-suc-le-zero h)
   grown (suc b) h n arrived = (done, none)
   grown (suc b) h n (left {q = q} {lo = lo} t w) =
       tree-left q lo n t (grown b (omega arith) (omega arith) (block q n)) (grown b (omega (arith, shorter q n)) (omega (arith, shorter q n)) w)
 
-  pub forest : (f : Forest) × Fits (rankingOf kids l) (nobodysChild kids) f 0 (length kids)
-  forest = grown (length kids) (omega arith) (omega arith) (S .roots)
+  pub forest : (f : Forest) × Fits (rankingOf children l) (nobodysChild children) f 0 (length children)
+  forest = grown (length children) (omega arith) (omega arith) (L .roots)
 
 -- the way back: a forest that fits gives the walks
-module _ (kids : List (List ℕ)) (l : Labelling) (at-rank : (p r : ℕ) → p < length kids → getD (l .e) p 0 ≡ suc r → getD (l .byRank) r 0 ≡ p) where
+module _ (children : List (List ℕ)) (l : Labelling) (at-rank : (p r : ℕ) → p < length children → getD (l .e) p 0 ≡ suc r → getD (l .byRank) r 0 ≡ p) where
   walk-on : {test : ℕ → Bool} {hi mid lo : ℕ} → LeftWalk l test hi mid → LeftWalk l test mid lo → LeftWalk l test hi lo
   walk-on arrived w = w
   walk-on (left t v) w = left t (walk-on v w)
@@ -66,19 +69,19 @@ module _ (kids : List (List ℕ)) (l : Labelling) (at-rank : (p r : ℕ) → p <
       let back : getD (l .m) (getD (l .byRank) r 0) 0 - 1 ≡ lo = omega (arith, ap (λ q. getD (l .m) q 0) e) in
       left {q = r} {lo = lo} (rw e t) (rw back arrived)
 
-  pub fits-walk : {test : ℕ → Bool} {f : Forest} {lo hi : ℕ} → Fits (rankingOf kids l) test f lo hi → LeftWalk l test hi lo
+  pub fits-walk : {test : ℕ → Bool} {f : Forest} {lo hi : ℕ} → Fits (rankingOf children l) test f lo hi → LeftWalk l test hi lo
   fits-walk none = arrived
   fits-walk (tree {p = p} {lo = lo} {r = r} t h x y u v) = walk-on (fits-walk v) (one-tree p r lo (at-rank p r h y) t x)
 
   pub fits-block :
-      {test : ℕ → Bool} {f : Forest} {lo hi : ℕ} → Fits (rankingOf kids l) test f lo hi
-      → (q : ℕ) → among q (entered f) ≡ true → LeftWalk l (childOf kids q) (getD (l .e) q 0 - 1) (getD (l .m) q 0 - 1)
+      {test : ℕ → Bool} {f : Forest} {lo hi : ℕ} → Fits (rankingOf children l) test f lo hi
+      → (q : ℕ) → among q (entered f) ≡ true → LeftWalk l (childOf children q) (getD (l .e) q 0 - 1) (getD (l .m) q 0 - 1)
   fits-block none q i = absurd (false≢true i)
   fits-block (tree {p = p} {lo = lo} {r = r} {below = below} {next = next} t h x y u v) q i =
       let rank : getD (l .e) p 0 - 1 ≡ r = omega arith in
       let least : getD (l .m) p 0 - 1 ≡ lo = omega arith in
-      elim (or-cases (eqb q p) _ i) [
-        | inl j ↦ rw (eqb-true q p j, rank, least) (fits-walk u)
+      elim (in-cons q p (entered below ++ entered next) i) [
+        | inl j ↦ rw (j, rank, least) (fits-walk u)
         | inr j ↦ elim (in-append q (entered below) (entered next) j) [ inl o ↦ fits-block u q o | inr o ↦ fits-block v q o ]
       ]
 

@@ -1,3 +1,4 @@
 -- What the laws are told in: relations that only proofs need.
+pub mod Leads
 pub mod Visits
-pub mod Tests
+pub mod Sound
