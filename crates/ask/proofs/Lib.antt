@@ -1,3 +1,9 @@
 -- The laws that the proofs of this crate cite.
 pub mod Labellings
 pub mod Halving
+pub mod Passing
+pub mod Counting
+pub mod Trying
+pub mod Rows
+pub mod Nets
+pub mod Turns

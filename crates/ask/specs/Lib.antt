@@ -1,2 +1,3 @@
 -- What the contracts inside this crate say of the stored sections.
 pub mod Intervals
+pub mod Fit
