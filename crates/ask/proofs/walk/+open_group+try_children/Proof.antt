@@ -81,22 +81,27 @@ module _ (u : ℕ) where
 
   open-add-t19 : open-group-lts.Need-add-t19 (open-calls u) (open-group-at u) open-group.Post
   open-add-t19 c =
-      let s = entry (c .before .before .before .before .before .before .before) in
-      let a = c .before .before .before .try-children in
-      omega (
-        arith,
-        open-count (s .pre .1 .0) (s .args .g) _ (s .args .lev) _ (s .args .marks .now) (a .result .found) (a .result .deciding) (a .result .opened) _ (s .pre .1 .1 .0) (c .before .before .before .before .before .before .num .ensures .0)
-            (c .before .before .before .before .before .children-of .ensures) (a .ensures) refl (s .pre .1 .1 .1 .1),
-        s .good .1 .1 .1 .1 .1 .1 .1 .1 .1 .0 .0,
-      )
+      let t = c .before .before .before in
+      let n = t .before .before .before in
+      let s = entry (n .before) in
+      let a = t .try-children in
+      let fits =
+      open-count (s .pre .1 .0) (s .args .g) _ (s .args .lev) _ (s .args .marks .now) (a .result .found) (a .result .deciding) (a .result .opened) _ (s .pre .1 .1 .0)
+      (n .num .ensures .0) (t .before .before .children-of .ensures) (a .ensures) refl (s .pre .1 .1 .1 .1) in
+      omega (arith, fits, s .good .1 .1 .1 .1 .1 .1 .1 .1 .1 .0 .0)
 
   open-same-length : open-group-lts.Need-same-length (open-calls u) (open-group-at u) open-group.Post
-  open-same-length c = c .before .before .before .try-children .kept .1 .1 .1 .1 .1 .1 .1 .1 .1 .1 .0 ∙ length-set (entry (c .before .before .before .before .before .before .before) .args .marks .now) (c .before .before .before .before .before .before .num .result) 1
+  open-same-length c =
+      let t = c .before .before .before in
+      let n = t .before .before .before in
+      t .try-children .kept .1 .1 .1 .1 .1 .1 .1 .1 .1 .1 .0 ∙ length-set (entry (n .before) .args .marks .now) (n .num .result) 1
 
   open-returns : open-group-lts.Need-returns (open-calls u) (open-group-at u) open-group.Post
   open-returns c =
-      let s = entry (c .before .before .before .before .before .before .before) in
-      open-done (s .pre .1 .0) _ _ _ _ _ _ _ _ _ (s .pre .1 .1 .0) (c .before .before .before .before .before .before .num .ensures .0) (c .before .before .before .before .before .children-of .ensures) (c .before .before .before .try-children .ensures)
+      let t = c .before .before .before in
+      let n = t .before .before .before in
+      let s = entry (n .before) in
+      open-done (s .pre .1 .0) _ _ _ _ _ _ _ _ _ (s .pre .1 .1 .0) (n .num .ensures .0) (t .before .before .children-of .ensures) (t .try-children .ensures)
 
 -- Trying. Before child i, `opened` groups are opened and the marks are as they are: what is left makes up the whole row.
 abbrev Inv-loop : try-children-lts.InvT-loop
@@ -130,82 +135,93 @@ module _ (u : ℕ) where
 
   try-returns : try-children-lts.Need-returns (try-calls u) (try-children-at u) try-children.Post Inv-loop μ-loop
   try-returns c =
-      let s = lent (c .before .before .before .before) in
-      turn-hit (s .pre .1 .0) (s .pre .1 .1) (c .before .before .before .before .loop .inv) (c .before .before .before .loop-test .taken) (c .before .before .num .ensures .0) (c .before .inner-by .ensures) (c .if1 .taken)
+      let b = c .before in
+      let s = lent (b .before .before .before) in
+      turn-hit (s .pre .1 .0) (s .pre .1 .1) (b .before .before .before .loop .inv) (b .before .before .loop-test .taken) (b .before .num .ensures .0) (b .inner-by .ensures) (c .if1 .taken)
 
   try-add-i : try-children-lts.Need-add-i (try-calls u) (try-children-at u) try-children.Post Inv-loop μ-loop
-  try-add-i c = let s = lent (c .before .before .before .before) in omega (arith, turn-step (s .pre .1 .0) (s .pre .1 .1) (c .before .before .before .before .loop .inv) (c .before .before .before .loop-test .taken), s .good .1 .1 .1 .1 .1 .1 .1 .1 .1 .0 .0)
+  try-add-i c =
+      let b = c .before in
+      let s = lent (b .before .before .before) in
+      omega (arith, turn-step (s .pre .1 .0) (s .pre .1 .1) (b .before .before .before .loop .inv) (b .before .before .loop-test .taken), s .good .1 .1 .1 .1 .1 .1 .1 .1 .1 .0 .0)
 
   try-passed-over-requires : try-children-lts.Need-passed-over-requires (try-calls u) (try-children-at u) try-children.Post Inv-loop μ-loop
   try-passed-over-requires c κs =
-      let s = lent (c .before .before .before .before .before) in
+      let b = c .before .before in
+      let s = lent (b .before .before .before) in
       let F = s .pre .1 .0 in
-      let l = c .before .before .before .before .before .loop in
-      let low = turn-low F (s .pre .1 .1) (l .inv) (c .before .before .before .before .loop-test .taken) (c .before .before .before .num .ensures .0) in
-      (F .width, ((F .groups-long, (F .levels-long, F .labels-long)), (low, (F .target-low, omega (arith, F .name-low (c .before .before .before .num .result) low, l .inv .long)))))
-
-  try-sub-open-group : try-children-lts.Need-sub-open-group (try-calls u) (try-children-at u) try-children.Post Inv-loop μ-loop
-  try-sub-open-group c =
-      let s = lent (c .before .before .before .before .before .before .before .before) in
-      omega (arith, turn-level (s .pre .1 .0) (s .pre .1 .1) (c .before .before .before .before .before .before .before .before .loop .inv) (c .before .before .before .before .before .before .before .loop-test .taken) (c .before .before .before .before .before .before .num .ensures .0))
-
-  try-open-group-requires : try-children-lts.Need-open-group-requires (try-calls u) (try-children-at u) try-children.Post Inv-loop μ-loop
-  try-open-group-requires c κs =
-      let s = lent (c .before .before .before .before .before .before .before .before) in
-      let F = s .pre .1 .0 in
-      let l = c .before .before .before .before .before .before .before .before .loop in
-      let lt = c .before .before .before .before .before .before .before .loop-test .taken in
-      let child = c .before .before .before .before .before .before .num .ensures .0 in
-      let level = turn-level F (s .pre .1 .1) (l .inv) lt child in (
-        omega (arith, s .pre .0, level),
+      let low = turn-low (s .pre .1 .0) (s .pre .1 .1) (b .before .before .before .loop .inv) (b .before .before .loop-test .taken) (b .before .num .ensures .0) in (
+        F .width,
         (
-          rw (l .inv .long) F,
-          (
-            turn-low F (s .pre .1 .1) (l .inv) lt child,
-            (
-              omega (arith, level),
-              turn-free F (s .pre .1 .1) (l .inv) lt child (c .before .before .before .before .before .inner-by .ensures) (c .before .before .before .before .if1 .left) (c .before .before .passed-over .ensures) (not-true _ (c .before .if2 .taken)),
-            ),
-          ),
+          (F .groups-long, (F .levels-long, F .labels-long)),
+          (low, (F .target-low, omega (arith, F .name-low (b .before .num .result) low, b .before .before .before .loop .inv .long))),
         ),
       )
 
+  try-sub-open-group : try-children-lts.Need-sub-open-group (try-calls u) (try-children-at u) try-children.Post Inv-loop μ-loop
+  try-sub-open-group c =
+      let b = c .before .before .before .before .before in
+      let s = lent (b .before .before .before) in
+      omega (arith, turn-level (s .pre .1 .0) (s .pre .1 .1) (b .before .before .before .loop .inv) (b .before .before .loop-test .taken) (b .before .num .ensures .0))
+
+  try-open-group-requires : try-children-lts.Need-open-group-requires (try-calls u) (try-children-at u) try-children.Post Inv-loop μ-loop
+  try-open-group-requires c κs =
+      let b = c .before .before .before .before .before in
+      let s = lent (b .before .before .before) in
+      let level = turn-level (s .pre .1 .0) (s .pre .1 .1) (b .before .before .before .loop .inv) (b .before .before .loop-test .taken) (b .before .num .ensures .0) in
+      let free = turn-free (s .pre .1 .0) (s .pre .1 .1) (b .before .before .before .loop .inv) (b .before .before .loop-test .taken) (b .before .num .ensures .0) (b .inner-by .ensures) (c .before .before .before .before .if1 .left) (c .before .before .passed-over .ensures) (not-true _ (c .before .if2 .taken)) in
+      (omega (arith, s .pre .0, level), (rw (b .before .before .before .loop .inv .long) (s .pre .1 .0), (turn-low (s .pre .1 .0) (s .pre .1 .1) (b .before .before .before .loop .inv) (b .before .before .loop-test .taken) (b .before .num .ensures .0), (omega (arith, level), free))))
+
   try-add-opened : try-children-lts.Need-add-opened (try-calls u) (try-children-at u) try-children.Post Inv-loop μ-loop
   try-add-opened c =
-      let s = lent (c .before .before .before .before .before .before .before .before .before .before .before .before) in
-      omega (
-        arith,
-        turn-count (s .pre .1 .0) (s .pre .1 .1) (c .before .before .before .before .before .before .before .before .before .before .before .before .loop .inv) (c .before .before .before .before .before .before .before .before .before .before .before .loop-test .taken) (c .before .before .before .before .before .before .before .before .before .before .num .ensures .0) (c .before .before .before .before .before .before .before .before .before .inner-by .ensures)
-            (c .before .before .before .before .before .before .before .before .if1 .left) (c .before .before .before .before .before .before .passed-over .ensures) (not-true _ (c .before .before .before .before .before .if2 .taken)) refl (c .before .before .before .open-group .ensures),
-        s .good .1 .1 .1 .1 .1 .1 .1 .1 .1 .1 .0 .0,
-      )
+      let o = c .before .before .before in
+      let b = o .before .before .before .before .before .before in
+      let s = lent (b .before .before .before) in
+      let fits = turn-count (s .pre .1 .0) (s .pre .1 .1) (b .before .before .before .loop .inv) (b .before .before .loop-test .taken) (b .before .num .ensures .0) (b .inner-by .ensures)
+      (o .before .before .before .before .before .if1 .left) (o .before .before .before .passed-over .ensures) (not-true _ (o .before .before .if2 .taken)) refl (o .open-group .ensures) in
+      omega (arith, fits, s .good .1 .1 .1 .1 .1 .1 .1 .1 .1 .1 .0 .0)
 
   try-same-length-2 : try-children-lts.Need-same-length-2 (try-calls u) (try-children-at u) try-children.Post Inv-loop μ-loop
-  try-same-length-2 c = c .before .before .before .before .open-group .kept .1 .1 .1 .1 .1 .1 .1 .1 .1 .0 ∙ c .before .before .before .before .before .before .before .before .before .before .before .before .before .loop .inv .long
+  try-same-length-2 c =
+      let o = c .before .before .before .before in
+      let b = o .before .before .before .before .before .before in
+      let s = lent (b .before .before .before) in
+      o .open-group .kept .1 .1 .1 .1 .1 .1 .1 .1 .1 .0 ∙ b .before .before .before .loop .inv .long
 
   try-returns-2 : try-children-lts.Need-returns-2 (try-calls u) (try-children-at u) try-children.Post Inv-loop μ-loop
   try-returns-2 c =
-      let s = lent (c .before .before .before .before .before .before .before .before .before .before .before .before .before) in
-      turn-found (s .pre .1 .0) (s .pre .1 .1) (c .before .before .before .before .before .before .before .before .before .before .before .before .before .loop .inv) (c .before .before .before .before .before .before .before .before .before .before .before .before .loop-test .taken) (c .before .before .before .before .before .before .before .before .before .before .before .num .ensures .0) (c .before .before .before .before .before .before .before .before .before .before .inner-by .ensures)
-      (c .before .before .before .before .before .before .before .before .before .if1 .left) (c .before .before .before .before .before .before .before .passed-over .ensures) (not-true _ (c .before .before .before .before .before .before .if2 .taken)) refl (c .before .before .before .before .open-group .ensures) (c .if3 .taken)
+      let o = c .before .before .before .before in
+      let b = o .before .before .before .before .before .before in
+      let s = lent (b .before .before .before) in
+      turn-found (s .pre .1 .0) (s .pre .1 .1) (b .before .before .before .loop .inv) (b .before .before .loop-test .taken) (b .before .num .ensures .0) (b .inner-by .ensures)
+      (o .before .before .before .before .before .if1 .left) (o .before .before .before .passed-over .ensures) (not-true _ (o .before .before .if2 .taken)) refl (o .open-group .ensures) (c .if3 .taken)
 
   try-loop-less : try-children-lts.Need-loop-less (try-calls u) (try-children-at u) try-children.Post Inv-loop μ-loop
-  try-loop-less c = let s = lent (c .before .before .before .before .before .before .before .before .before .before .before .before .before) in omega (arith, turn-within (s .pre .1 .0) (s .pre .1 .1) (c .before .before .before .before .before .before .before .before .before .before .before .before .before .loop .inv) (c .before .before .before .before .before .before .before .before .before .before .before .before .loop-test .taken))
+  try-loop-less c =
+      let o = c .before .before .before .before in
+      let b = o .before .before .before .before .before .before in
+      let s = lent (b .before .before .before) in
+      omega (arith, turn-within (s .pre .1 .0) (s .pre .1 .1) (b .before .before .before .loop .inv) (b .before .before .loop-test .taken))
 
   try-loop-again : try-children-lts.Need-loop-again (try-calls u) (try-children-at u) try-children.Post Inv-loop μ-loop
   try-loop-again c =
-      let s = lent (c .before .before .before .before .before .before .before .before .before .before .before .before .before) in
-      turn-next (s .pre .1 .0) (s .pre .1 .1) (c .before .before .before .before .before .before .before .before .before .before .before .before .before .loop .inv) (c .before .before .before .before .before .before .before .before .before .before .before .before .loop-test .taken) (c .before .before .before .before .before .before .before .before .before .before .before .num .ensures .0) (c .before .before .before .before .before .before .before .before .before .before .inner-by .ensures)
-      (c .before .before .before .before .before .before .before .before .before .if1 .left) (c .before .before .before .before .before .before .before .passed-over .ensures) (not-true _ (c .before .before .before .before .before .before .if2 .taken)) refl (c .before .before .before .before .open-group .ensures) (c .if3 .left)
+      let o = c .before .before .before .before in
+      let b = o .before .before .before .before .before .before in
+      let s = lent (b .before .before .before) in
+      turn-next (s .pre .1 .0) (s .pre .1 .1) (b .before .before .before .loop .inv) (b .before .before .loop-test .taken) (b .before .num .ensures .0) (b .inner-by .ensures)
+      (o .before .before .before .before .before .if1 .left) (o .before .before .before .passed-over .ensures) (not-true _ (o .before .before .if2 .taken)) refl (o .open-group .ensures) (c .if3 .left)
 
   try-loop-less-2 : try-children-lts.Need-loop-less-2 (try-calls u) (try-children-at u) try-children.Post Inv-loop μ-loop
-  try-loop-less-2 c = let s = lent (c .before .before .before .before .before .before .before) in omega (arith, turn-within (s .pre .1 .0) (s .pre .1 .1) (c .before .before .before .before .before .before .before .loop .inv) (c .before .before .before .before .before .before .loop-test .taken))
+  try-loop-less-2 c =
+      let b = c .before .before .before .before in
+      let s = lent (b .before .before .before) in
+      omega (arith, turn-within (s .pre .1 .0) (s .pre .1 .1) (b .before .before .before .loop .inv) (b .before .before .loop-test .taken))
 
   try-loop-again-2 : try-children-lts.Need-loop-again-2 (try-calls u) (try-children-at u) try-children.Post Inv-loop μ-loop
   try-loop-again-2 c =
-      let s = lent (c .before .before .before .before .before .before .before) in
-      turn-over (s .pre .1 .0) (s .pre .1 .1) (c .before .before .before .before .before .before .before .loop .inv) (c .before .before .before .before .before .before .loop-test .taken) (c .before .before .before .before .before .num .ensures .0) (c .before .before .before .before .inner-by .ensures) (c .before .before .before .if1 .left)
-      (c .before .passed-over .ensures) (not-false _ (c .if2 .left))
+      let b = c .before .before .before .before in
+      let s = lent (b .before .before .before) in
+      turn-over (s .pre .1 .0) (s .pre .1 .1) (b .before .before .before .loop .inv) (b .before .before .loop-test .taken) (b .before .num .ensures .0) (b .inner-by .ensures) (c .before .before .before .if1 .left) (c .before .passed-over .ensures) (not-false _ (c .if2 .left))
 
   try-same-length-3 : try-children-lts.Need-same-length-3 (try-calls u) (try-children-at u) try-children.Post Inv-loop μ-loop
   try-same-length-3 c = c .before .loop .inv .long
