@@ -5,7 +5,7 @@ use mathlib.Core.List.{List, [], _∷_, map}
 use Prim.Native.Nat.{ℕ, suc, _+_, _-_, _*_, _≤_, _<_}
 use native.Mathlib.Omega.{arith}
 use native.Mathlib.Numerals.{add-one}
-use native.Mathlib.Nat.{mul-le-mul-right, mul-le-mul-left, mul-add, mul-suc}
+use native.Mathlib.Nat.{mul-le-mul-right, suc-mul}
 use lib.ListN.{length, getD}
 use lib.Seq.{ext-getD}
 use Rattle.lineage.specs.Lists.{upto, part}
@@ -15,7 +15,7 @@ use Rattle.lineage.specs.Numbers.{numAt, numbers}
 use Rattle.lineage.specs.Stored.{Counts, countsIn, sizes, stretch, section, rowAt, labellingAt, decode}
 use Rattle.numbers.proofs.Regions.{part-length, part-at}
 use Rattle.numbers.proofs.Numbers.{num-part, numbers-long, numbers-at, numbers-part}
-use Rattle.numbers.proofs.Tables.{table-long, table-at}
+use Rattle.numbers.proofs.Tables.{table-long, table-at, table-is}
 use Rattle.sections.specs.Sections.{childrenIn, labellingIn, triplesOf, placesOf, labelsIn, indexFrom}
 
 module _ (w : ℕ) (starts children : List ℕ) (k c : ℕ) where
@@ -89,3 +89,74 @@ module _ (w : ℕ) (triples places : List ℕ) (k : ℕ) where
 pub labels-long : (w : ℕ) (labels : List ℕ) (k d : ℕ) → length (labelsIn w labels k d) ≡ d
 unfolding labelsIn
 labels-long w labels k d = table-long (λ j. labellingIn w (triplesOf w labels k j) (placesOf w labels k j) k) d
+
+-- two tables are equal where they agree at each place
+table-same : {A : Type 0} (f g : ℕ → A) (n : ℕ) (d : A) → ((i : ℕ) → i < n → f i ≡ g i) → map f (upto n) ≡ map g (upto n)
+table-same f g n d h = table-is f n (map g (upto n)) d (table-long g n) (λ i l. h i l ∙ sym (table-at g n i d l))
+
+same-labelling :
+    {s s' m m' e e' r r' : List ℕ} → s ≡ s' → m ≡ m' → e ≡ e' → r ≡ r'
+    → _≡_ {A = Labelling} (record { s = s; m = m; e = e; byRank = r }) (record { s = s'; m = m'; e = e'; byRank = r' })
+same-labelling a b c d = cc
+
+-- labelling j of a labels section is what its two stretches hold
+module _ (w : ℕ) (labels : List ℕ) (k d j : ℕ) (low : j < d) where
+  room : j * (4 * k) + 4 * k ≤ d * (4 * k)
+  room = omega (arith, mul-le-mul-right (4 * k) low, suc-mul j (4 * k))
+
+  own-at : (i : ℕ) → i < 4 * k → getD (part (numbers w labels (d * (4 * k))) (j * (4 * k)) (4 * k)) i 0 ≡ numAt w labels (j * (4 * k) + i)
+  own-at i h =
+      sym (part-at (numbers w labels (d * (4 * k))) (j * (4 * k)) (4 * k) i h)
+      ∙ numbers-at w labels (d * (4 * k)) (j * (4 * k) + i) (omega (arith, room))
+
+  triple-at : (i : ℕ) → i < 3 * k → getD (part (numbers w labels (d * (4 * k))) (j * (4 * k)) (4 * k)) i 0 ≡ numAt w (triplesOf w labels k j) i
+  unfolding triplesOf
+  triple-at i h = own-at i (omega arith) ∙ sym (num-part w labels (j * (4 * k)) (3 * k) i h)
+
+  places-are : part (part (numbers w labels (d * (4 * k))) (j * (4 * k)) (4 * k)) (3 * k) k ≡ numbers w (placesOf w labels k j) k
+  unfolding placesOf
+  places-are =
+      ext-getD 0 _ _ (own-long ∙ sym (numbers-long w (part labels (w * (j * (4 * k) + 3 * k)) (w * k)) k))
+      (λ i h. let b : i < k = rw own-long at h in
+      sym (part-at (part (numbers w labels (d * (4 * k))) (j * (4 * k)) (4 * k)) (3 * k) k i b)
+      ∙ own-at (3 * k + i) (omega arith)
+      ∙ moved i
+      ∙ sym (num-part w labels (j * (4 * k) + 3 * k) k i b)
+      ∙ sym (numbers-at w (part labels (w * (j * (4 * k) + 3 * k)) (w * k)) k i b))
+    where
+      own-long : length (part (part (numbers w labels (d * (4 * k))) (j * (4 * k)) (4 * k)) (3 * k) k) ≡ k
+      own-long =
+          part-length (part (numbers w labels (d * (4 * k))) (j * (4 * k)) (4 * k)) (3 * k) k
+          (omega (arith, part-length (numbers w labels (d * (4 * k))) (j * (4 * k)) (4 * k) (omega (arith, room, numbers-long w labels (d * (4 * k))))))
+
+      moved : (i : ℕ) → numAt w labels (j * (4 * k) + (3 * k + i)) ≡ numAt w labels (j * (4 * k) + 3 * k + i)
+      moved i = ap (numAt w labels) (omega arith)
+
+  pub labelling-is : labellingAt k (numbers w labels (d * (4 * k))) j ≡ labellingIn w (triplesOf w labels k j) (placesOf w labels k j) k
+  unfolding labellingAt labellingIn
+  labelling-is =
+      same-labelling
+      (table-same (λ p. getD own (3 * p) 0) (λ p. numAt w triples (3 * p)) k 0 (λ p h. triple-at (3 * p) (omega arith)))
+      (table-same (λ p. getD own (3 * p + 1) 0) (λ p. numAt w triples (3 * p + 1)) k 0 (λ p h. triple-at (3 * p + 1) (omega arith)))
+      (table-same (λ p. getD own (3 * p + 2) 0) (λ p. numAt w triples (3 * p + 2)) k 0 (λ p h. triple-at (3 * p + 2) (omega arith)))
+      places-are
+    where
+      own : List ℕ
+      own = part (numbers w labels (d * (4 * k))) (j * (4 * k)) (4 * k)
+
+      triples : List ℕ
+      triples = triplesOf w labels k j
+
+pub labels-are : (w : ℕ) (labels : List ℕ) (k d : ℕ) → map (labellingAt k (numbers w labels (d * (4 * k)))) (upto d) ≡ labelsIn w labels k d
+unfolding labelsIn
+labels-are w labels k d =
+    table-same (labellingAt k (numbers w labels (d * (4 * k)))) (λ j. labellingIn w (triplesOf w labels k j) (placesOf w labels k j) k) d (labellingAt k [] 0)
+    (λ j h. labelling-is w labels k d j h)
+
+-- what `decode` reads of an image is what its six stretches hold
+pub decode-is :
+    (w : ℕ) (b : List ℕ)
+    → (let a : Counts = countsIn b in
+    decode w b ≡ indexFrom w (a .n) (a .k) (a .c) (a .d) (stretch w a b 0) (stretch w a b 1) (stretch w a b 2) (stretch w a b 3) (stretch w a b 4) (stretch w a b 5))
+unfolding decode indexFrom section childrenIn
+decode-is w b = rw (labels-are w (stretch w (countsIn b) b 5) (countsIn b .k) (countsIn b .d))

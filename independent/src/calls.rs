@@ -1,0 +1,132 @@
+//! The four calls with the refusals of the document, in the document's order, and what each leaves in lent memory.
+
+use crate::bounds::{work_words, MOST_EDGES, MOST_LABELLINGS, MOST_VERTICES};
+use crate::graph::{is_permutation, Graph};
+use crate::index::Index;
+use crate::question::Answer;
+use crate::refusal::{refuse, Refusal};
+use crate::sound::sound_index;
+use crate::stored::{encode, Counts};
+
+/// Builds the index of a graph and returns the total length of its stored form, which is written to `out`. The
+/// orders stand one behind the other. The needed work words are 0 afterwards, after refusals 8 and 9 too; refusals 1
+/// to 7 alter nothing.
+pub fn build(
+    n: u32,
+    sources: &[u32],
+    targets: &[u32],
+    orders: &[u32],
+    d: u32,
+    work: &mut [u32],
+    out: &mut [u8],
+) -> Result<u32, Refusal> {
+    let (vertices, labellings) = (n as usize, d as usize);
+    if vertices > MOST_VERTICES {
+        return refuse(1, 0);
+    }
+    if sources.len() != targets.len() {
+        return refuse(2, 0);
+    }
+    if sources.len() > MOST_EDGES {
+        return refuse(3, 0);
+    }
+    if !(1..=MOST_LABELLINGS).contains(&labellings) {
+        return refuse(4, 0);
+    }
+    if orders.len() != labellings * vertices {
+        return refuse(5, 0);
+    }
+    let needed = work_words(vertices, sources.len());
+    if work.len() < needed {
+        return refuse(6, needed);
+    }
+    let mut ends = sources.iter().zip(targets);
+    if let Some(edge) = ends.position(|(&u, &v)| u >= n || v >= n) {
+        return refuse(7, edge);
+    }
+
+    work[..needed].fill(0);
+    let orders: Vec<Vec<usize>> = (0..labellings)
+        .map(|i| &orders[i * vertices..(i + 1) * vertices])
+        .map(|order| order.iter().map(|&v| v as usize).collect())
+        .collect();
+    let mut each = orders.iter();
+    if let Some(order) = each.position(|order| !is_permutation(order, vertices)) {
+        return refuse(8, order);
+    }
+    let graph = Graph::from_lists(n, sources, targets);
+    let bytes = encode(&Index::of(&graph, &orders));
+    if out.len() < bytes.len() {
+        return refuse(9, bytes.len());
+    }
+    out[..bytes.len()].copy_from_slice(&bytes);
+    Ok(bytes.len() as u32)
+}
+
+/// Opens a stored index and returns its counts. Marks below n are 0 afterwards, after refusal 15 too; refusals 10 to
+/// 13 alter nothing.
+pub fn open(index: &[u8], marks: &mut [u8]) -> Result<Counts, Refusal> {
+    let counts = readable(index, marks)?;
+    sound_or_refused(index, &counts, marks)?;
+    Ok(counts)
+}
+
+/// Asks whether source reaches target. Afterwards marks below n are 1 at the names of opened groups and 0 elsewhere;
+/// after refusal 15 all are 0; refusals 10 to 14 alter nothing.
+pub fn ask(index: &[u8], source: u32, target: u32, marks: &mut [u8]) -> Result<Answer, Refusal> {
+    let counts = readable(index, marks)?;
+    let (source, target) = vertices_in_range(counts.n, source, target)?;
+    let index = sound_or_refused(index, &counts, marks)?;
+    let asked = index.question(source, target);
+    for name in asked.opened {
+        marks[name] = 1;
+    }
+    Ok(asked.answer)
+}
+
+/// Writes the downstream list of a vertex to `out` and returns its count. Marks below n are 0 afterwards, after
+/// refusals 15 and 16 too; refusals 10 to 14 alter nothing.
+pub fn list(index: &[u8], vertex: u32, marks: &mut [u8], out: &mut [u32]) -> Result<u32, Refusal> {
+    let counts = readable(index, marks)?;
+    let vertex = vertex_in_range(counts.n, vertex, 0)?;
+    let index = sound_or_refused(index, &counts, marks)?;
+    let downstream = index.downstream(vertex);
+    if out.len() < downstream.len() {
+        return refuse(16, downstream.len());
+    }
+    for (slot, &v) in out.iter_mut().zip(&downstream) {
+        *slot = v as u32;
+    }
+    Ok(downstream.len() as u32)
+}
+
+/// Refusal 14 of a question, source first; otherwise the two vertices.
+pub fn vertices_in_range(n: usize, source: u32, target: u32) -> Result<(usize, usize), Refusal> {
+    Ok((vertex_in_range(n, source, 0)?, vertex_in_range(n, target, 1)?))
+}
+
+fn vertex_in_range(n: usize, vertex: u32, role: usize) -> Result<usize, Refusal> {
+    if (vertex as usize) < n {
+        Ok(vertex as usize)
+    } else {
+        refuse(14, role)
+    }
+}
+
+/// Refusals 10 to 13; otherwise the counts.
+fn readable(index: &[u8], marks: &[u8]) -> Result<Counts, Refusal> {
+    let counts = Counts::read(index)?;
+    if marks.len() < counts.n {
+        return refuse(13, counts.n);
+    }
+    Ok(counts)
+}
+
+/// Sets the marks below n to 0, then refusal 15 or the index.
+fn sound_or_refused(index: &[u8], counts: &Counts, marks: &mut [u8]) -> Result<Index, Refusal> {
+    marks[..counts.n].fill(0);
+    match sound_index(index, counts) {
+        Some(index) => Ok(index),
+        None => refuse(15, 0),
+    }
+}

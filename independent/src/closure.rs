@@ -1,0 +1,50 @@
+//! Plain reachability: one search from each vertex. Every yes and no of an index must agree with it.
+
+use crate::graph::Graph;
+
+/// For each vertex, which vertices it reaches by a path of zero or more edges.
+pub struct Closure {
+    rows: Vec<Vec<bool>>,
+}
+
+impl Closure {
+    pub fn of(graph: &Graph) -> Closure {
+        let mut next = vec![Vec::new(); graph.n];
+        for &(u, v) in &graph.edges {
+            next[u].push(v);
+        }
+        Closure {
+            rows: (0..graph.n).map(|u| reached(&next, u)).collect(),
+        }
+    }
+
+    /// The number of vertices.
+    pub fn size(&self) -> usize {
+        self.rows.len()
+    }
+
+    pub fn reaches(&self, u: usize, v: usize) -> bool {
+        self.rows[u][v]
+    }
+
+    /// All vertices that u reaches, u itself included, rising.
+    pub fn downstream(&self, u: usize) -> Vec<usize> {
+        (0..self.size()).filter(|&v| self.rows[u][v]).collect()
+    }
+}
+
+/// What a search from one point finds, the point included; `next` says where the edges of each point lead.
+pub fn reached(next: &[Vec<usize>], from: usize) -> Vec<bool> {
+    let mut found = vec![false; next.len()];
+    found[from] = true;
+    let mut waiting = vec![from];
+    while let Some(point) = waiting.pop() {
+        for &other in &next[point] {
+            if !found[other] {
+                found[other] = true;
+                waiting.push(other);
+            }
+        }
+    }
+    found
+}

@@ -1,0 +1,32 @@
+//! The independent program: the rules of document 01, written from that document alone, the slow and obvious way.
+//!
+//! It is the outside judge of a proved library. The two share no code and no definitions, so a rule that the library
+//! reads wrongly, in its definitions too, shows as a difference here. Yes and no come from plain search; labels and
+//! stored bytes follow the words; soundness is decided by making the index again and comparing bytes.
+//!
+//! The data's way is the reading order: [`graph`], [`closure`], [`groups`], [`labels`], [`index`], [`stored`],
+//! [`sound`] with [`every`] beside it, [`question`], [`calls`], [`text`]. [`chance`] makes graphs, orders and damage
+//! for comparisons.
+
+pub mod bounds;
+pub mod calls;
+pub mod chance;
+pub mod closure;
+pub mod every;
+pub mod graph;
+pub mod groups;
+pub mod index;
+pub mod labels;
+pub mod question;
+pub mod refusal;
+pub mod sound;
+pub mod stored;
+pub mod text;
+
+pub use calls::{ask, build, list, open};
+pub use graph::Graph;
+pub use index::Index;
+pub use question::Answer;
+pub use refusal::Refusal;
+pub use stored::Counts;
+pub use text::run_text;

@@ -1,0 +1,14 @@
+//! The rules of the document, tried one by one. Each test is named after the rule it tries.
+
+mod chance;
+mod commands;
+mod given;
+mod labels;
+mod listing;
+mod questions;
+mod reckoned;
+mod refusals_build;
+mod refusals_stored;
+mod sizes;
+mod soundness;
+mod text;
