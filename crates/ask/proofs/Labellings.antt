@@ -10,11 +10,10 @@ use native.Mathlib.Nat.{mul-le-mul-left, mul-le-mul-right}
 use borrow.Author.Count.{below-more}
 use lib.ListN.{length, take, drop, drop-of-length-le}
 use lib.Seq.{drop-cons}
-use Rattle.lineage.specs.Lists.{upto, part}
 use Rattle.lineage.specs.Numbers.{Width, numAt}
 use Rattle.lineage.specs.Labels.{Labelling}
 use Rattle.lineage.specs.Question.{inside, outside, firstFrom, firstLabelling}
-use Rattle.numbers.proofs.Regions.{part-length}
+use Rattle.numbers.specs.Regions.{Part}
 use Rattle.numbers.proofs.Tables.{table-at}
 use Rattle.sections.specs.Sections.{labellingIn, triplesOf, placesOf, labelsIn}
 use Rattle.sections.proofs.Sections.{s-at, m-at, e-at, labels-long}
@@ -28,26 +27,9 @@ count-low w n W = omega (arith, mul-le-mul-right n (W .low))
 pub in-triple : (w x i l : ℕ) → (i < 3) × (w * (3 * x + 3) ≤ l) → w * (3 * x + i) + w ≤ l
 in-triple w x i l h = omega (arith, mul-le-mul-left w (h .0))
 
--- labelling l of d lies within the labels
-pub in-labels : (w k l d s : ℕ) → l < d → w * (d * (4 * k)) ≤ s → w * (l * (4 * k) + 4 * k) ≤ s
-in-labels w k l d s h r =
-    let one : suc l * (4 * k) ≤ d * (4 * k) = mul-le-mul-right (4 * k) h in
-    let all : l * (4 * k) + 4 * k ≤ d * (4 * k) = omega arith in
-    omega (arith, mul-le-mul-left w all)
-
--- its triples are a part of the labels
-pub triples-are : (w k l : ℕ) (labels : List ℕ) → take (w * (l * (4 * k)) + w * (3 * k) - w * (l * (4 * k))) (drop (w * (l * (4 * k))) labels) ≡ triplesOf w labels k l
-unfolding triplesOf part
-triples-are w k l labels =
-    let e : w * (l * (4 * k)) + w * (3 * k) - w * (l * (4 * k)) ≡ w * (3 * k) = omega arith in
-    ap (λ (n : ℕ). take n (drop (w * (l * (4 * k))) labels)) e
-
--- the triple of x lies within them
-pub in-triples : (w k l x : ℕ) (labels triples : List ℕ) → w * (l * (4 * k) + 4 * k) ≤ length labels → x < k → triples ≡ triplesOf w labels k l → w * (3 * x + 3) ≤ length triples
-unfolding triplesOf
-in-triples w k l x labels triples r h e =
-    let own : 3 * x + 3 ≤ 3 * k = omega arith in
-    omega (arith, mul-le-mul-left w own, ap length e, part-length labels (w * (l * (4 * k))) (w * (3 * k)) (omega arith))
+-- the triple of x lies within the triples of a labelling
+pub in-triples : (w k x : ℕ) (labels triples : List ℕ) {at : ℕ} → Part labels at (w * (3 * k)) triples → x < k → w * (3 * x + 3) ≤ length triples
+in-triples w k x labels triples P h = let own : 3 * x + 3 ≤ 3 * k = omega arith in omega (arith, mul-le-mul-left w own, P .long)
 
 -- two bounds of which both hold, or one fails
 both-hold : (p : ℕ → Bool) → ((b : ℕ) → b < 2 → p b ≡ true) → (p 0 && p 1) ≡ true
@@ -71,9 +53,13 @@ module _ (w k : ℕ) (labels : List ℕ) where
   abbrev own : ℕ → Labelling
   own l = labellingIn w (triplesOf w labels k l) (placesOf w labels k l) k
 
-  module _ (l x t : ℕ) (triples : List ℕ) (x-low : x < k) (t-low : t < k) (e : triples ≡ triplesOf w labels k l) where
+  module _ (l x t : ℕ) (triples : List ℕ) (x-low : x < k) (t-low : t < k) (P : Part labels (w * (l * (4 * k))) (w * (3 * k)) triples) where
+    read : triples ≡ triplesOf w labels k l
+    unfolding triplesOf
+    read = P .is
+
     inside-is : inside x t (own l) ≡ (innerBound w triples x t 0 && innerBound w triples x t 1)
-    inside-is = rw (e, m-at _ _ _ _ x x-low, e-at _ _ _ _ t t-low, e-at _ _ _ _ x x-low) refl
+    inside-is = rw (read, m-at _ _ _ _ x x-low, e-at _ _ _ _ t t-low, e-at _ _ _ _ x x-low) refl
 
     pub is-inside : ((b : ℕ) → b < 2 → innerBound w triples x t b ≡ true) → inside x t (own l) ≡ true
     is-inside h = inside-is ∙ both-hold (innerBound w triples x t) h
@@ -82,7 +68,7 @@ module _ (w k : ℕ) (labels : List ℕ) where
     not-inside b r h i f = inside-is ∙ one-fails (innerBound w triples x t) b h (cc)
 
     outside-is : outside x t (own l) ≡ not (outerBound w triples x t 0 && outerBound w triples x t 1)
-    outside-is = rw (e, s-at _ _ _ _ x x-low, s-at _ _ _ _ t t-low, e-at _ _ _ _ t t-low, e-at _ _ _ _ x x-low) refl
+    outside-is = rw (read, s-at _ _ _ _ x x-low, s-at _ _ _ _ t t-low, e-at _ _ _ _ t t-low, e-at _ _ _ _ x x-low) refl
 
     pub is-outside : (b : ℕ) (r : Bool) → b < 2 → r ≡ outerBound w triples x t b → r ≡ false → outside x t (own l) ≡ true
     is-outside b r h i f = outside-is ∙ ap not (one-fails (outerBound w triples x t) b h (cc))

@@ -7,13 +7,14 @@ use Prim.Native.Nat.{ℕ, suc, _+_, _-_, _*_, _≤_, _<_}
 use native.Mathlib.Omega.{arith}
 use lib.ListN.{length, getD, set, length-set}
 use borrow.Author.Tests.{lt-ltb, le-ltb, ne-eqb, eqb-false}
-use Rattle.lineage.specs.Lists.{Every, part}
+use Rattle.lineage.specs.Lists.{Every}
 use Rattle.lineage.specs.Numbers.{numAt}
 use Rattle.lineage.specs.Walk.{Net, Walked, walked, marked, openAt, tryAt}
 use Rattle.lineage.specs.Question.{inside, firstLabelling}
 use Rattle.numbers.proofs.Numbers.{numbers-at}
 use Rattle.sections.specs.Sections.{childrenIn, labelsIn}
 use Rattle.sections.proofs.Sections.{row-long, row-at}
+use Rattle.stored.specs.Sections.{ChildrenOf}
 use Rattle.ask.specs.Fit.{count, all, netIn, passedOver, Fit}
 use Rattle.ask.proofs.Passing.{some-first}
 use Rattle.ask.proofs.Rows.{row-all, row-below}
@@ -74,15 +75,15 @@ module _ {w k d t : ℕ} {groups levels starts children labels : List ℕ} {mark
   }
 
   -- opening g: its name and its row were read, and its row was tried
-  module _ (g name L : ℕ) (row m : List ℕ) (f : Bool) (l n : ℕ) (m' : List ℕ) (low : g < k) (named : name ≡ numAt w groups g) (is : row ≡ part children (w * numAt w starts g) (w * (numAt w starts (g + 1) - numAt w starts g))) (e : walked f l n m' ≡ tryAt N L (all w row) (set m name 1)) where
+  module _ (g name L : ℕ) (row m : List ℕ) (f : Bool) (l n : ℕ) (m' : List ℕ) (low : g < k) (named : name ≡ numAt w groups g) (P : ChildrenOf starts children w g row) (e : walked f l n m' ≡ tryAt N L (all w row) (set m name 1)) where
     pub open-done : walked f l (1 + n) m' ≡ openAt N (L + 1) g m
-    open-done = open-is N L g name (all w row) m f l n m' (named ∙ net-spot g low) (row-all F g low row is ∙ net-children g) e
+    open-done = open-is N L g name (all w row) m f l n m' (named ∙ net-spot g low) (row-all F g low row P ∙ net-children g) e
 
     pub open-count : length m ≡ marks → getD m (numAt w groups g) 0 ≢ 1 → 1 + n ≤ marks
     open-count long free =
         let G : Gains (set m name 1) (walked f l n m') =
         rw e
-        (try-gains N net-within (openAt N L) (open-gains N net-within L) (all w row) (rw (row-all F g low row is, net-children g) (net-within .children g low)) (set m name 1)
+        (try-gains N net-within (openAt N L) (open-gains N net-within L) (all w row) (rw (row-all F g low row P, net-children g) (net-within .children g low)) (set m name 1)
         (length-set m name 1 ∙ long)) in
         omega (
           arith,

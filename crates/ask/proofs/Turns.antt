@@ -29,7 +29,7 @@ module _ {w k d t : ℕ} {groups levels starts children labels : List ℕ} {mark
 
   module _ {m₀ m : List ℕ} {i n : ℕ} (T : Tried N L (all w row) m₀ m i n) where
     pub turns-over : length row ≤ w * i → walked false 0 n m ≡ tryAt N L (all w row) m₀
-    turns-over h = tried-all N L (all w row) m₀ m i n T (omega (arith, row-size, no-more w i row (F .width) (B .whole) h))
+    turns-over h = tried-all N L (all w row) m₀ m i n T (omega (arith, row-size, no-more w i row (F .labelled .width) (B .whole) h))
 
     -- the row's bytes up to child i
     pub turns-within : w * i ≤ length row
@@ -38,7 +38,7 @@ module _ {w k d t : ℕ} {groups levels starts children labels : List ℕ} {mark
     -- child i
     module _ (lt : w * i < length row) where
       at : i < count w row
-      at = more w i row (F .width) (B .whole) lt
+      at = more w i row (F .labelled .width) (B .whole) lt
 
       pub turn-within : i < length (all w row)
       turn-within = omega (arith, row-size, at)
@@ -47,7 +47,7 @@ module _ {w k d t : ℕ} {groups levels starts children labels : List ℕ} {mark
       turn-room = room w i (count w row) (length row) at (omega (arith, B .whole))
 
       pub turn-step : i + 1 ≤ length row
-      turn-step = omega (arith, turn-room, count-low w i (F .width), F .width .low)
+      turn-step = omega (arith, turn-room, count-low w i (F .labelled .width), F .labelled .width .low)
 
     -- it is h
     module _ (lt : w * i < length row) {h : ℕ} (child : h ≡ numAt w row i) where

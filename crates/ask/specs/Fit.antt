@@ -4,11 +4,12 @@ use mathlib.Core.Path.{_≡_}
 use mathlib.Core.List.{List, []}
 use Prim.Native.Nat.{ℕ, _+_, _*_, _/_, _<_, _≤_}
 use lib.ListN.{length}
-use Rattle.lineage.specs.Numbers.{Width, numAt, numbers}
+use Rattle.lineage.specs.Numbers.{numAt, numbers}
 use Rattle.lineage.specs.Index.{Index}
 use Rattle.lineage.specs.Walk.{Net, marked}
 use Rattle.lineage.specs.Question.{netOf}
 use Rattle.sections.specs.Sections.{childrenIn, labelsIn}
+use Rattle.ask.specs.Intervals.{Labelled}
 
 -- how many numbers of w bytes a stretch holds, and all of them
 abbrev pub count : ℕ → List ℕ → ℕ
@@ -41,12 +42,11 @@ passedOver w k d t groups levels labels marks h =
 -- each section holds its numbers, child starts rise within the children, children are places of lower levels, and each group's mark is among so many;
 -- t is a place
 pub record Fit (w k d t : ℕ) (groups levels starts children labels : List ℕ) (marks : ℕ) : Type 0 where
-  pub width : Width w
+  pub labelled : Labelled w k d labels
   pub target-low : t < k
   pub groups-long : w * k ≤ length groups
   pub levels-long : w * k ≤ length levels
   pub starts-long : w * (k + 1) ≤ length starts
-  pub labels-long : w * (d * (4 * k)) ≤ length labels
   pub start-rises : (p : ℕ) → p < k → numAt w starts p ≤ numAt w starts (p + 1)
   pub end-low : (p : ℕ) → p < k → numAt w starts (p + 1) ≤ count w children
   pub child-low : (p i : ℕ) → p < k → numAt w starts p ≤ i → i < numAt w starts (p + 1) → numAt w children i < k

@@ -6,19 +6,8 @@ ghost use lib.Dec.{leb};
 ghost use lib.ListN.{length};
 ghost use Rattle.lineage.specs.Numbers.{Width, numAt};
 ghost use Rattle.lineage.specs.Question.{inside, outside, firstLabelling};
-ghost use Rattle.sections.specs.Sections.{triplesOf, labelsIn};
-ghost use Rattle.ask.specs.Intervals.{innerBound, outerBound};
-
-// The triples of labelling l, as the bytes of the labels that hold them.
-fn triples_of(labels: &[u8], w: usize, k: usize, l: usize) -> &[u8]
-    requires { ⌜ Width w ⌝ }
-    requires { ⌜ w * (l * (4 * k) + 4 * k) ≤ length (now labels) ⌝ }
-    ensures { λ r. ⌜ now r ≡ triplesOf w (now (labels .entry)) k l ⌝ }
-{
-    let from = w * (l * (4 * k));
-    let to = from + w * (3 * k);
-    &labels[from..to]
-}
+ghost use Rattle.sections.specs.Sections.{labelsIn};
+ghost use Rattle.ask.specs.Intervals.{Labelled, innerBound, outerBound};
 
 // Whether number i of x's triple is not above number j of t's; the numbers of a triple are s, m, e.
 fn not_above(triples: &[u8], w: usize, x: usize, i: usize, t: usize, j: usize) -> bool
@@ -58,15 +47,14 @@ fn outer_bound(triples: &[u8], w: usize, x: usize, t: usize, b: usize) -> bool
 
 // The first labelling in which x's inner interval contains t's e: both bounds hold.
 pub fn inner_by(labels: &[u8], w: usize, k: usize, d: usize, x: usize, t: usize) -> usize
-    requires { ⌜ Width w ⌝ }
-    requires { ⌜ w * (d * (4 * k)) ≤ length (now labels) ⌝ }
+    requires { ⌜ Labelled w k d (now labels) ⌝ }
     requires { ⌜ (x < k) × (t < k) ⌝ }
     ensures { λ r. ⌜ r ≡ firstLabelling (inside x t) (labelsIn w (now (labels .entry)) k d) ⌝ }
 {
     let mut l = 0;
     let mut answer = 0;
     'labellings: while l < d {
-        let triples = triples_of(labels, w, k, l);
+        let triples = stored::sections::triples(labels, w, k, d, l);
         let mut b = 0;
         while inner_bound(triples, w, x, t, b) {
             b += 1;
@@ -82,15 +70,14 @@ pub fn inner_by(labels: &[u8], w: usize, k: usize, d: usize, x: usize, t: usize)
 
 // The first labelling in which x's outer interval does not contain t's: one bound fails.
 pub fn outer_by(labels: &[u8], w: usize, k: usize, d: usize, x: usize, t: usize) -> usize
-    requires { ⌜ Width w ⌝ }
-    requires { ⌜ w * (d * (4 * k)) ≤ length (now labels) ⌝ }
+    requires { ⌜ Labelled w k d (now labels) ⌝ }
     requires { ⌜ (x < k) × (t < k) ⌝ }
     ensures { λ r. ⌜ r ≡ firstLabelling (outside x t) (labelsIn w (now (labels .entry)) k d) ⌝ }
 {
     let mut l = 0;
     let mut answer = 0;
     'labellings: while l < d {
-        let triples = triples_of(labels, w, k, l);
+        let triples = stored::sections::triples(labels, w, k, d, l);
         let mut b = 0;
         while b < 2 {
             if !outer_bound(triples, w, x, t, b) {

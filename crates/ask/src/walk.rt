@@ -1,11 +1,11 @@
 // The walk: opening a group and trying its children, each told by means of the other (document 01, "A question"). It stands on the stored sections
 // as they are lent; a group's mark stands at its name.
 ghost use mathlib.Core.Path.{_≡_};
-ghost use Prim.Native.Nat.{_+_, _*_, _-_, _≤_, _<_};
+ghost use Prim.Native.Nat.{_+_, _*_, _≤_, _<_};
 ghost use lib.ListN.{length, getD};
-ghost use Rattle.lineage.specs.Lists.{part};
-ghost use Rattle.lineage.specs.Numbers.{Width, numAt};
+ghost use Rattle.lineage.specs.Numbers.{numAt};
 ghost use Rattle.lineage.specs.Walk.{walked, openAt, tryAt};
+ghost use Rattle.ask.specs.Intervals.{Labelled};
 ghost use Rattle.ask.specs.Fit.{all, netIn, passedOver, Fit, Below};
 use crate::intervals;
 
@@ -14,19 +14,6 @@ pub struct Seen {
     pub found: bool,
     pub deciding: usize,
     pub opened: usize,
-}
-
-// One group's children as the very bytes of the stored form, from child start to next child start.
-fn children_of<'a, 'b>(starts: &'a [u8], children: &'b [u8], w: usize, g: usize) -> &'b [u8]
-    requires { ⌜ Width w ⌝ }
-    requires { ⌜ w * (g + 1) + w ≤ length (now starts) ⌝ }
-    requires { ⌜ numAt w (now starts) g ≤ numAt w (now starts) (g + 1) ⌝ }
-    requires { ⌜ w * numAt w (now starts) (g + 1) ≤ length (now children) ⌝ }
-    ensures { λ r. ⌜ now r ≡ part (now (children .entry)) (w * numAt w (now (starts .entry)) g) (w * (numAt w (now (starts .entry)) (g + 1) - numAt w (now (starts .entry)) g)) ⌝ }
-{
-    let from = w * numbers::num(starts, w, g);
-    let to = w * numbers::num(starts, w, g + 1);
-    &children[from..to]
 }
 
 // Whether the walk passes h over: it is already opened, or ruled out by rule 3 or 4.
@@ -41,8 +28,8 @@ fn passed_over(
     marks: &[u8],
     h: usize,
 ) -> bool
-    requires { ⌜ Width w ⌝ }
-    requires { ⌜ (w * k ≤ length (now groups)) × ((w * k ≤ length (now levels)) × (w * (d * (4 * k)) ≤ length (now labels))) ⌝ }
+    requires { ⌜ Labelled w k d (now labels) ⌝ }
+    requires { ⌜ (w * k ≤ length (now groups)) × (w * k ≤ length (now levels)) ⌝ }
     requires { ⌜ (h < k) × ((t < k) × (numAt w (now groups) h < length (now marks))) ⌝ }
     ensures { λ r. ⌜ r ≡ passedOver w k d t (now (groups .entry)) (now (levels .entry)) (now (labels .entry)) (now (marks .entry)) h ⌝ }
 {
@@ -77,7 +64,7 @@ pub fn open_group(
 {
     let name = numbers::num(groups, w, g);
     marks[name] = 1;
-    let row = children_of(starts, children, w, g);
+    let row = stored::sections::children_of(starts, children, w, g);
     let a = try_children(
         groups,
         levels,

@@ -6,7 +6,7 @@ use mathlib.Core.Bool.{true}
 use Prim.Native.Nat.{ℕ, _-_, _<_}
 use Rattle.lineage.specs.Question.{inside}
 use Rattle.ask.specs.Intervals.{innerBound}
-use Rattle.ask.proofs.Labellings.{in-labels, in-triples, one-more, is-inside, not-inside, Passed, passed-none, passed-more, passed-here, passed-all}
+use Rattle.ask.proofs.Labellings.{in-triples, one-more, is-inside, not-inside, Passed, passed-none, passed-more, passed-here, passed-all}
 use Rattle.ask.proofs.intervals.inner_by.Statement.{statement}
 use Rattle.ask.proofs.intervals.inner_by.Tie as tie
 
@@ -25,8 +25,11 @@ abbrev μ-labellings : tie.MeasureT-labellings
 labellings-holds : tie.Need-labellings-holds Inv-loop μ-loop Inv-labellings μ-labellings
 labellings-holds c = (refl, passed-none _ _ _ _ _)
 
-triples-of-requires : tie.Need-triples-of-requires Inv-loop μ-loop Inv-labellings μ-labellings
-triples-of-requires c κs = let s = c .before .before .before in (s .pre .0, in-labels _ _ _ _ _ (c .labellings-test .taken) (s .pre .1 .0))
+triples-requires : tie.Need-triples-requires Inv-loop μ-loop Inv-labellings μ-labellings
+triples-requires c κs =
+    let s = c .before .before .before in
+    let L = s .pre .0 in
+    (L .width, ((L .groups-few, (L .labellings-few, c .labellings-test .taken)), L .long))
 
 loop-holds : tie.Need-loop-holds Inv-loop μ-loop Inv-labellings μ-labellings
 loop-holds c = (c .before .before .labellings .inv .0, (omega arith, λ j h. absurd (omega arith)))
@@ -34,13 +37,8 @@ loop-holds c = (c .before .before .labellings .inv .0, (omega arith, λ j h. abs
 inner-bound-requires : tie.Need-inner-bound-requires Inv-loop μ-loop Inv-labellings μ-labellings
 inner-bound-requires c κs =
     let s = c .before .before .before .before .before in
-    let fits = in-labels _ _ _ _ _ (c .before .before .labellings-test .taken) (s .pre .1 .0) in (
-      s .pre .0,
-      (
-        in-triples _ _ _ _ _ _ fits (s .pre .1 .1 .0) (c .before .triples-of .ensures),
-        in-triples _ _ _ _ _ _ fits (s .pre .1 .1 .1) (c .before .triples-of .ensures),
-      ),
-    )
+    let P = c .before .triples .ensures in
+    (s .pre .0 .width, (in-triples _ _ _ _ _ P (s .pre .1 .0), in-triples _ _ _ _ _ P (s .pre .1 .1)))
 
 add-b : tie.Need-add-b Inv-loop μ-loop Inv-labellings μ-labellings
 add-b c = omega arith
@@ -68,7 +66,7 @@ labellings-again c =
     let l = c .before .before .loop in (
       l .inv .0,
       passed-more _ _ _ _ _ _ (c .before .before .before .before .before .labellings .inv .1) (c .before .before .before .before .labellings-test .taken)
-          (not-inside _ _ _ _ _ _ _ (s .pre .1 .1 .0) (s .pre .1 .1 .1) (c .before .before .before .triples-of .ensures) _ _ (l .inv .1 .0)
+          (not-inside _ _ _ _ _ _ _ (s .pre .1 .0) (s .pre .1 .1) (c .before .before .before .triples .ensures) _ _ (l .inv .1 .0)
           (c .before .inner-bound .ensures) (c .if1 .left)),
     )
 
@@ -81,7 +79,7 @@ returns-2 c =
     let l = c .before .before .before .loop in
     let hold = one-more _ _ _ (l .inv .1 .1) (c .before .before .inner-bound .ensures) (c .before .if1 .taken) in
     passed-here _ _ _ _ _ _ (c .before .before .before .before .before .before .labellings .inv .1) (c .before .before .before .before .before .labellings-test .taken)
-    (is-inside _ _ _ _ _ _ _ (s .pre .1 .1 .0) (s .pre .1 .1 .1) (c .before .before .before .before .triples-of .ensures) (λ b h. hold b (omega arith)))
+    (is-inside _ _ _ _ _ _ _ (s .pre .1 .0) (s .pre .1 .1) (c .before .before .before .before .triples .ensures) (λ b h. hold b (omega arith)))
 
 pub inner-by-spec : {M : Type 1} → statement M
 inner-by-spec =
@@ -92,7 +90,7 @@ inner-by-spec =
     Inv-labellings
     μ-labellings
     labellings-holds
-    triples-of-requires
+    triples-requires
     loop-holds
     inner-bound-requires
     add-b

@@ -7,7 +7,7 @@ use Prim.Native.Nat.{ℕ, _-_, _≤_, _<_}
 use borrow.Author.Tests.{not-true, not-false}
 use Rattle.lineage.specs.Question.{outside}
 use Rattle.ask.specs.Intervals.{outerBound}
-use Rattle.ask.proofs.Labellings.{in-labels, in-triples, one-more, is-outside, not-outside, Passed, passed-none, passed-more, passed-here, passed-all}
+use Rattle.ask.proofs.Labellings.{in-triples, one-more, is-outside, not-outside, Passed, passed-none, passed-more, passed-here, passed-all}
 use Rattle.ask.proofs.intervals.outer_by.Statement.{statement}
 use Rattle.ask.proofs.intervals.outer_by.Tie as tie
 
@@ -26,8 +26,11 @@ abbrev μ-labellings : tie.MeasureT-labellings
 labellings-holds : tie.Need-labellings-holds Inv-loop μ-loop Inv-labellings μ-labellings
 labellings-holds c = (refl, passed-none _ _ _ _ _)
 
-triples-of-requires : tie.Need-triples-of-requires Inv-loop μ-loop Inv-labellings μ-labellings
-triples-of-requires c κs = let s = c .before .before .before in (s .pre .0, in-labels _ _ _ _ _ (c .labellings-test .taken) (s .pre .1 .0))
+triples-requires : tie.Need-triples-requires Inv-loop μ-loop Inv-labellings μ-labellings
+triples-requires c κs =
+    let s = c .before .before .before in
+    let L = s .pre .0 in
+    (L .width, ((L .groups-few, (L .labellings-few, c .labellings-test .taken)), L .long))
 
 loop-holds : tie.Need-loop-holds Inv-loop μ-loop Inv-labellings μ-labellings
 loop-holds c = (c .before .before .labellings .inv .0, (omega arith, λ j h. absurd (omega arith)))
@@ -35,13 +38,8 @@ loop-holds c = (c .before .before .labellings .inv .0, (omega arith, λ j h. abs
 outer-bound-requires : tie.Need-outer-bound-requires Inv-loop μ-loop Inv-labellings μ-labellings
 outer-bound-requires c κs =
     let s = c .before .before .before .before .before .before in
-    let fits = in-labels _ _ _ _ _ (c .before .before .before .labellings-test .taken) (s .pre .1 .0) in (
-      s .pre .0,
-      (
-        in-triples _ _ _ _ _ _ fits (s .pre .1 .1 .0) (c .before .before .triples-of .ensures),
-        in-triples _ _ _ _ _ _ fits (s .pre .1 .1 .1) (c .before .before .triples-of .ensures),
-      ),
-    )
+    let P = c .before .before .triples .ensures in
+    (s .pre .0 .width, (in-triples _ _ _ _ _ P (s .pre .1 .0), in-triples _ _ _ _ _ P (s .pre .1 .1)))
 
 add-answer : tie.Need-add-answer Inv-loop μ-loop Inv-labellings μ-labellings
 add-answer c = omega arith
@@ -69,7 +67,7 @@ labellings-again c =
     let l = c .before .loop in (
       l .inv .0,
       passed-more _ _ _ _ _ _ (c .before .before .before .before .labellings .inv .1) (c .before .before .before .labellings-test .taken)
-          (not-outside _ _ _ _ _ _ _ (s .pre .1 .1 .0) (s .pre .1 .1 .1) (c .before .before .triples-of .ensures) (λ b h. l .inv .1 .1 b (omega arith))),
+          (not-outside _ _ _ _ _ _ _ (s .pre .1 .0) (s .pre .1 .1) (c .before .before .triples .ensures) (λ b h. l .inv .1 .1 b (omega arith))),
     )
 
 returns : tie.Need-returns Inv-loop μ-loop Inv-labellings μ-labellings
@@ -79,7 +77,7 @@ returns-2 : tie.Need-returns-2 Inv-loop μ-loop Inv-labellings μ-labellings
 returns-2 c =
     let s = c .before .before .before .before .before .before .before .before in
     passed-here _ _ _ _ _ _ (c .before .before .before .before .before .before .labellings .inv .1) (c .before .before .before .before .before .labellings-test .taken)
-    (is-outside _ _ _ _ _ _ _ (s .pre .1 .1 .0) (s .pre .1 .1 .1) (c .before .before .before .before .triples-of .ensures) _ _ (c .before .before .loop-test .taken)
+    (is-outside _ _ _ _ _ _ _ (s .pre .1 .0) (s .pre .1 .1) (c .before .before .before .before .triples .ensures) _ _ (c .before .before .loop-test .taken)
     (c .before .outer-bound .ensures) (not-true _ (c .if1 .taken)))
 
 pub outer-by-spec : {M : Type 1} → statement M
@@ -91,7 +89,7 @@ outer-by-spec =
     Inv-labellings
     μ-labellings
     labellings-holds
-    triples-of-requires
+    triples-requires
     loop-holds
     outer-bound-requires
     add-answer

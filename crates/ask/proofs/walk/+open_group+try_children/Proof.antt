@@ -5,6 +5,7 @@ use mathlib.Core.Path.{refl, _∙_}
 use native.Mathlib.Omega.{arith}
 use lib.ListN.{length, length-set}
 use borrow.Author.Tests.{not-true, not-false}
+use Rattle.lineage.specs.Numbers.{numAt}
 use Rattle.numbers.proofs.Numbers.{room}
 use Rattle.ask.specs.Fit.{all, netIn}
 use Rattle.ask.proofs.Rows.{end-low, row-below}
@@ -20,7 +21,7 @@ use Rattle.ask.proofs.walk.try_children.Reads as try-children
 use Rattle.ask.proofs.walk.try_children.Kinds as try-children-kinds
 use Rattle.ask.proofs.walk.+open_group+try_children.Lts-try_children as try-children-lts
 use Rattle.ask.proofs.intervals.inner_by.Reads as inner-by-reads
-use Rattle.ask.proofs.walk.children_of.Reads as children-of-reads
+use Rattle.stored.proofs.sections.children_of.Reads as children-of-reads
 use Rattle.ask.proofs.walk.passed_over.Reads as passed-over-reads
 use Rattle.numbers.proofs.num.Reads as num-reads
 use Rattle.ask.proofs.walk.+open_group+try_children.{statement}
@@ -63,7 +64,7 @@ module _ (u : ℕ) where
   entry c = c .before .before .before .before .before .before
 
   open-num-requires : open-group-lts.Need-num-requires (open-calls u) (open-group-at u) open-group.Post
-  open-num-requires c κs = let s = entry c in (s .pre .1 .0 .width, room _ _ _ _ (s .pre .1 .1 .0) (s .pre .1 .0 .groups-long))
+  open-num-requires c κs = let s = entry c in (s .pre .1 .0 .labelled .width, room _ _ _ _ (s .pre .1 .1 .0) (s .pre .1 .0 .groups-long))
 
   open-slice-write-marks : open-group-lts.Need-slice-write-marks (open-calls u) (open-group-at u) open-group.Post
   open-slice-write-marks c = let s = entry (c .before) in omega (arith, c .num .ensures .0, s .pre .1 .0 .name-low (s .args .g) (s .pre .1 .1 .0))
@@ -72,7 +73,7 @@ module _ (u : ℕ) where
   open-children-of-requires c κs =
       let s = entry (c .before) in
       let F = s .pre .1 .0 in
-      (F .width, (room _ _ _ _ (omega (arith, s .pre .1 .1 .0)) (F .starts-long), (F .start-rises _ (s .pre .1 .1 .0), end-low F _ (s .pre .1 .1 .0))))
+      (F .labelled .width, (room _ _ _ _ (omega (arith, s .pre .1 .1 .0)) (F .starts-long), (F .start-rises _ (s .pre .1 .1 .0), end-low F _ (s .pre .1 .1 .0))))
 
   open-try-children-requires : open-group-lts.Need-try-children-requires (open-calls u) (open-group-at u) open-group.Post
   open-try-children-requires c κs =
@@ -122,13 +123,13 @@ module _ (u : ℕ) where
   try-mul-loop c = let s = lent c in omega (arith, turns-within (s .pre .1 .0) (s .pre .1 .1) (c .loop .inv), s .good .1 .1 .1 .1 .1 .1 .1 .1 .1 .0 .0)
 
   try-num-requires : try-children-lts.Need-num-requires (try-calls u) (try-children-at u) try-children.Post Inv-loop μ-loop
-  try-num-requires c κs = let s = lent (c .before) in (s .pre .1 .0 .width, turn-room (s .pre .1 .0) (s .pre .1 .1) (c .before .loop .inv) (c .loop-test .taken))
+  try-num-requires c κs = let s = lent (c .before) in (s .pre .1 .0 .labelled .width, turn-room (s .pre .1 .0) (s .pre .1 .1) (c .before .loop .inv) (c .loop-test .taken))
 
   try-inner-by-requires : try-children-lts.Need-inner-by-requires (try-calls u) (try-children-at u) try-children.Post Inv-loop μ-loop
   try-inner-by-requires c κs =
       let s = lent (c .before .before) in
       let low = turn-low (s .pre .1 .0) (s .pre .1 .1) (c .before .before .loop .inv) (c .before .loop-test .taken) (c .num .ensures .0) in
-      (s .pre .1 .0 .width, (s .pre .1 .0 .labels-long, (low, s .pre .1 .0 .target-low)))
+      (s .pre .1 .0 .labelled, (low, s .pre .1 .0 .target-low))
 
   try-same-length : try-children-lts.Need-same-length (try-calls u) (try-children-at u) try-children.Post Inv-loop μ-loop
   try-same-length c = c .before .before .before .before .loop .inv .long
@@ -150,13 +151,10 @@ module _ (u : ℕ) where
       let b = c .before .before in
       let s = lent (b .before .before .before) in
       let F = s .pre .1 .0 in
-      let low = turn-low (s .pre .1 .0) (s .pre .1 .1) (b .before .before .before .loop .inv) (b .before .before .loop-test .taken) (b .before .num .ensures .0) in (
-        F .width,
-        (
-          (F .groups-long, (F .levels-long, F .labels-long)),
-          (low, (F .target-low, omega (arith, F .name-low (b .before .num .result) low, b .before .before .before .loop .inv .long))),
-        ),
-      )
+      let low = turn-low (s .pre .1 .0) (s .pre .1 .1) (b .before .before .before .loop .inv) (b .before .before .loop-test .taken) (b .before .num .ensures .0) in
+      let named : numAt (s .args .w) (s .args .groups .now) (b .before .num .result) < length (b .before .before .before .loop .marks) =
+      omega (arith, F .name-low (b .before .num .result) low, b .before .before .before .loop .inv .long) in
+      (F .labelled, ((F .groups-long, F .levels-long), (low, (F .target-low, named))))
 
   try-sub-open-group : try-children-lts.Need-sub-open-group (try-calls u) (try-children-at u) try-children.Post Inv-loop μ-loop
   try-sub-open-group c =

@@ -6,7 +6,7 @@ use Rattle.ask.proofs.walk.passed_over.Statement.{statement}
 use Rattle.ask.proofs.walk.passed_over.Tie as tie
 
 num-requires : tie.Need-num-requires
-num-requires c κs = let s = c .before .before .before .before in (s .pre .0, room _ _ _ _ (s .pre .1 .1 .0) (s .pre .1 .0 .0))
+num-requires c κs = let s = c .before .before .before .before in (s .pre .0 .width, room _ _ _ _ (s .pre .1 .1 .0) (s .pre .1 .0 .0))
 
 shared-slice-read-if1 : tie.Need-shared-slice-read-if1
 shared-slice-read-if1 c = search needs
@@ -17,10 +17,10 @@ returns c =
     over-marked _ _ _ _ _ _ _ _ _ _ (s .pre .1 .1 .0) (s .pre .1 .1 .1 .0) (c .before .before .num .ensures .0) (c .if1 .taken)
 
 num-requires-2 : tie.Need-num-requires-2
-num-requires-2 c κs = let s = c .before .before .before .before .before .before .before in (s .pre .0, room _ _ _ _ (s .pre .1 .1 .0) (s .pre .1 .0 .1 .0))
+num-requires-2 c κs = let s = c .before .before .before .before .before .before .before in (s .pre .0 .width, room _ _ _ _ (s .pre .1 .1 .0) (s .pre .1 .0 .1))
 
 num-requires-3 : tie.Need-num-requires-3
-num-requires-3 c κs = let s = c .before .before .before .before .before .before .before .before in (s .pre .0, room _ _ _ _ (s .pre .1 .1 .1 .0) (s .pre .1 .0 .1 .0))
+num-requires-3 c κs = let s = c .before .before .before .before .before .before .before .before in (s .pre .0 .width, room _ _ _ _ (s .pre .1 .1 .1 .0) (s .pre .1 .0 .1))
 
 returns-2 : tie.Need-returns-2
 returns-2 c =
