@@ -73,3 +73,27 @@ module _ (N : Net) {k l : ℕ} (W : Within N k l) where
         long = T .long ∙ length-set m (N .spot h) 1;
         gain = omega (arith, T .gain, ones-set m (N .spot h) (omega (arith, W .spots h b)) u);
       }
+
+-- the number of the labelling that ended the walk is a child's deciding number, or 0
+module _ (N : Net) (b : ℕ) (low : (h : ℕ) → N .deciding h ≤ b) where
+  follow-deciding : (f : Bool) (a : Walked) (rest : List ℕ → Walked) → a .deciding ≤ b → ((m : List ℕ) → rest m .deciding ≤ b) → follow f a rest .deciding ≤ b
+  follow-deciding true a rest h r = h
+  follow-deciding false a rest h r = r (a .marks)
+
+  pick-deciding :
+      (y p : Bool) (h : ℕ) (op : ℕ → List ℕ → Walked) (m : List ℕ) (rest : List ℕ → Walked)
+      → ((m' : List ℕ) → op h m' .deciding ≤ b) → ((m' : List ℕ) → rest m' .deciding ≤ b) → pick y p (N .deciding h) op h m rest .deciding ≤ b
+  pick-deciding true p h op m rest o r = low h
+  pick-deciding false true h op m rest o r = r m
+  pick-deciding false false h op m rest o r = follow-deciding (op h m .found) (op h m) rest (o m) r
+
+  try-deciding : (op : ℕ → List ℕ → Walked) → ((h : ℕ) (m : List ℕ) → op h m .deciding ≤ b) → (hs m : List ℕ) → tryWith N op hs m .deciding ≤ b
+  unfolding tryWith
+  try-deciding op o [] m = omega arith
+  try-deciding op o (h ∷ hs) m =
+      pick-deciding (N .yes h) (marked N m h || N .no h) h op m (λ m'. tryWith N op hs m') (o h) (λ m'. try-deciding op o hs m')
+
+  pub open-deciding : (L g : ℕ) (m : List ℕ) → openAt N L g m .deciding ≤ b
+  unfolding openAt
+  open-deciding zero g m = omega arith
+  open-deciding (suc L) g m = try-deciding (openAt N L) (open-deciding L) (N .children g) (set m (N .spot g) 1)

@@ -7,3 +7,4 @@ pub mod Trying
 pub mod Rows
 pub mod Nets
 pub mod Turns
+pub mod Rules

@@ -1,3 +1,4 @@
 -- What the contracts inside this crate say of the stored sections.
 pub mod Intervals
 pub mod Fit
+pub mod Replies
