@@ -8,3 +8,4 @@ pub mod Rows
 pub mod Nets
 pub mod Turns
 pub mod Rules
+pub mod Soundness

@@ -2,14 +2,17 @@
 ghost use mathlib.Core.Bool.{cond};
 ghost use mathlib.Core.Path.{_≡_};
 ghost use Prim.Native.Nat.{_≤_, _<_};
-ghost use lib.ListN.{length, getD};
+ghost use lib.ListN.{length, getD, replicate};
 ghost use Rattle.lineage.specs.Numbers.{numAt};
-ghost use Rattle.lineage.specs.Question.{between};
+ghost use Rattle.lineage.specs.Question.{between, answer};
 ghost use Rattle.ask.specs.Fit.{groupsIn, Fit};
 ghost use Rattle.ask.specs.Replies.{answerBy};
+ghost use Rattle.ask.specs.Lent.{indexAt, Lent};
 use crate::intervals;
+use crate::place;
 use crate::walk;
 use crate::walk::Seen;
+use stored::header::Layout;
 
 // Yes or no, the reason, the number of the labelling that decided (0 where none did), and the number of groups opened.
 pub struct Reply {
@@ -103,4 +106,40 @@ pub fn decide(
         x,
     );
     by_walk(a)
+}
+
+// The answer between two vertices; the marks, one for each vertex, are all 0 before.
+pub fn question(
+    names: &[u8],
+    groups: &[u8],
+    levels: &[u8],
+    starts: &[u8],
+    children: &[u8],
+    labels: &[u8],
+    l: Layout,
+    u: usize,
+    v: usize,
+    marks: &mut [u8],
+) -> Reply
+    requires { ⌜ Lent l (now names) (now groups) (now levels) (now starts) (now children) (now labels) ⌝ }
+    requires { ⌜ (u < l .n) × ((v < l .n) × (now marks ≡ replicate (l .n) 0)) ⌝ }
+    ensures { λ r. ⌜ answerBy r (now (marks .exit)) ≡ answer (indexAt l (now (names .entry)) (now (groups .entry)) (now (levels .entry)) (now (starts .entry)) (now (children .entry)) (now (labels .entry))) u v ⌝ }
+{
+    let w = l.width;
+    let k = l.k;
+    let x = place::place_of(groups, w, k, numbers::num(names, w, u));
+    let t = place::place_of(groups, w, k, numbers::num(names, w, v));
+    decide(
+        groups,
+        levels,
+        starts,
+        children,
+        labels,
+        w,
+        k,
+        l.d,
+        x,
+        t,
+        marks,
+    )
 }
