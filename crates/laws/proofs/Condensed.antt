@@ -6,19 +6,19 @@ use mathlib.Core.List.{List, []}
 use Prim.Native.Nat.{ℕ, _<_, _≤_}
 use native.Mathlib.Omega.{arith}
 use lib.ListN.{length, getD, length-map}
-use Rattle.lineage.specs.Lists.{those, upto}
+use Rattle.lineage.specs.Lists.{upto, those}
 use Rattle.lineage.specs.Graph.{Graph, Ends, Reaches, stay, step, reaches, nameOf, namesOf, groupList, isChild, childrenOf, levelsOf}
 use Rattle.lineage.specs.Sound.{childOf}
 use Rattle.laws.specs.Leads.{OneGroup}
 use Rattle.laws.specs.Sound.{SoundGroups}
 use Rattle.laws.proofs.Tests.{is-false}
-use Rattle.laws.proofs.Lists.{in-getD, position-low, getD-mapped, those-pass, those-keep, in-upto, upto-low, length-upto}
+use Rattle.laws.proofs.Lists.{those-pass, those-keep, in-upto, upto-low, length-upto, getD-mapped, position-low, in-getD}
 use Rattle.laws.proofs.Rising.{Rises, rises-upto, rises-those, rises-next, those-lt, those-short}
-use Rattle.laws.proofs.Reaches.{reaches-on, reaches-exactly}
 use Rattle.laws.proofs.Edges.{child-to}
+use Rattle.laws.proofs.Reaches.{reaches-on, reaches-exactly}
+use Rattle.laws.proofs.Names
 use Rattle.laws.proofs.Levels.{levels-meet, levels-long}
 use Rattle.laws.proofs.Grouped.{listed-name}
-use Rattle.laws.proofs.Names
 
 module _ (G : Graph) (ends : Ends G) where
   abbrev names : List ℕ
@@ -43,6 +43,7 @@ module _ (G : Graph) (ends : Ends G) where
       let low : nameAt p < G .n = omega (arith, Names.names-long G ends) in
       (low, sym (name-at (nameAt p) low) ∙ own)
 
+  -- a row for each place: those places whose group is a child
   pub children-long : length children ≡ length groups
   unfolding childrenOf
   children-long = length-map groups (λ a. those (λ q. isChild G names a (nameAt q)) (upto (length groups)))
@@ -108,10 +109,11 @@ module _ (G : Graph) (ends : Ends G) where
   child-in : (p q : ℕ) → p < length children → childOf children p q ≡ true → q < length children
   child-in p q h i = omega (arith, children-long, child-is p q (listed h) i .1)
 
+  -- so names, group list, levels and children of an edge list pass the tests
   pub groups-sound : SoundGroups names groups (levelsOf children) children
   groups-sound =
       record {
-        name-low = λ v h. let l : v < G .n = omega (arith, Names.names-long G ends) in omega (arith, name-at v l, Names.name-smallest G ends v v l (stay, stay));
+        name-low = low;
         name-own = own;
         groups-are = refl;
         children-long = children-long;
@@ -123,6 +125,11 @@ module _ (G : Graph) (ends : Ends G) where
             (λ p h. omega (arith, children-long, reached-most p));
       }
     where
+      low : (v : ℕ) → v < length names → getD names v 0 ≤ v
+      low v h =
+          let l : v < G .n = omega (arith, Names.names-long G ends) in
+          omega (arith, name-at v l, Names.name-smallest G ends v v l (stay, stay))
+
       own : (v : ℕ) → v < length names → getD names (getD names v 0) 0 ≡ getD names v 0
       own v h =
           let l : v < G .n = omega (arith, Names.names-long G ends) in

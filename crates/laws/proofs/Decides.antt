@@ -1,27 +1,28 @@
--- The computed tests decide Sound.
+-- The computed tests decide soundness: each test is true exactly where its fact holds, and so are tests joined and tests of all numbers below a bound.
+-- The left walk's bound suffices since each of its steps goes left; that it does follows from the tests that are read before it.
 use mathlib.Core.Bool.{Bool, true, false, _&&_, false≢true}
 use mathlib.Core.Logic.{_↔_}
 use mathlib.Core.Path.{_≡_, refl, ap, ap₂}
 use mathlib.Core.List.{List, [], _∷_, map}
-use Prim.Native.Nat.{ℕ, zero, suc, _<_, _≤_, _-_}
+use Prim.Native.Nat.{ℕ, zero, suc, _-_, _<_, _≤_}
 use native.Mathlib.Nat.{not-suc-le-zero}
 use native.Mathlib.Decide.{ℕ-discrete}
 use native.Mathlib.Omega.{arith}
 use lib.Dec.{eqb, leb, ltb}
 use lib.ListN.{length, getD, drop}
 use borrow.Author.Tests.{eqb-true, eq-eqb, leb-true, le-leb, lt-leb, ltb-true, lt-ltb}
-use Rattle.lineage.specs.Lists.{among, position, least, greatest, sameList, Every, allBelow, allOf}
+use Rattle.lineage.specs.Lists.{allBelow, among, position, least, greatest, sameList, Every, allOf}
 use Rattle.lineage.specs.Graph.{groupList}
-use Rattle.lineage.specs.Labels.{Labelling, nobodysChild}
+use Rattle.lineage.specs.Labels.{nobodysChild, Labelling}
 use Rattle.lineage.specs.Index.{Index}
-use Rattle.lineage.specs.Sound.{childOf, walkEnds, labelsPass, namesPass, groupsPass, sound}
+use Rattle.lineage.specs.Sound.{childOf, namesPass, rowPasses, groupsPass, walkEnds, labelsPass, sound}
 use Rattle.laws.specs.Sound.{LeftWalk, arrived, left, SoundLabelling, SoundGroups, Sound}
 use Rattle.laws.proofs.Tests.{and-both, and-left, and-right}
-use Rattle.laws.proofs.Lists.{in-getD, position-low, at-position}
+use Rattle.laws.proofs.Lists.{position-low, at-position, in-getD}
 use Rattle.laws.proofs.Inverse.{rank-most}
 
 -- the test is true exactly where the fact holds
-abbrev pub Decides : Bool → Type 0 → Type 0
+abbrev Decides : Bool → Type 0 → Type 0
 Decides b P = (b ≡ true) ↔ P
 
 -- two tests, the second read where the first holds
@@ -59,7 +60,9 @@ below (suc n) p P d =
     at h i l (yes e) rest = rw e (d n (omega arith) .0 (and-right (allBelow n p) (p n) h))
     at h i l (no e) rest = rest i (omega arith)
 
-members : (p : ℕ → Bool) (P : ℕ → Type 0) → ((q : ℕ) → Decides (p q) (P q)) → (xs : List ℕ) → Decides (allBelow (length xs) (λ i. p (getD xs i 0))) ((q : ℕ) → among q xs ≡ true → P q)
+members :
+    (p : ℕ → Bool) (P : ℕ → Type 0) → ((q : ℕ) → Decides (p q) (P q)) → (xs : List ℕ)
+    → Decides (allBelow (length xs) (λ i. p (getD xs i 0))) ((q : ℕ) → among q xs ≡ true → P q)
 members p P d xs =
     let all = below (length xs) (λ i. p (getD xs i 0)) (λ i. P (getD xs i 0)) (λ i l. d (getD xs i 0)) in
     ((λ h q i. rw (at-position q xs i) at (all .0 h (position q xs) (position-low q xs i))), λ h. all .1 (λ i l. h (getD xs i 0) (in-getD xs i l)))
@@ -88,9 +91,13 @@ module _
         p : ℕ
         p = getD (l .byRank) q 0
 
-        at : (b : Bool) → leb (suc q) lo ≡ b → (walkEnds l test f (getD (l .m) p 0 - 1) lo ≡ true → LeftWalk l test (getD (l .m) p 0 - 1) lo) → LeftWalk l test (suc q) lo
+        at :
+            (b : Bool) → leb (suc q) lo ≡ b → (walkEnds l test f (getD (l .m) p 0 - 1) lo ≡ true → LeftWalk l test (getD (l .m) p 0 - 1) lo)
+            → LeftWalk l test (suc q) lo
         at true e ih = let z : suc q ≡ lo = eqb-true (suc q) lo (rw (e, walkEnds) at h) in rw z arrived
-        at false e ih = let z : (test p && walkEnds l test f (getD (l .m) p 0 - 1) lo) ≡ true = rw (e, walkEnds) at h in left (and-left (test p) _ z) (ih (and-right (test p) _ z))
+        at false e ih =
+            let z : (test p && walkEnds l test f (getD (l .m) p 0 - 1) lo) ≡ true = rw (e, walkEnds) at h in
+            left (and-left (test p) _ z) (ih (and-right (test p) _ z))
 
     stops : (f q : ℕ) → walkEnds l test f q q ≡ true
     unfolding walkEnds
@@ -133,9 +140,12 @@ module _ (children : List (List ℕ)) (l : Labelling) where
   abbrev Mins : Type 0
   Mins = (p : ℕ) → p < k → (1 ≤ m p) × (m p ≤ e p)
 
+  abbrev Sizes : Type 0
+  Sizes = (length (l .s) ≡ k) × ((length (l .m) ≡ k) × ((length (l .e) ≡ k) × (length (l .byRank) ≡ k)))
+
   abbrev Fields : Type 0
   Fields =
-      ((length (l .s) ≡ k) × ((length (l .m) ≡ k) × ((length (l .e) ≡ k) × (length (l .byRank) ≡ k))))
+      Sizes
       × (Ranks
       × (((p : ℕ) → p < k → (q : ℕ) → childOf children p q ≡ true → e q < e p)
       × (((p : ℕ) → p < k → s p ≡ least (e p) (map s (getD children p [])))
@@ -146,7 +156,7 @@ module _ (children : List (List ℕ)) (l : Labelling) where
   shorter : Ranks → Mins → (q : ℕ) → q < k → m (at q) - 1 ≤ q
   shorter R M q h = omega (arith, R q h, M (at q) (R q h .0))
 
-  high : (length (l .s) ≡ k) × ((length (l .m) ≡ k) × ((length (l .e) ≡ k) × (length (l .byRank) ≡ k))) → Ranks → (p : ℕ) → p < k → e p - 1 ≤ k
+  high : Sizes → Ranks → (p : ℕ) → p < k → e p - 1 ≤ k
   high sizes R p h = omega (arith, rank-most k (l .byRank) e (sizes .1 .1 .1) (λ r i. R r i .0) (λ r i. R r i .1) p h)
 
   fields : Decides (labelsPass children l) Fields
@@ -162,32 +172,32 @@ module _ (children : List (List ℕ)) (l : Labelling) where
 
   labels-decide : Decides (labelsPass children l) (SoundLabelling children l)
   labels-decide = (
-    (λ t. let f = fields .0 t in
+    (λ t. let ((sl, (ml, (el, al))), (R, (falls, (outer, (M, (blocks, roots)))))) = fields .0 t in
         record {
-          s-long = f .0 .0;
-          m-long = f .0 .1 .0;
-          e-long = f .0 .1 .1 .0;
-          at-long = f .0 .1 .1 .1;
-          at-low = λ r h. f .1 .0 r h .0;
-          e-at = λ r h. f .1 .0 r h .1;
-          falls = λ p q h i. f .1 .1 .0 p h q i;
-          outer-is = f .1 .1 .1 .0;
-          m-low = λ p h. f .1 .1 .1 .1 .0 p h .0;
-          m-high = λ p h. f .1 .1 .1 .1 .0 p h .1;
-          blocks = f .1 .1 .1 .1 .1 .0;
-          roots = f .1 .1 .1 .1 .1 .1;
+          s-long = sl;
+          m-long = ml;
+          e-long = el;
+          at-long = al;
+          at-low = λ r h. R r h .0;
+          e-at = λ r h. R r h .1;
+          falls = λ p q h i. falls p h q i;
+          outer-is = outer;
+          m-low = λ p h. M p h .0;
+          m-high = λ p h. M p h .1;
+          blocks = blocks;
+          roots = roots;
         }),
-    λ S. fields .1 (
-      (S .s-long, (S .m-long, (S .e-long, S .at-long))),
+    λ L. fields .1 (
+      (L .s-long, (L .m-long, (L .e-long, L .at-long))),
       (
-        (λ r h. (S .at-low r h, S .e-at r h)),
+        (λ r h. (L .at-low r h, L .e-at r h)),
         (
-          (λ p h q i. S .falls p q h i),
+          (λ p h q i. L .falls p q h i),
           (
-            S .outer-is,
+            L .outer-is,
             (
-              (λ p h. (S .m-low p h, S .m-high p h)),
-              (S .blocks, S .roots),
+              (λ p h. (L .m-low p h, L .m-high p h)),
+              (L .blocks, L .roots),
             ),
           ),
         ),
@@ -203,11 +213,13 @@ module _ (names groups levels : List ℕ) (children : List (List ℕ)) where
   abbrev Names : Type 0
   Names = ((v : ℕ) → v < length names → (getD names v 0 ≤ v) × (getD names (getD names v 0) 0 ≡ getD names v 0)) × (groups ≡ groupList names)
 
-  abbrev Rows : Type 0
-  Rows =
-      (p : ℕ) → p < length children
-      → ((i : ℕ) → i < length (row p) → getD (row p) i 0 < length children)
+  abbrev Row : ℕ → Type 0
+  Row p =
+      ((i : ℕ) → i < length (row p) → getD (row p) i 0 < length children)
       × ((i : ℕ) → i < length (row p) - 1 → getD (row p) i 0 < getD (row p) (suc i) 0)
+
+  abbrev Sized : Type 0
+  Sized = (length children ≡ length groups) × (length levels ≡ length children)
 
   abbrev Levels : Type 0
   Levels = (p : ℕ) → p < length children → getD levels p 0 ≡ greatest (map (λ q. suc (getD levels q 0)) (row p))
@@ -216,38 +228,42 @@ module _ (names groups levels : List ℕ) (children : List (List ℕ)) where
   unfolding namesPass
   names-decide = both _ _ (below (length names) _ _ (λ v h. both _ _ (at-most _ _) (λ a. equal _ _))) (λ a. same-list groups (groupList names))
 
-  group-fields : Decides (groupsPass names groups levels children) (Names × (((length children ≡ length groups) × (length levels ≡ length children)) × (Rows × Levels)))
+  row-decides : (p : ℕ) → p < length children → Decides (rowPasses children p) (Row p)
+  row-decides p h = both _ _ (below (length (row p)) _ _ (λ i j. less _ _)) (λ c. below (length (row p) - 1) _ _ (λ i j. less _ _))
+
+  group-fields :
+      Decides (groupsPass names groups levels children) (Names × (Sized × (((p : ℕ) → p < length children → Row p) × Levels)))
   unfolding groupsPass
   group-fields =
       both _ _ names-decide (λ a.
       both _ _ (both _ _ (equal _ _) (λ b. equal _ _)) (λ b.
-      both _ _ (below (length children) _ _ (λ p h. both _ _ (below (length (row p)) _ _ (λ i j. less _ _)) (λ c. below (length (row p) - 1) _ _ (λ i j. less _ _)))) (λ c.
+      both _ _ (below (length children) _ _ row-decides) (λ c.
       below (length children) _ _ (λ p h. equal _ _))))
 
   groups-decide : Decides (groupsPass names groups levels children) (SoundGroups names groups levels children)
   groups-decide = (
-    (λ t. let f = group-fields .0 t in
+    (λ t. let ((own, are), ((cl, ll), (rows, levels-are))) = group-fields .0 t in
         record {
-          name-low = λ v h. f .0 .0 v h .0;
-          name-own = λ v h. f .0 .0 v h .1;
-          groups-are = f .0 .1;
-          children-long = f .1 .0 .0;
-          levels-long = f .1 .0 .1;
-          child-low = λ p i h j. f .1 .1 .0 p h .0 i j;
-          child-rises = λ p i h j. f .1 .1 .0 p h .1 i (omega arith);
-          level-is = f .1 .1 .1;
+          name-low = λ v h. own v h .0;
+          name-own = λ v h. own v h .1;
+          groups-are = are;
+          children-long = cl;
+          levels-long = ll;
+          child-low = λ p i h j. rows p h .0 i j;
+          child-rises = λ p i h j. rows p h .1 i (omega arith);
+          level-is = levels-are;
         }),
     λ S. group-fields .1 (
       ((λ v h. (S .name-low v h, S .name-own v h)), S .groups-are),
-      (
-        (S .children-long, S .levels-long),
-        ((λ p h. ((λ i j. S .child-low p i h j), λ i j. S .child-rises p i h (omega arith))), S .level-is),
-      ),
+      ((S .children-long, S .levels-long), ((λ p h. ((λ i j. S .child-low p i h j), λ i j. S .child-rises p i h (omega arith))), S .level-is)),
     ),
   )
 
-pub sound-decides : (I : Index) → Decides (sound I) (Sound I)
+-- all tests of an index
+pub sound-decides : (I : Index) → (sound I ≡ true) ↔ Sound I
 unfolding sound
 sound-decides I =
-    let d = both _ _ (groups-decide (I .names) (I .groups) (I .levels) (I .children)) (λ g. every (labelsPass (I .children)) (SoundLabelling (I .children)) (labels-decide (I .children)) (I .labels)) in
-    ((λ h. let f = d .0 h in record { condensed = f .0; labelled = f .1 }), λ S. d .1 (S .condensed, S .labelled))
+    let c : List (List ℕ) = I .children in
+    let labels = every (labelsPass c) (SoundLabelling c) (labels-decide c) (I .labels) in
+    let (to, from) = both _ _ (groups-decide (I .names) (I .groups) (I .levels) c) (λ g. labels) in
+    ((λ h. let (g, ls) = to h in record { condensed = g; labelled = ls }), λ S. from (S .condensed, S .labelled))

@@ -1,7 +1,8 @@
--- Edges of joined and mapped lists, and tests of edges.
-use mathlib.Core.Bool.{Bool, true, false≢true, _&&_, not}
+-- Edges: where some edge passes a test, when a group is a child by an edge, and the edges of lists that are joined or mapped side by side. Each is an
+-- induction along the two lists.
+use mathlib.Core.Bool.{Bool, true, not, _&&_, false≢true}
 use mathlib.Core.Logic.{_⊎_, inl, inr}
-use mathlib.Core.Path.{_≡_, refl, subst, ap}
+use mathlib.Core.Path.{_≡_, refl, ap, subst}
 use mathlib.Core.List.{List, [], _∷_, _++_, map}
 use Prim.Native.Nat.{ℕ}
 use native.Mathlib.Omega.{arith}
@@ -9,23 +10,23 @@ use lib.Dec.{eqb}
 use lib.ListN.{length, length-append, getD}
 use borrow.Author.Tests.{eqb-true, eqb-false, ne-eqb, not-true, eq-eqb}
 use Rattle.lineage.specs.Lists.{among, joined}
-use Rattle.lineage.specs.Graph.{Edge, first, later, someEdge, Graph, isChild}
-use Rattle.laws.proofs.Tests.{or-left, or-right, or-cases, and-both, and-right, and-left}
+use Rattle.lineage.specs.Graph.{Graph, Edge, first, later, someEdge, isChild}
+use Rattle.laws.proofs.Tests.{or-left, or-right, or-cases, and-both, and-left, and-right}
 use Rattle.laws.proofs.Lists.{here, there}
 
 -- some edge passes a test
-pub some-sound : (p : ℕ → ℕ → Bool) (S T : List ℕ) → someEdge p S T ≡ true → (s : ℕ) × (t : ℕ) × Edge S T s t × (p s t ≡ true)
-some-sound p [] T h = absurd (false≢true h)
-some-sound p (x ∷ S) [] h = absurd (false≢true h)
-some-sound p (x ∷ S) (y ∷ T) h =
+pub some-edge : (p : ℕ → ℕ → Bool) (S T : List ℕ) → someEdge p S T ≡ true → (s : ℕ) × (t : ℕ) × Edge S T s t × (p s t ≡ true)
+some-edge p [] T h = absurd (false≢true h)
+some-edge p (x ∷ S) [] h = absurd (false≢true h)
+some-edge p (x ∷ S) (y ∷ T) h =
     elim (or-cases (p x y) _ h) [
       | inl i ↦ (x, y, first, i)
-      | inr i ↦ let (s, t, e, j) = some-sound p S T i in (s, t, later e, j)
+      | inr i ↦ let (s, t, e, j) = some-edge p S T i in (s, t, later e, j)
     ]
 
-pub some-complete : (p : ℕ → ℕ → Bool) {S T : List ℕ} {s t : ℕ} → Edge S T s t → p s t ≡ true → someEdge p S T ≡ true
-some-complete p first h = or-left _ h
-some-complete p (later {x = x} {y = y} e) h = or-right (p x y) (some-complete p e h)
+pub edge-some : (p : ℕ → ℕ → Bool) {S T : List ℕ} {s t : ℕ} → Edge S T s t → p s t ≡ true → someEdge p S T ≡ true
+edge-some p first h = or-left _ h
+edge-some p (later {x = x} {y = y} e) h = or-right (p x y) (edge-some p e h)
 
 -- a group is a child of another where they differ and an edge leads from the one into the other
 module _ (G : Graph) (names : List ℕ) where
@@ -34,7 +35,7 @@ module _ (G : Graph) (names : List ℕ) where
       → (a ≡ b → ⊥) × (s : ℕ) × (t : ℕ) × Edge (G .sources) (G .targets) s t × (getD names s 0 ≡ a) × (getD names t 0 ≡ b)
   unfolding isChild
   child-to a b c =
-      let (s, t, e, h) = some-sound (λ s t. eqb (getD names s 0) a && eqb (getD names t 0) b) (G .sources) (G .targets) (and-right (not (eqb a b)) _ c) in (
+      let (s, t, e, h) = some-edge (λ s t. eqb (getD names s 0) a && eqb (getD names t 0) b) (G .sources) (G .targets) (and-right (not (eqb a b)) _ c) in (
         eqb-false a b (not-true (eqb a b) (and-left (not (eqb a b)) _ c)),
         s,
         t,
@@ -48,9 +49,9 @@ module _ (G : Graph) (names : List ℕ) where
   unfolding isChild
   child-from {s} {t} a b apart e es et =
       and-both (ap not (ne-eqb a b apart))
-      (some-complete (λ s t. eqb (getD names s 0) a && eqb (getD names t 0) b) e (and-both (eq-eqb (getD names s 0) a es) (eq-eqb (getD names t 0) b et)))
+      (edge-some (λ s t. eqb (getD names s 0) a && eqb (getD names t 0) b) e (and-both (eq-eqb (getD names s 0) a es) (eq-eqb (getD names t 0) b et)))
 
--- joined lists
+-- edges of joined lists
 pub edge-left : (S S′ T T′ : List ℕ) {u v : ℕ} → Edge S T u v → Edge (S ++ S′) (T ++ T′) u v
 edge-left S S′ T T′ first = first
 edge-left S S′ T T′ (later {S = A} {T = B} e) = later (edge-left A S′ B T′ e)
@@ -68,17 +69,19 @@ edge-split (x ∷ S) S′ [] T′ l e = absurd (omega arith)
 edge-split (x ∷ S) S′ (y ∷ T) T′ l first = inl first
 edge-split (x ∷ S) S′ (y ∷ T) T′ l (later e) = elim (edge-split S S′ T T′ (omega arith) e) [ inl i ↦ inl (later i) | inr i ↦ inr i ]
 
--- mapped lists
+-- edges of mapped lists
 pub edge-map : (f g : ℕ → ℕ) (x : ℕ) (xs : List ℕ) → among x xs ≡ true → Edge (map f xs) (map g xs) (f x) (g x)
 edge-map f g x [] i = absurd (false≢true i)
 edge-map f g x (y ∷ xs) i =
     elim (or-cases (eqb x y) _ i) [ inl e ↦ rw (eqb-true x y e) first | inr j ↦ later (edge-map f g x xs j) ]
 
-pub map-edge : (P : ℕ → ℕ → Type 0) (f g : ℕ → ℕ) (xs : List ℕ) → ((x : ℕ) → among x xs ≡ true → P (f x) (g x)) → {u v : ℕ} → Edge (map f xs) (map g xs) u v → P u v
+pub map-edge :
+    (P : ℕ → ℕ → Type 0) (f g : ℕ → ℕ) (xs : List ℕ) → ((x : ℕ) → among x xs ≡ true → P (f x) (g x)) → {u v : ℕ}
+    → Edge (map f xs) (map g xs) u v → P u v
 map-edge P f g (x ∷ xs) all first = all x (here x xs)
 map-edge P f g (x ∷ xs) all (later e) = map-edge P f g xs (λ y i. all y (there y x xs i)) e
 
--- a list of lists
+-- edges of many lists joined
 module _ (f g : ℕ → List ℕ) (paired : (x : ℕ) → length (f x) ≡ length (g x)) where
   pub joined-paired : (xs : List ℕ) → length (joined (map f xs)) ≡ length (joined (map g xs))
   joined-paired [] = refl

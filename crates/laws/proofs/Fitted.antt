@@ -1,20 +1,20 @@
 -- A traversal fits the ranks that its own order of finishing gives, and these fall along children where levels do: a child that is seen when its
 -- parent is entered is either finished, or still open, and then its level would be greater.
-use mathlib.Core.Bool.{Bool, true, false≢true, false}
+use mathlib.Core.Bool.{Bool, true, false, false≢true}
 use mathlib.Core.Logic.{_⊎_, inl, inr}
 use mathlib.Core.Path.{_≡_, refl, ap}
 use mathlib.Core.List.{List, [], _∷_, _++_}
-use Prim.Native.Nat.{ℕ, suc, _<_, _≤_, _+_}
+use Prim.Native.Nat.{ℕ, suc, _+_, _<_, _≤_}
 use native.Mathlib.Omega.{arith}
 use lib.Dec.{eqb}
 use lib.ListN.{length, length-append}
 use borrow.Author.Tests.{eq-eqb, ne-eqb}
 use Rattle.lineage.specs.Lists.{among, position}
-use Rattle.lineage.specs.Labels.{Forest, visit, finished, after}
+use Rattle.lineage.specs.Labels.{Forest, visit, after, finished}
 use Rattle.laws.specs.Visits.{Visits, over, skip, enter}
 use Rattle.laws.proofs.Tests.{clash}
-use Rattle.laws.proofs.Lists.{here, there, in-left, in-right, in-cons, position-past, position-left}
-use Rattle.laws.proofs.Rising.{Distinct, distinct-left, distinct-right, distinct-apart}
+use Rattle.laws.proofs.Lists.{here, there, in-cons, in-left, in-right, position-past, position-left}
+use Rattle.laws.proofs.Rising.{Distinct, distinct-right, distinct-apart, distinct-left}
 use Rattle.laws.proofs.Visited.{parts, seen-cases, listed}
 use Rattle.laws.proofs.Ranks.{before}
 use Rattle.laws.proofs.Forests.{Ranking, Fits, none, tree, entered-finished, block-up, member-rank}
@@ -80,6 +80,7 @@ module _ (R : Ranking) where
             let at : before x (visit p below rest) ≡ finished below ++ (p ∷ before x rest) = rw (ne x i, apart x (there x p (finished rest) i), before) in
             omega (arith, c .m-is x (within x i), ap length at, length-append (finished below) (p ∷ before x rest))
 
+  -- a traversal fits the ranks that count its order of finishing
   pub visits-fits :
       {next : ℕ → List ℕ} {ok : ℕ → Bool} {todo seen : List ℕ} {f : Forest} (lo hi : ℕ)
       → ((p q : ℕ) → among q (next p) ≡ true → R .child p q ≡ true) → Visits next todo seen f
@@ -88,8 +89,10 @@ module _ (R : Ranking) where
   visits-fits lo hi steps (skip {p = p} {todo = todo} a v) all once c h = visits-fits lo hi steps v (λ q i. all q (there q p todo i)) once c h
   visits-fits lo hi steps (enter {p = p} {todo = todo} {below = below} {rest = rest} a v w) all once c h =
       tree (all p (here p todo)) (c .low p (root-in p below rest lo once c)) (root-m p below rest lo once c) (root-rank p below rest lo once c)
-      (visits-fits lo (lo + length (finished below)) steps v (steps p) (distinct-left (finished below) (p ∷ finished rest) once) (counted-below p below rest lo once c) refl)
-      (visits-fits (suc (lo + length (finished below))) hi steps w (λ q i. all q (there q p todo i)) (distinct-right (finished below) (p ∷ finished rest) once .1)
+      (visits-fits lo (lo + length (finished below)) steps v (steps p) (distinct-left (finished below) (p ∷ finished rest) once)
+      (counted-below p below rest lo once c) refl)
+      (visits-fits (suc (lo + length (finished below))) hi steps w (λ q i. all q (there q p todo i))
+      (distinct-right (finished below) (p ∷ finished rest) once .1)
       (counted-rest p below rest lo once c) (omega (arith, length-append (finished below) (p ∷ finished rest))))
 
   -- ranks fall along children, where a number lv does

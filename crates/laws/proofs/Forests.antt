@@ -4,7 +4,7 @@ use mathlib.Core.Bool.{Bool, true, false, _||_, false≢true}
 use mathlib.Core.Logic.{inl, inr}
 use mathlib.Core.Path.{_≡_, refl, ap}
 use mathlib.Core.List.{List, [], _∷_, _++_}
-use Prim.Native.Nat.{ℕ, suc, _<_, _≤_, _+_}
+use Prim.Native.Nat.{ℕ, suc, _+_, _<_, _≤_}
 use native.Mathlib.Decide.{decLe, ℕ-discrete}
 use native.Mathlib.Omega.{arith}
 use lib.Dec.{eqb}
@@ -61,6 +61,7 @@ entered-finished x (visit p below next) =
     (swap (eqb x p) (among x (finished below)) (among x (finished next)))
 
 module _ {R : Ranking} where
+  -- a block goes up; forests on neighbouring blocks join
   pub block-up : {ok : ℕ → Bool} {f : Forest} {lo hi : ℕ} → Fits R ok f lo hi → lo ≤ hi
   block-up none = omega arith
   block-up (tree t h x y u v) = omega (arith, block-up u, block-up v)
@@ -69,6 +70,7 @@ module _ {R : Ranking} where
   join-fits none w = w
   join-fits (tree t h x y u v) w = tree t h x y u (join-fits v w)
 
+  -- a block has as many ranks as the forest has groups
   pub fits-count : {ok : ℕ → Bool} {f : Forest} {lo hi : ℕ} → Fits R ok f lo hi → lo + length (entered f) ≡ hi
   fits-count none = omega arith
   fits-count (tree {below = below} {next = next} t h x y u v) = omega (arith, fits-count u, fits-count v, length-append (entered below) (entered next))
@@ -94,15 +96,20 @@ module _ {R : Ranking} where
   pub member-low : {ok : ℕ → Bool} {f : Forest} {lo hi : ℕ} → Fits R ok f lo hi → (q : ℕ) → among q (entered f) ≡ true → q < R .k
   member-low = members (λ q lo hi. q < R .k) (λ p lo r hi h x y a b. h) (λ q lo r hi a b i. i) (λ q lo r hi a b i. i)
 
-  pub member-rank : {ok : ℕ → Bool} {f : Forest} {lo hi : ℕ} → Fits R ok f lo hi → (q : ℕ) → among q (entered f) ≡ true → (lo < R .e q) × (R .e q ≤ hi)
-  member-rank = members (λ q lo hi. (lo < R .e q) × (R .e q ≤ hi)) (λ p lo r hi h x y a b. omega arith) (λ q lo r hi a b i. omega arith) (λ q lo r hi a b i. omega arith)
+  pub member-rank :
+      {ok : ℕ → Bool} {f : Forest} {lo hi : ℕ} → Fits R ok f lo hi → (q : ℕ) → among q (entered f) ≡ true → (lo < R .e q) × (R .e q ≤ hi)
+  member-rank =
+      members (λ q lo hi. (lo < R .e q) × (R .e q ≤ hi))
+      (λ p lo r hi h x y a b. omega arith) (λ q lo r hi a b i. omega arith) (λ q lo r hi a b i. omega arith)
 
   pub member-m : {ok : ℕ → Bool} {f : Forest} {lo hi : ℕ} → Fits R ok f lo hi → (q : ℕ) → among q (entered f) ≡ true → R .m q ≤ R .e q
   member-m = members (λ q lo hi. R .m q ≤ R .e q) (λ p lo r hi h x y a b. omega arith) (λ q lo r hi a b i. i) (λ q lo r hi a b i. i)
 
   -- a place whose rank lies in the block is a group of the forest
   module _ (one : (p q : ℕ) → p < R .k → q < R .k → R .e p ≡ R .e q → p ≡ q) where
-    pub rank-member : {ok : ℕ → Bool} {f : Forest} {lo hi : ℕ} → Fits R ok f lo hi → (q : ℕ) → q < R .k → lo < R .e q → R .e q ≤ hi → among q (entered f) ≡ true
+    pub rank-member :
+        {ok : ℕ → Bool} {f : Forest} {lo hi : ℕ} → Fits R ok f lo hi → (q : ℕ) → q < R .k → lo < R .e q → R .e q ≤ hi
+        → among q (entered f) ≡ true
     rank-member none q l low high = absurd (omega arith)
     rank-member (tree {p = p} {r = r} {below = below} {next = next} t h x y u v) q l low high =
         at (decLe (R .e q) r) (ℕ-discrete (R .e q) (suc r)) (λ z. rank-member u q l low z) (λ z. rank-member v q l z high)

@@ -10,17 +10,17 @@ use native.Mathlib.Omega.{arith}
 use lib.ListN.{length, getD, length-map, length-append}
 use lib.Seq.{ext-getD}
 use Rattle.lineage.specs.Lists.{upto, those, joined}
-use Rattle.lineage.specs.Graph.{Graph, Edge, Ends, Reaches, stay, step, nameOf, namesOf, groupList, placeOf, isChild, childrenOf, levelsOf, condense}
+use Rattle.lineage.specs.Graph.{Graph, Edge, Ends, Reaches, stay, step, nameOf, namesOf, groupList, placeOf, isChild, childrenOf, condense, levelsOf}
 use Rattle.lineage.specs.Sound.{childOf}
 use Rattle.laws.specs.Leads.{OneGroup}
 use Rattle.laws.specs.Sound.{SoundGroups}
-use Rattle.laws.proofs.Lists.{getD-mapped, table-is, those-pass, those-keep, in-upto, upto-low}
+use Rattle.laws.proofs.Lists.{those-pass, those-keep, in-upto, upto-low, getD-mapped, table-is}
 use Rattle.laws.proofs.Rising.{rises-upto, rises-those, rises-unique}
 use Rattle.laws.proofs.Edges.{child-to, child-from, edge-left, edge-right, edge-split, edge-map, map-edge, joined-paired, edge-joined, joined-edge}
+use Rattle.laws.proofs.Names
 use Rattle.laws.proofs.Levels.{Levels, level-unique, levels-long}
 use Rattle.laws.proofs.Grouped.{name-in, group-name, place-of-name, place-one, child-in, children-rise, levels-fall}
 use Rattle.laws.proofs.Condensed.{groups-sound}
-use Rattle.laws.proofs.Names
 
 module _ {names groups levels : List ℕ} {children : List (List ℕ)} (S : SoundGroups names groups levels children) where
   abbrev n : ℕ
@@ -57,6 +57,7 @@ module _ {names groups levels : List ℕ} {children : List (List ℕ)} (S : Soun
   abbrev childT : List ℕ
   childT = joined (map rowT (upto k))
 
+  -- all of them: own, back, and down to children
   abbrev pub graph : Graph
   graph = record { n = n; sources = ownS ++ (ownT ++ childS); targets = ownT ++ (ownS ++ childT) }
 
@@ -103,6 +104,7 @@ module _ {names groups levels : List ℕ} {children : List (List ℕ)} (S : Soun
   link-low (back v h) = (name-in S v h, h)
   link-low (down p q h i) = (group-name S p h .0, group-name S q (child-in S p q h i) .0)
 
+  -- they end at vertices
   pub graph-ends : Ends graph
   graph-ends =
       record {
@@ -229,6 +231,7 @@ module _ {names groups levels : List ℕ} {children : List (List ℕ)} (S : Soun
       (λ p h. level-unique children (child-in S) (λ q. getD (levelsOf children) q 0) (λ q. getD levels q 0) met (S .level-is)
       (suc (getD (levelsOf children) p 0)) p (omega (arith, long)) (omega arith))
 
+  -- so the graph yields what was given
   pub condense-made : (condense graph ≡ record { names = names; groups = groups; children = children }) × (levelsOf children ≡ levels)
   unfolding condense
   condense-made = ((λ i. record { names = names-made i; groups = groups-made i; children = children-made i }), levels-made)

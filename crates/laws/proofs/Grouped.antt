@@ -10,13 +10,13 @@ use native.Mathlib.Omega.{arith}
 use lib.Dec.{eqb}
 use lib.ListN.{length, getD}
 use borrow.Author.Tests.{eqb-true, eq-eqb}
-use Rattle.lineage.specs.Lists.{among, upto}
+use Rattle.lineage.specs.Lists.{upto, among}
 use Rattle.lineage.specs.Graph.{groupList, placeOf, leads}
 use Rattle.lineage.specs.Sound.{childOf}
 use Rattle.laws.specs.Leads.{Down}
 use Rattle.laws.specs.Sound.{SoundGroups}
 use Rattle.laws.proofs.Tests.{is-false}
-use Rattle.laws.proofs.Lists.{in-getD, position-low, at-position, those-pass, those-keep, in-upto, upto-low}
+use Rattle.laws.proofs.Lists.{those-pass, those-keep, in-upto, upto-low, position-low, at-position, in-getD}
 use Rattle.laws.proofs.Rising.{Distinct, position-getD, Rises, rises-upto, rises-those, rises-distinct, next-rises}
 use Rattle.laws.proofs.Levels.{Falls, level-falls, leads-bounded}
 
@@ -28,7 +28,7 @@ module _ (names : List ℕ) where
       let t = those-pass (λ x. eqb (getD names x 0) x) v (upto (length names)) i in
       (upto-low (length names) v (t .1), eqb-true (getD names v 0) v (t .0))
 
-  pub name-listed : (v : ℕ) → v < length names → getD names v 0 ≡ v → among v (groupList names) ≡ true
+  name-listed : (v : ℕ) → v < length names → getD names v 0 ≡ v → among v (groupList names) ≡ true
   unfolding groupList
   name-listed v h e = those-keep (λ x. eqb (getD names x 0) x) v (upto (length names)) (eq-eqb (getD names v 0) v e) (in-upto (length names) v h)
 
@@ -37,7 +37,7 @@ module _ (names : List ℕ) where
   groups-rise = rises-those (λ x. eqb (getD names x 0) x) (upto (length names)) (rises-upto (length names))
 
   -- the name at a place has that place
-  pub place-name : (p : ℕ) → p < length (groupList names) → placeOf (groupList names) (getD (groupList names) p 0) ≡ p
+  place-name : (p : ℕ) → p < length (groupList names) → placeOf (groupList names) (getD (groupList names) p 0) ≡ p
   place-name p h = position-getD (groupList names) (rises-distinct (groupList names) groups-rise) p h
 
 module _ {names groups levels : List ℕ} {children : List (List ℕ)} (S : SoundGroups names groups levels children) where
@@ -63,6 +63,7 @@ module _ {names groups levels : List ℕ} {children : List (List ℕ)} (S : Soun
   pub place-of-name : (p : ℕ) → p < length children → placeOf groups (getD groups p 0) ≡ p
   place-of-name p h = let l : p < length groups = omega (arith, S .children-long) in rw (S .groups-are) (place-name names p (rw (S .groups-are) at l))
 
+  -- the group list has no name twice
   pub groups-distinct : Distinct groups
   groups-distinct = rises-distinct groups (rw (S .groups-are) (groups-rise names))
 
@@ -86,6 +87,7 @@ module _ {names groups levels : List ℕ} {children : List (List ℕ)} (S : Soun
   pub levels-fall : Falls children (λ p. getD levels p 0)
   levels-fall = level-falls children (λ p. getD levels p 0) (S .level-is)
 
+  -- so no group is its own child
   pub child-other : (p : ℕ) → p < length children → childOf children p p ≡ false
   child-other p h = is-false (childOf children p p) (λ i. omega (arith, levels-fall p p h i))
 

@@ -4,20 +4,21 @@
 use mathlib.Core.Bool.{true, false, false≢true}
 use mathlib.Core.Logic.{_⊎_, inl, inr, _↔_}
 use mathlib.Core.Path.{_≡_, sym, _∙_}
-use mathlib.Core.List.{List, [], _∷_, _++_, reverse, reverseAux, reverseAux-eq, reverse-reverse}
+use mathlib.Core.List.{List, [], _∷_, _++_, reverse, reverseAux, reverse-reverse, reverseAux-eq}
 use Prim.Native.Nat.{ℕ}
 use Rattle.lineage.specs.Lists.{among, joined}
-use Rattle.lineage.specs.Labels.{Forest, done, visit, finished, after}
+use Rattle.lineage.specs.Labels.{Forest, done, visit, after, finished}
 use Rattle.laws.specs.Leads.{Leads}
 use Rattle.laws.specs.Visits.{Visits, over, skip, enter}
+use Rattle.laws.specs.Passes.{trees, Together, both, beyond, OnlyOne}
 use Rattle.laws.proofs.Tests.{clash}
-use Rattle.laws.proofs.Lists.{among-reverse, here, in-cons, in-append, in-right}
+use Rattle.laws.proofs.Lists.{here, in-cons, in-right, in-append, Kept, among-reverse}
 use Rattle.laws.proofs.Rising.{distinct-apart}
-use Rattle.laws.proofs.Traversal.{Kept, kept}
+use Rattle.laws.proofs.Traversal.{kept}
 use Rattle.laws.proofs.Visited.{seen-cases, held, listed, fresh, distinct, from-one}
-use Rattle.laws.proofs.Closed.{leads-on, Closed, closed-after, stays, Turned, turn}
+use Rattle.laws.proofs.Closed.{leads-on, Closed, stays, closed-after, Turned, turn}
 use Rattle.laws.proofs.Last.{past, past-beyond, past-self, last-reached}
-use Rattle.laws.proofs.Trees.{trees, Together, both, beyond, OnlyOne, only-one, joined-trees}
+use Rattle.laws.proofs.Trees.{joined-trees, only-one}
 
 kept-more : (x : ℕ) (gone seen : List ℕ) → among x seen ≡ true → Kept gone seen → Kept (x ∷ gone) seen
 kept-more x gone seen i k q h = elim (in-cons q x gone h) [ inl e ↦ rw e i | inr j ↦ k q j ]
@@ -40,7 +41,10 @@ module _ {next back : ℕ → List ℕ} (there : Turned next back) (again : Turn
       (x : ℕ) {seen : List ℕ} {f : Forest} → Visits back (x ∷ []) seen f → among x seen ≡ false → Closed back seen → among x order ≡ true
       → ((y : ℕ) → among y (past x order) ≡ true → among y seen ≡ true)
       → (v : ℕ) → among v order ≡ true → (among v (finished f) ≡ true) ↔ Mutual next x v
-  one-group x {seen} {f} r new c i all v j = (forth, λ m. turns m (seen-cases v f seen (stays (closed-after r c) (turn there (m .1)) (listed r x (here x [])))))
+  one-group x {seen} {f} r new c i all v j = (
+    forth,
+    λ m. turns m (seen-cases v f seen (stays (closed-after r c) (turn there (m .1)) (listed r x (here x [])))),
+  )
     where
       forth : among v (finished f) ≡ true → Mutual next x v
       forth k =
@@ -56,8 +60,11 @@ module _ {next back : ℕ → List ℕ} (there : Turned next back) (again : Turn
   stands x todo gone e =
       let s : order ≡ reverse todo ++ (x ∷ gone) = e ∙ reverseAux-eq todo (x ∷ gone) in (
         rw s (in-right x (reverse todo) (x ∷ gone) (here x gone)),
-        rw s (past-beyond x (reverse todo) (x ∷ gone) (distinct-apart (reverse todo) (x ∷ gone) (rw s at (distinct first)) x (here x gone)) ∙ past-self x gone),
+        rw s (past-beyond x (reverse todo) (x ∷ gone) (apart s) ∙ past-self x gone),
       )
+    where
+      apart : order ≡ reverse todo ++ (x ∷ gone) → among x (reverse todo) ≡ false
+      apart s = distinct-apart (reverse todo) (x ∷ gone) (rw s at (distinct first)) x (here x gone)
 
   -- `gone` is what was dealt with, and stands past what is to do
   all-groups :

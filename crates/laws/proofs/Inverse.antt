@@ -42,6 +42,7 @@ module _ {children : List (List ℕ)} {l : Labelling} (L : SoundLabelling childr
   pub e-position : (p : ℕ) → p < length children → suc (position p (l .byRank)) ≡ rankOf p
   e-position = rank-position (length children) (l .byRank) rankOf (L .at-long) (L .at-low) (L .e-at)
 
+  -- a rank is from 1 to k
   pub e-some : (p : ℕ) → p < length children → 1 ≤ rankOf p
   e-some p h = omega (arith, e-position p h)
 

@@ -5,26 +5,26 @@ use mathlib.Core.Bool.{Bool, true, false, false≢true}
 use mathlib.Core.Logic.{inl, inr, _↔_}
 use mathlib.Core.Path.{_≡_, refl, sym, ap, _∙_}
 use mathlib.Core.List.{List, [], _∷_, map}
-use Prim.Native.Nat.{ℕ, zero, suc, _<_, _≤_, _+_}
+use Prim.Native.Nat.{ℕ, zero, suc, _+_, _<_, _≤_}
 use native.Mathlib.Omega.{arith}
 use lib.ListN.{length, getD}
 use borrow.Author.Tests.{not-false}
-use Rattle.lineage.specs.Lists.{among, those, upto, position, least, greatest, joined}
-use Rattle.lineage.specs.Labels.{Order, inOrder, Forest, finished, subtree, Labelling, nobodysChild, forestOf, outer, labelsBy, labelling}
+use Rattle.lineage.specs.Lists.{upto, among, those, position, least, greatest, joined}
+use Rattle.lineage.specs.Labels.{Order, inOrder, Forest, nobodysChild, forestOf, finished, subtree, outer, Labelling, labelsBy, labelling}
 use Rattle.lineage.specs.Sound.{childOf}
 use Rattle.laws.specs.Visits.{Visits}
 use Rattle.laws.specs.Sound.{SoundLabelling, SoundGroups}
-use Rattle.laws.proofs.Lists.{in-append, in-getD, position-low, at-position, map-same, table-at, table-long, those-pass, those-keep, in-upto, upto-low, length-upto, greatest-in}
+use Rattle.laws.proofs.Lists.{in-append, those-pass, those-keep, map-same, in-upto, upto-low, length-upto, table-at, table-long, position-low, at-position, in-getD, greatest-in}
 use Rattle.laws.proofs.Rising.{Distinct, position-getD, rises-upto, rises-distinct, pigeonhole}
-use Rattle.laws.proofs.Traversal.{nextIn, forest-visits, unique}
-use Rattle.laws.proofs.Visited.{held, listed, followed, from-todo, distinct}
+use Rattle.laws.proofs.Grouped.{group-name, groups-distinct, child-in, levels-fall}
+use Rattle.laws.proofs.Traversal.{unique, nextIn, forest-visits}
+use Rattle.laws.proofs.Visited.{held, listed, followed, distinct, from-todo}
 use Rattle.laws.proofs.Closed.{leads-keeps}
-use Rattle.laws.proofs.Ranks.{before, inner-law, m-made}
+use Rattle.laws.proofs.Ranks.{before, m-made, inner-law}
 use Rattle.laws.proofs.Forests.{Fits, entered, entered-finished, member-m}
+use Rattle.laws.proofs.Fitted.{visits-fits, visits-fall}
 use Rattle.laws.proofs.Walks.{rankingOf, fits-walk, fits-block}
 use Rattle.laws.proofs.Outer.{outer-meets}
-use Rattle.laws.proofs.Fitted.{visits-fits, visits-fall}
-use Rattle.laws.proofs.Grouped.{group-name, groups-distinct, child-in, levels-fall}
 use Rattle.laws.proofs.Orders.{places-low, places-all}
 
 -- a child of someone
@@ -59,6 +59,7 @@ module _
     visits : Visits (nextIn children ranked) (those (nobodysChild children) ranked) [] forest
     visits = forest-visits children ranked (upto k) (λ q i. in-upto k q (ranked-low q i)) (omega (arith, length-upto k))
 
+    -- there is no other
     pub forest-unique : (f : Forest) → Visits (nextIn children ranked) (those (nobodysChild children) ranked) [] f → f ≡ forest
     forest-unique f v = unique v visits
 
@@ -84,7 +85,8 @@ module _
     pub finished-low : (p : ℕ) → among p (finished forest) ≡ true → p < k
     finished-low p i =
         let (q, j, l) = from-todo visits p i in
-        leads-keeps (λ x. x < k) (λ x y h c. ranked-low y (those-pass (childOf children x) y ranked c .1)) l (ranked-low q (those-pass (nobodysChild children) q ranked j .1))
+        leads-keeps (λ x. x < k) (λ x y h c. ranked-low y (those-pass (childOf children x) y ranked c .1)) l
+        (ranked-low q (those-pass (nobodysChild children) q ranked j .1))
 
     pub finished-once : Distinct (finished forest)
     finished-once = distinct visits
@@ -154,8 +156,11 @@ module _
     e-falls p q h i =
         visits-fall (rankingOf children l) (nextIn children ranked) (λ x. getD levels x 0)
         (λ x y j c. levels-fall S x y j (those-pass (childOf children x) y ranked c .0)) (suc (greatest levels)) visits fits
-        (λ x j. let z : x < k = ranked-low x (those-pass (nobodysChild children) x ranked j .1) in omega (arith, greatest-in levels x (omega (arith, S .levels-long))))
+        (λ x j. most x (ranked-low x (those-pass (nobodysChild children) x ranked j .1)))
         (λ x j. absurd (false≢true j)) p q (finished-all p h) (those-keep (childOf children p) q ranked i (ranked-all q (child-in S p q h i)))
+      where
+        most : (x : ℕ) → x < k → getD levels x 0 < suc (greatest levels)
+        most x z = omega (arith, greatest-in levels x (omega (arith, S .levels-long)))
 
     at-rank : (p r : ℕ) → p < k → e p ≡ suc r → getD (l .byRank) r 0 ≡ p
     at-rank p r h i =
@@ -187,11 +192,14 @@ module _
     at-low r h = rw by-rank (finished-low (getD (finished forest) r 0) (in-getD (finished forest) r (omega (arith, finished-count))))
 
     e-at : (r : ℕ) → r < k → e (getD (l .byRank) r 0) ≡ suc r
-    e-at r h = e-is (getD (l .byRank) r 0) (at-low r h) ∙ rw by-rank (ap suc (position-getD (finished forest) finished-once r (omega (arith, finished-count))))
+    e-at r h =
+        e-is (getD (l .byRank) r 0) (at-low r h)
+        ∙ rw by-rank (ap suc (position-getD (finished forest) finished-once r (omega (arith, finished-count))))
 
     in-entered : (p : ℕ) → p < k → among p (entered forest) ≡ true
     in-entered p h = rw (entered-finished p forest) (finished-all p h)
 
+    -- so the labelling under an order passes the tests
     pub labelling-sound : SoundLabelling children (labelling groups children order)
     labelling-sound =
         record {

@@ -9,13 +9,13 @@ use Prim.Native.Nat.{ℕ}
 use lib.Dec.{eqb}
 use borrow.Author.Tests.{eq-eqb}
 use Rattle.lineage.specs.Lists.{among}
-use Rattle.lineage.specs.Labels.{Forest, visit, finished, subtree, after}
+use Rattle.lineage.specs.Labels.{Forest, visit, after, finished, subtree}
 use Rattle.laws.specs.Leads.{Leads, stay, step}
 use Rattle.laws.specs.Visits.{Visits, over, skip, enter}
-use Rattle.laws.proofs.Tests.{or-false-left, or-false-right, clash}
-use Rattle.laws.proofs.Lists.{among-append, in-append, in-left, in-cons}
+use Rattle.laws.proofs.Tests.{clash, or-false-left, or-false-right}
+use Rattle.laws.proofs.Lists.{among-append, in-cons, in-left, in-append}
 use Rattle.laws.proofs.Rising.{distinct-apart}
-use Rattle.laws.proofs.Visited.{listed, followed, held, fresh, distinct, subtree-leads}
+use Rattle.laws.proofs.Visited.{held, listed, followed, fresh, distinct, subtree-leads}
 use Rattle.laws.proofs.Ranks.{before, behind, run, subtree-self, subtree-finished}
 
 -- what stands past x in a list
@@ -99,7 +99,8 @@ module _ {next : ℕ → List ℕ} {todo : List ℕ} {f : Forest} (r : Visits ne
       {v x : ℕ} → Leads next v x → among x (finished f) ≡ true → among v (before x f) ≡ true
       → ((y : ℕ) → Leads next v y → among y (past x (finished f)) ≡ true → ⊥) → ⊥
   passes (stay {p = x}) i j n =
-      clash j (distinct-apart (before x f) (subtree x f ++ behind x f) (rw (run x f i) at (distinct r)) x (in-left x (subtree x f) (behind x f) (subtree-self x f i)))
+      let own : among x (subtree x f ++ behind x f) ≡ true = in-left x (subtree x f) (behind x f) (subtree-self x f i) in
+      clash j (distinct-apart (before x f) (subtree x f ++ behind x f) (rw (run x f i) at (distinct r)) x own)
   passes {x = x} (step {p = v} {q = q} e l) i j n =
       elim (when x q i (held f q (followed r v q (rw (run x f i) (in-left v (before x f) (subtree x f ++ behind x f) j)) e))) [
         | inl k ↦ passes l i k (λ y m. n y (step e m))

@@ -13,9 +13,9 @@ use borrow.Author.Tests.{eqb-true, eq-eqb}
 use Rattle.lineage.specs.Lists.{greatest}
 use Rattle.lineage.specs.Graph.{level, levelsOf, leads}
 use Rattle.lineage.specs.Sound.{childOf}
-use Rattle.laws.specs.Leads.{Down, stay, step}
+use Rattle.laws.specs.Leads.{stay, step, Down}
 use Rattle.laws.proofs.Tests.{or-left, or-right, or-cases}
-use Rattle.laws.proofs.Lists.{any-in, in-any, map-same, table-at, table-long, greatest-at}
+use Rattle.laws.proofs.Lists.{map-same, any-in, in-any, table-at, table-long, greatest-at}
 
 -- a number for each place, by the equation of levels
 abbrev pub Levels : List (List ℕ) → (ℕ → ℕ) → Type 0
@@ -62,6 +62,7 @@ module _ (children : List (List ℕ)) where
       down-leads (step {p = p} {q = x} {t = q} i d) (suc f) h l =
           or-right (eqb p q) (any-in (λ y. leads children f y q) x (getD children p []) i (down-leads d f (child-low p x h i) (omega (arith, falls p x h i))))
 
+      -- `leads` finds every path down children
       pub leads-bounded : (f p q : ℕ) → p < length children → a p ≤ f → (leads children f p q ≡ true) ↔ Down children p q
       leads-bounded f p q h l = (leads-down f p q, λ d. down-leads d f h l)
 
@@ -82,6 +83,7 @@ module _ (children : List (List ℕ)) where
         unfolding levelsOf
         level-at p h = table-at (level children (length children)) (length children) p 0 h
 
+        -- the computed levels meet the equation
         pub levels-meet : Levels children (λ p. getD (levelsOf children) p 0)
         unfolding level
         levels-meet p h =
@@ -90,6 +92,7 @@ module _ (children : List (List ℕ)) where
             ∙ ap greatest (map-same (λ q. suc (level children (length children) q)) (λ q. suc (getD (levelsOf children) q 0)) (getD children p [])
             (λ q i. ap suc (sym (level-at q (child-low p q h i)))))
 
+-- a level for each place
 pub levels-long : (children : List (List ℕ)) → length (levelsOf children) ≡ length children
 unfolding levelsOf
 levels-long children = table-long (level children (length children)) (length children)

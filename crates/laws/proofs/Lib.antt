@@ -1,30 +1,37 @@
+-- Tests and lists.
 pub mod Tests
+pub mod Lists
+pub mod Rising
+-- Reachability, groups, names, levels.
+pub mod Edges
+pub mod Reaches
 pub mod Names
 pub mod Levels
 pub mod Grouped
-pub mod Paths
-pub mod Reaches
-pub mod Traversal
-pub mod Ranks
-pub mod Visited
-pub mod Lists
-pub mod Forests
-pub mod Replay
-pub mod Walks
-pub mod Outer
-pub mod Rising
-pub mod Inverse
-pub mod OrderFound
-pub mod Fitted
-pub mod Labelled
-pub mod Edges
 pub mod Condensed
-pub mod GraphFound
-pub mod Orders
-pub mod Sound
-pub mod Decides
+pub mod Paths
+-- Traversals.
+pub mod Traversal
+pub mod Visited
 pub mod Closed
+pub mod Ranks
+-- Groups by two traversals.
 pub mod Last
 pub mod Trees
 pub mod Groups
 pub mod TwoPasses
+-- Labels: the labelling under an order, and the order for a labelling.
+pub mod Forests
+pub mod Fitted
+pub mod Walks
+pub mod Inverse
+pub mod Outer
+pub mod Orders
+pub mod Labelled
+pub mod Replay
+pub mod OrderFound
+-- Sound exactly where made.
+pub mod GraphFound
+pub mod Decides
+pub mod Sound
+pub mod Depends

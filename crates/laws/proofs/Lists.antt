@@ -1,9 +1,10 @@
--- Lists of numbers: membership, filters, positions.
-use mathlib.Core.Bool.{Bool, true, false, not, false≢true, _||_, or-assoc, or-comm, or-false}
+-- Lists of numbers: members, filters, the numbers below n and tables over them, positions, least and greatest. Each is an induction on the list, with
+-- a case for how the test of the head comes out.
+use mathlib.Core.Bool.{Bool, true, false, not, _||_, false≢true, or-false, or-comm, or-assoc}
 use mathlib.Core.Logic.{_⊎_, inl, inr}
 use mathlib.Core.Path.{_≡_, refl, sym, ap, ap₂, _∙_}
-use mathlib.Core.List.{List, [], _∷_, _++_, map, append-nil, reverse, reverse-cons}
-use Prim.Native.Nat.{ℕ, zero, suc, _<_, _+_, _≤_, min}
+use mathlib.Core.List.{List, [], _∷_, _++_, map, reverse, append-nil, reverse-cons}
+use Prim.Native.Nat.{ℕ, zero, suc, _+_, min, _<_, _≤_}
 use native.Mathlib.Nat.{not-suc-le-zero}
 use native.Mathlib.Decide.{ℕ-discrete, decLt}
 use native.Mathlib.Omega.{arith}
@@ -11,9 +12,10 @@ use lib.Dec.{eqb}
 use lib.ListN.{length, getD, length-append, length-map, List·getD-append}
 use lib.Seq.{getD-at, ext-getD}
 use borrow.Author.Tests.{eqb-true, eq-eqb}
-use Rattle.lineage.specs.Lists.{any, least, greatest, among, those, upto, position}
+use Rattle.lineage.specs.Lists.{upto, any, among, those, position, least, greatest}
 use Rattle.laws.proofs.Tests.{or-left, or-right, or-cases, clash, or-false-left, or-false-right}
 
+-- members of a list joined of two
 pub among-append : (x : ℕ) (a b : List ℕ) → among x (a ++ b) ≡ (among x a || among x b)
 among-append x [] b = refl
 among-append x (y ∷ a) b = rw (among-append x a b) (sym (or-assoc (eqb x y) (among x a) (among x b)))
@@ -42,6 +44,10 @@ in-right x a b h = rw (among-append x a b) (or-right (among x a) h)
 pub in-append : (x : ℕ) (a b : List ℕ) → among x (a ++ b) ≡ true → (among x a ≡ true) ⊎ (among x b ≡ true)
 in-append x a b h = or-cases (among x a) (among x b) (rw among-append at h)
 
+-- all of the one list is in the other
+abbrev pub Kept : List ℕ → List ℕ → Type 0
+Kept xs ys = (q : ℕ) → among q xs ≡ true → among q ys ≡ true
+
 -- a filter of a list joined of two
 pub those-append : (p : ℕ → Bool) (a b : List ℕ) → those p (a ++ b) ≡ those p a ++ those p b
 those-append p [] b = refl
@@ -51,6 +57,7 @@ those-append p (x ∷ a) b = at (p x) refl (those-append p a b)
     at true e ih = rw (e, those) (ap (x ∷_) ih)
     at false e ih = rw (e, those) ih
 
+-- a filter's head
 pub those-yes : (p : ℕ → Bool) (x : ℕ) (xs : List ℕ) → p x ≡ true → those p (x ∷ xs) ≡ x ∷ those p xs
 those-yes p x xs h = rw (h, those)
 
@@ -64,22 +71,23 @@ those-pass p x (y ∷ xs) h = at (p y) refl (those-pass p x xs)
   where
     at : (t : Bool) → p y ≡ t → (among x (those p xs) ≡ true → (p x ≡ true) × (among x xs ≡ true)) → (p x ≡ true) × (among x (y ∷ xs) ≡ true)
     at true e ih =
-        elim (or-cases (eqb x y) _ (rw (those-yes p y xs e) at h)) [
-          | inl i ↦ (rw (eqb-true x y i) e, or-left _ i)
+        elim (in-cons x y (those p xs) (rw (those-yes p y xs e) at h)) [
+          | inl i ↦ rw i (e, here y xs)
           | inr i ↦ (ih i .0, there x y xs (ih i .1))
         ]
     at false e ih = let i = ih (rw (those-no p y xs e) at h) in (i .0, there x y xs (i .1))
 
 pub those-keep : (p : ℕ → Bool) (x : ℕ) (xs : List ℕ) → p x ≡ true → among x xs ≡ true → among x (those p xs) ≡ true
 those-keep p x [] t h = h
-those-keep p x (y ∷ xs) t h = at (p y) refl (or-cases (eqb x y) _ h) (those-keep p x xs t)
+those-keep p x (y ∷ xs) t h = at (p y) refl (in-cons x y xs h) (those-keep p x xs t)
   where
-    at : (b : Bool) → p y ≡ b → (eqb x y ≡ true) ⊎ (among x xs ≡ true) → (among x xs ≡ true → among x (those p xs) ≡ true) → among x (those p (y ∷ xs)) ≡ true
-    at true e (inl i) ih = rw (those-yes p y xs e) (or-left _ i)
+    at : (b : Bool) → p y ≡ b → (x ≡ y) ⊎ (among x xs ≡ true) → (among x xs ≡ true → among x (those p xs) ≡ true) → among x (those p (y ∷ xs)) ≡ true
+    at true e (inl i) ih = rw (those-yes p y xs e, i) (here y (those p xs))
     at true e (inr i) ih = rw (those-yes p y xs e) (there x y (those p xs) (ih i))
-    at false e (inl i) ih = clash t (rw (eqb-true x y i) e)
+    at false e (inl i) ih = clash t (rw i e)
     at false e (inr i) ih = rw (those-no p y xs e) (ih i)
 
+-- a filter that keeps all, and one that keeps none
 pub those-all : (p : ℕ → Bool) (xs : List ℕ) → ((x : ℕ) → among x xs ≡ true → p x ≡ true) → those p xs ≡ xs
 those-all p [] all = refl
 those-all p (x ∷ xs) all = those-yes p x xs (all x (here x xs)) ∙ ap (x ∷_) (those-all p xs (λ y i. all y (there y x xs i)))
@@ -88,15 +96,7 @@ pub those-none : (p : ℕ → Bool) (xs : List ℕ) → ((x : ℕ) → among x x
 those-none p [] all = refl
 those-none p (x ∷ xs) all = those-no p x xs (all x (here x xs)) ∙ those-none p xs (λ y i. all y (there y x xs i))
 
--- tests and functions that agree on a list's members
-pub those-same : (p q : ℕ → Bool) (xs : List ℕ) → ((x : ℕ) → among x xs ≡ true → p x ≡ q x) → those p xs ≡ those q xs
-those-same p q [] all = refl
-those-same p q (x ∷ xs) all = at (p x) refl (all x (here x xs)) (those-same p q xs (λ y i. all y (there y x xs i)))
-  where
-    at : (t : Bool) → p x ≡ t → p x ≡ q x → those p xs ≡ those q xs → those p (x ∷ xs) ≡ those q (x ∷ xs)
-    at true e s ih = those-yes p x xs e ∙ ap (x ∷_) ih ∙ sym (those-yes q x xs (sym s ∙ e))
-    at false e s ih = those-no p x xs e ∙ ih ∙ sym (those-no q x xs (sym s ∙ e))
-
+-- functions that agree on a list's members
 pub map-same : {A : Type 0} (f g : ℕ → A) (xs : List ℕ) → ((x : ℕ) → among x xs ≡ true → f x ≡ g x) → map f xs ≡ map g xs
 map-same f g [] all = refl
 map-same f g (x ∷ xs) all = ap₂ _∷_ (all x (here x xs)) (map-same f g xs (λ y i. all y (there y x xs i)))
@@ -106,7 +106,9 @@ pub those-split : (p : ℕ → Bool) (xs : List ℕ) → length (those p xs) + l
 those-split p [] = omega arith
 those-split p (x ∷ xs) = at (p x) refl (those-split p xs)
   where
-    at : (t : Bool) → p x ≡ t → length (those p xs) + length (those (λ y. not (p y)) xs) ≡ length xs → length (those p (x ∷ xs)) + length (those (λ y. not (p y)) (x ∷ xs)) ≡ suc (length xs)
+    at :
+        (t : Bool) → p x ≡ t → length (those p xs) + length (those (λ y. not (p y)) xs) ≡ length xs
+        → length (those p (x ∷ xs)) + length (those (λ y. not (p y)) (x ∷ xs)) ≡ suc (length xs)
     at true e ih = rw (those-yes p x xs e, those-no (λ y. not (p y)) x xs (ap not e)) (omega arith)
     at false e ih = rw (those-no p x xs e, those-yes (λ y. not (p y)) x xs (ap not e)) (omega arith)
 
@@ -114,7 +116,7 @@ those-split p (x ∷ xs) = at (p x) refl (those-split p xs)
 pub any-in : (p : ℕ → Bool) (x : ℕ) (xs : List ℕ) → among x xs ≡ true → p x ≡ true → any p xs ≡ true
 any-in p x [] i t = i
 any-in p x (y ∷ xs) i t =
-    elim (or-cases (eqb x y) _ i) [ inl e ↦ or-left _ (rw (eqb-true x y e) at t) | inr j ↦ or-right (p y) (any-in p x xs j t) ]
+    elim (in-cons x y xs i) [ inl e ↦ or-left _ (rw e at t) | inr j ↦ or-right (p y) (any-in p x xs j t) ]
 
 pub in-any : (p : ℕ → Bool) (xs : List ℕ) → any p xs ≡ true → (x : ℕ) × (among x xs ≡ true) × (p x ≡ true)
 in-any p [] h = absurd (false≢true h)
@@ -138,7 +140,7 @@ upto-low zero v h = absurd (false≢true h)
 upto-low (suc n) v h =
     elim (in-append v (upto n) (n ∷ []) h) [
       | inl i ↦ omega (arith, upto-low n v i)
-      | inr i ↦ elim (or-cases (eqb v n) false i) [ inl e ↦ omega (arith, eqb-true v n e) | inr e ↦ absurd (false≢true e) ]
+      | inr i ↦ omega (arith, in-one v n i)
     ]
 
 pub length-upto : (n : ℕ) → length (upto n) ≡ n
@@ -213,19 +215,20 @@ in-getD (x ∷ xs) (suc i) h = there (getD xs i 0) x xs (in-getD xs i (omega ari
 pub in-map : (f : ℕ → ℕ) (x : ℕ) (xs : List ℕ) → among x xs ≡ true → among (f x) (map f xs) ≡ true
 in-map f x [] h = h
 in-map f x (y ∷ xs) h =
-    elim (or-cases (eqb x y) _ h) [
-      | inl e ↦ or-left _ (eq-eqb (f x) (f y) (ap f (eqb-true x y e)))
-      | inr i ↦ or-right (eqb (f x) (f y)) (in-map f x xs i)
+    elim (in-cons x y xs h) [
+      | inl e ↦ rw e (here (f y) (map f xs))
+      | inr i ↦ there (f x) (f y) (map f xs) (in-map f x xs i)
     ]
 
 pub of-map : (f : ℕ → ℕ) (y : ℕ) (xs : List ℕ) → among y (map f xs) ≡ true → (x : ℕ) × (among x xs ≡ true) × (y ≡ f x)
 of-map f y [] h = absurd (false≢true h)
 of-map f y (x ∷ xs) h =
-    elim (or-cases (eqb y (f x)) _ h) [
-      | inl e ↦ (x, here x xs, eqb-true y (f x) e)
+    elim (in-cons y (f x) (map f xs) h) [
+      | inl e ↦ (x, here x xs, e)
       | inr i ↦ let (z, j, o) = of-map f y xs i in (z, there z x xs j, o)
     ]
 
+-- members of a list turned round
 pub among-reverse : (x : ℕ) (l : List ℕ) → among x (reverse l) ≡ among x l
 among-reverse x [] = refl
 among-reverse x (y ∷ l) = rw (reverse-cons, among-append, among-reverse x l, or-comm (among x l), or-false (eqb x y))
@@ -238,25 +241,26 @@ least-below f a (x ∷ xs) = omega (arith, least-below f (min a (f x)) xs)
 pub least-at : (f : ℕ → ℕ) (a q : ℕ) (xs : List ℕ) → among q xs ≡ true → least a (map f xs) ≤ f q
 least-at f a q [] h = absurd (false≢true h)
 least-at f a q (x ∷ xs) h =
-    elim (or-cases (eqb q x) _ h) [
-      | inl e ↦ rw (eqb-true q x e) (omega (arith, least-below f (min a (f x)) xs))
+    elim (in-cons q x xs h) [
+      | inl e ↦ rw e (omega (arith, least-below f (min a (f x)) xs))
       | inr i ↦ least-at f (min a (f x)) q xs i
     ]
 
 pub least-above : (f : ℕ → ℕ) (a b : ℕ) (xs : List ℕ) → b ≤ a → ((q : ℕ) → among q xs ≡ true → b ≤ f q) → b ≤ least a (map f xs)
 least-above f a b [] h all = h
 least-above f a b (x ∷ xs) h all =
-    least-above f (min a (f x)) b xs (omega (arith, all x (or-left _ (eq-eqb x x refl)))) (λ q i. all q (or-right (eqb q x) i))
+    least-above f (min a (f x)) b xs (omega (arith, all x (here x xs))) (λ q i. all q (there q x xs i))
 
 -- the greatest of a list's values
 pub greatest-at : (f : ℕ → ℕ) (q : ℕ) (xs : List ℕ) → among q xs ≡ true → f q ≤ greatest (map f xs)
 greatest-at f q [] i = absurd (false≢true i)
 greatest-at f q (x ∷ xs) i =
-    elim (or-cases (eqb q x) _ i) [
-      | inl e ↦ omega (arith, ap f (eqb-true q x e))
+    elim (in-cons q x xs i) [
+      | inl e ↦ omega (arith, ap f e)
       | inr j ↦ omega (arith, greatest-at f q xs j)
     ]
 
+-- and of its numbers
 pub greatest-in : (xs : List ℕ) (i : ℕ) → i < length xs → getD xs i 0 ≤ greatest xs
 greatest-in [] i h = absurd (not-suc-le-zero h)
 greatest-in (x ∷ xs) zero h = omega arith

@@ -10,7 +10,7 @@ use Rattle.lineage.specs.Lists.{upto}
 use Rattle.lineage.specs.Graph.{Graph, Ends, stay, reaches, sameGroup, nameOf, namesOf}
 use Rattle.laws.specs.Leads.{OneGroup}
 use Rattle.laws.proofs.Tests.{and-both, and-left, and-right}
-use Rattle.laws.proofs.Lists.{table-at, table-long, in-upto}
+use Rattle.laws.proofs.Lists.{in-upto, table-at, table-long}
 use Rattle.laws.proofs.Rising.{rises-upto, first-of}
 use Rattle.laws.proofs.Reaches.{reaches-on, reaches-exactly}
 
@@ -43,6 +43,7 @@ module _ (G : Graph) (ends : Ends G) where
   name-group u h =
       same-group u (nameOf G u) .0 (first-of (sameGroup G u) (upto (G .n)) u u (rises-upto (G .n)) (in-upto (G .n) u h) (same-group u u .1 (stay, stay)) .0)
 
+  -- two vertices have one name exactly where they are in one group
   pub name-one : (u v : ℕ) → u < G .n → v < G .n → (nameOf G u ≡ nameOf G v) ↔ OneGroup G u v
   name-one u v h k = (
     λ e. group-on (name-group u h) (group-turn (subst (OneGroup G v) (sym e) (name-group v k))),

@@ -2,26 +2,26 @@
 -- forest enters them, the traversal is this forest again, and so the ranks, m by its subtrees and s by its equation are the labelling's own.
 use mathlib.Core.Bool.{true}
 use mathlib.Core.Path.{_≡_, refl, sym, ap, _∙_}
-use mathlib.Core.List.{List, _++_, map, append-nil, []}
+use mathlib.Core.List.{List, [], _++_, map, append-nil}
 use Prim.Native.Nat.{ℕ, suc, _<_}
 use native.Mathlib.Omega.{arith}
 use lib.ListN.{length, getD, drop}
 use lib.Seq.{drop-length}
-use Rattle.lineage.specs.Lists.{among, those, upto, position, least}
-use Rattle.lineage.specs.Labels.{Order, inOrder, Forest, finished, subtree, Labelling, nobodysChild, forestOf, outer, labelsBy, labelling}
+use Rattle.lineage.specs.Lists.{upto, among, those, position, least}
+use Rattle.lineage.specs.Labels.{Order, inOrder, Forest, nobodysChild, forestOf, finished, subtree, outer, Labelling, labelsBy, labelling}
 use Rattle.laws.specs.Visits.{Visits}
 use Rattle.laws.specs.Sound.{SoundLabelling, SoundGroups}
 use Rattle.laws.proofs.Lists.{table-is}
-use Rattle.laws.proofs.Traversal.{nextIn, forest-visits, unique}
+use Rattle.laws.proofs.Grouped.{listed-name, groups-rise, child-in}
+use Rattle.laws.proofs.Traversal.{unique, nextIn, forest-visits}
 use Rattle.laws.proofs.Visited.{distinct}
 use Rattle.laws.proofs.Ranks.{m-made}
-use Rattle.laws.proofs.Inverse.{e-position, e-some, e-most, at-e, e-one}
 use Rattle.laws.proofs.Forests.{Fits, entered, entered-finished, fits-count, member-low, rank-member}
-use Rattle.laws.proofs.Replay.{replayed}
-use Rattle.laws.proofs.Walks.{rankingOf, forest, fits-ranks, fits-before}
+use Rattle.laws.proofs.Walks.{rankingOf, forest, fits-before, fits-ranks}
+use Rattle.laws.proofs.Inverse.{e-position, e-some, e-most, at-e, e-one}
 use Rattle.laws.proofs.Outer.{outer-is}
-use Rattle.laws.proofs.Grouped.{listed-name, groups-rise, child-in}
 use Rattle.laws.proofs.Orders.{order-for}
+use Rattle.laws.proofs.Replay.{replayed}
 
 module _
     {names groups levels : List ℕ} {children : List (List ℕ)} (S : SoundGroups names groups levels children)
@@ -96,6 +96,7 @@ module _
     unfolding labelling
     same-labelling order o = rw (← S .children-long, o, same-forest) labels-same
 
+    -- so some order makes the labelling
     pub order-found : (order : List ℕ) × Order (length names) order × (labelling groups children order ≡ l)
     order-found =
         let (order, o, i) =

@@ -7,10 +7,10 @@ use Prim.Native.Nat.{ℕ, _<_}
 use native.Mathlib.Omega.{arith}
 use lib.ListN.{length, getD, length-map, length-append}
 use borrow.Author.Tests.{not-true}
-use Rattle.lineage.specs.Lists.{among, those, upto}
+use Rattle.lineage.specs.Lists.{upto, among, those}
 use Rattle.lineage.specs.Graph.{placeOf}
-use Rattle.lineage.specs.Labels.{inOrder, Order}
-use Rattle.laws.proofs.Lists.{in-left, in-right, in-getD, position-low, at-position, in-map, of-map, map-same, those-append, those-all, those-none, those-pass, those-keep, those-split, in-upto, length-upto}
+use Rattle.lineage.specs.Labels.{Order, inOrder}
+use Rattle.laws.proofs.Lists.{in-left, in-right, those-append, those-pass, those-keep, those-all, those-none, map-same, those-split, in-upto, length-upto, position-low, at-position, in-getD, in-map, of-map}
 use Rattle.laws.proofs.Rising.{Distinct, position-getD, Rises, rises-upto, rises-those, rises-distinct, rises-unique}
 
 module _ (groups : List ℕ) where
@@ -18,16 +18,21 @@ module _ (groups : List ℕ) where
   abbrev isName : ℕ → Bool
   isName v = among v groups
 
+  -- the places of an order are places
   pub places-low : (order : List ℕ) (p : ℕ) → among p (inOrder order groups) ≡ true → p < length groups
   unfolding inOrder
   places-low order p i =
       let (v, j, e) = of-map (placeOf groups) p (those isName order) i in
       rw e (position-low v groups (those-pass isName v order j .0))
 
-  pub places-all : (order : List ℕ) → Distinct groups → (p : ℕ) → p < length groups → among (getD groups p 0) order ≡ true → among p (inOrder order groups) ≡ true
+  -- and all of them
+  pub places-all :
+      (order : List ℕ) → Distinct groups → (p : ℕ) → p < length groups → among (getD groups p 0) order ≡ true
+      → among p (inOrder order groups) ≡ true
   unfolding inOrder
   places-all order once p h i =
-      rw (position-getD groups once p h) at (in-map (placeOf groups) (getD groups p 0) (those isName order) (those-keep isName (getD groups p 0) order (in-getD groups p h) i))
+      rw (position-getD groups once p h) at
+      (in-map (placeOf groups) (getD groups p 0) (those isName order) (those-keep isName (getD groups p 0) order (in-getD groups p h) i))
 
   module _
       (n : ℕ) (places : List ℕ) (rise : Rises groups)
@@ -65,7 +70,9 @@ module _ (groups : List ℕ) where
               ∙ append-nil (map nameAt places)
 
           back : map (λ p. placeOf groups (nameAt p)) places ≡ places
-          back = map-same (λ p. placeOf groups (nameAt p)) (λ p. p) places (λ p i. position-getD groups (rises-distinct groups rise) p (low p i)) ∙ same places
+          back =
+              map-same (λ p. placeOf groups (nameAt p)) (λ p. p) places (λ p i. position-getD groups (rises-distinct groups rise) p (low p i))
+              ∙ same places
 
       -- the names among all vertices are the group list
       names-are : those isName (upto n) ≡ groups
@@ -96,5 +103,6 @@ module _ (groups : List ℕ) where
               (rw (at-position v groups e) at (in-map nameAt (placeOf groups v) places (all (placeOf groups v) (position-low v groups e))))
           at v h false e = in-right v (map nameAt places) others (those-keep (λ x. not (isName x)) v (upto n) (ap not e) (in-upto n v h))
 
+      -- so any sequence of all places is that of some order
       pub order-for : (o : List ℕ) × Order n o × (inOrder o groups ≡ places)
       order-for = (order, is-order, its-places)

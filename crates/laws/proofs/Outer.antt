@@ -44,6 +44,8 @@ module _
         (λ q i. stable f q (child-low p q h i) (omega (arith, falls p q h i))))
 
     -- what the recursion gives meets the equation
-    pub outer-meets : (f p : ℕ) → p < length children → getD e p 0 ≤ suc f → outer children e f p ≡ least (getD e p 0) (map (outer children e f) (getD children p []))
+    pub outer-meets :
+        (f p : ℕ) → p < length children → getD e p 0 ≤ suc f
+        → outer children e f p ≡ least (getD e p 0) (map (outer children e f) (getD children p []))
     unfolding outer
     outer-meets f p h l = stable f p h l

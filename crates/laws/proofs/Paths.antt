@@ -2,21 +2,21 @@
 -- a group reaches its children, each vertex of a group reaching every other.
 use mathlib.Core.Bool.{true}
 use mathlib.Core.Logic.{_↔_}
-use mathlib.Core.Path.{_≡_, refl}
+use mathlib.Core.Path.{_≡_, refl, sym, ap, subst, _∙_}
 use mathlib.Core.List.{List}
 use Prim.Native.Nat.{ℕ, _<_}
 use native.Mathlib.Decide.{ℕ-discrete}
 use native.Mathlib.Omega.{arith}
 use lib.ListN.{length, getD}
 use Rattle.lineage.specs.Lists.{upto}
-use Rattle.lineage.specs.Graph.{Graph, Edge, Ends, Reaches, namesOf, groupList, placeOf, childrenOf, isChild, stay as here, step as go}
+use Rattle.lineage.specs.Graph.{Graph, Edge, Ends, Reaches, stay as here, step as go, namesOf, groupList, placeOf, isChild, childrenOf}
 use Rattle.lineage.specs.Sound.{childOf}
-use Rattle.laws.specs.Leads.{Down, stay, step, OneGroup}
+use Rattle.laws.specs.Leads.{stay, step, Down, OneGroup}
 use Rattle.laws.proofs.Lists.{those-keep, in-upto}
-use Rattle.laws.proofs.Reaches.{reaches-on}
 use Rattle.laws.proofs.Edges.{child-from}
-use Rattle.laws.proofs.Names.{name-group, names-long, name-at}
-use Rattle.laws.proofs.Grouped.{child-in, place-low, name-of-place}
+use Rattle.laws.proofs.Reaches.{reaches-on}
+use Rattle.laws.proofs.Names.{group-turn, group-on, name-group, name-one, names-long, name-at}
+use Rattle.laws.proofs.Grouped.{place-low, name-of-place, child-in}
 use Rattle.laws.proofs.Condensed.{children-long, children-at, child-path, groups-sound}
 
 module _ (G : Graph) (ends : Ends G) where
@@ -46,6 +46,13 @@ module _ (G : Graph) (ends : Ends G) where
   at-place : (u : ℕ) → u < G .n → OneGroup G u (getD groups (place u) 0)
   at-place u h = rw (place-name u h, name-at G ends u h) (name-group G ends u h)
 
+  -- two vertices have one place exactly where they are in one group
+  pub places-exactly : (u v : ℕ) → u < G .n → v < G .n → (place u ≡ place v) ↔ OneGroup G u v
+  places-exactly u v hu hv = (
+    λ e. group-on G ends (at-place u hu) (group-turn G ends (subst (λ p. OneGroup G v (getD groups p 0)) (sym e) (at-place v hv))),
+    λ m. ap (placeOf groups) (name-at G ends u hu ∙ name-one G ends u v hu hv .1 m ∙ sym (name-at G ends v hv)),
+  )
+
   -- an edge between groups makes the one a child of the other
   edge-child : (u w : ℕ) → Edge (G .sources) (G .targets) u w → (getD names u 0 ≡ getD names w 0 → ⊥) → childOf children (place u) (place w) ≡ true
   edge-child u w e apart =
@@ -70,6 +77,7 @@ module _ (G : Graph) (ends : Ends G) where
       let j : x < length groups = omega (arith, children-long G ends, child-in (groups-sound G ends) p x (omega (arith, children-long G ends)) i) in
       reaches-on (child-path G ends p x h i) (down-path j d)
 
+  -- a path between vertices is a path down children between their groups
   pub paths-exactly : (u v : ℕ) → u < G .n → v < G .n → Reaches G u v ↔ Down children (place u) (place v)
   paths-exactly u v hu hv = (
     path-down,

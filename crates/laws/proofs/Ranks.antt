@@ -1,18 +1,18 @@
 -- Each subtree is one run of the order of finishing: what was finished before x was entered, then x's subtree with x last, then all that is
 -- finished once x is. So the least rank in the subtree, m, is one more than what was finished before, and the ranks from m to e are the subtree's.
 use mathlib.Core.Bool.{Bool, true, false, false≢true}
-use mathlib.Core.Logic.{_↔_, inl, inr, _⊎_}
-use mathlib.Core.Path.{_≡_, refl, sym, ap, subst, _∙_, ap₂}
+use mathlib.Core.Logic.{_⊎_, inl, inr, _↔_}
+use mathlib.Core.Path.{_≡_, refl, sym, ap, ap₂, subst, _∙_}
 use mathlib.Core.List.{List, [], _∷_, _++_, map, append-assoc}
-use Prim.Native.Nat.{ℕ, suc, _≤_, _+_, _<_}
+use Prim.Native.Nat.{ℕ, suc, _+_, _<_, _≤_}
 use native.Mathlib.Omega.{arith}
 use lib.Dec.{eqb}
 use lib.ListN.{length}
 use borrow.Author.Tests.{eqb-true, eq-eqb}
 use Rattle.lineage.specs.Lists.{among, position, least}
 use Rattle.lineage.specs.Labels.{Forest, done, visit, finished, subtree}
-use Rattle.laws.proofs.Lists.{among-append, here, in-append, in-left, in-right, position-past, position-in, least-at, least-above, in-one, map-same}
-use Rattle.laws.proofs.Rising.{Distinct, distinct-apart, distinct-right}
+use Rattle.laws.proofs.Lists.{among-append, here, in-one, in-left, in-right, in-append, map-same, position-past, position-in, least-at, least-above}
+use Rattle.laws.proofs.Rising.{Distinct, distinct-right, distinct-apart}
 
 -- what was finished before x was entered
 abbrev pub before : ℕ → Forest → List ℕ
@@ -102,7 +102,9 @@ module _ (pre seg post : List ℕ) (once : Distinct (pre ++ (seg ++ post))) wher
         least-above f (f x) (suc (length pre)) seg (omega (arith, in-run x j)) (λ q i. omega (arith, in-run q i)),
       )
 
-  only-run : (x t : ℕ) → among x seg ≡ true → among t whole ≡ true → length pre ≤ position t whole → position t whole ≤ position x whole → among t seg ≡ true
+  only-run :
+      (x t : ℕ) → among x seg ≡ true → among t whole ≡ true → length pre ≤ position t whole → position t whole ≤ position x whole
+      → among t seg ≡ true
   only-run x t j i low high =
       elim (in-append t pre (seg ++ post) i) [
         | inl k ↦ absurd (omega (arith, position-in t pre (seg ++ post) k))
@@ -114,12 +116,15 @@ module _ (pre seg post : List ℕ) (once : Distinct (pre ++ (seg ++ post))) wher
       at false e p = absurd (omega (arith, in-run x j, position-in x seg post j, position-past t seg post e))
 
   -- the last of the run stands behind all of it
-  last-of-run : (x : ℕ) (ys : List ℕ) → seg ≡ ys ++ (x ∷ []) → (t : ℕ) → among t seg ≡ true → (length pre ≤ position t whole) × (position t whole ≤ position x whole)
+  last-of-run :
+      (x : ℕ) (ys : List ℕ) → seg ≡ ys ++ (x ∷ []) → (t : ℕ) → among t seg ≡ true
+      → (length pre ≤ position t whole) × (position t whole ≤ position x whole)
   last-of-run x ys e t j =
       let split : seg ++ post ≡ ys ++ (x ∷ post) = ap (_++ post) e ∙ append-assoc ys (x ∷ []) post in
       let own : among x seg ≡ true = rw e (in-right x ys (x ∷ []) (here x [])) in
       let once-x : Distinct (ys ++ (x ∷ post)) = rw split at (distinct-right pre (seg ++ post) once) in
-      let at-x : position x (seg ++ post) ≡ length ys = rw split (position-past x ys (x ∷ post) (distinct-apart ys (x ∷ post) once-x x (here x post)) ∙ zero-more x) in
+      let apart : among x ys ≡ false = distinct-apart ys (x ∷ post) once-x x (here x post) in
+      let at-x : position x (seg ++ post) ≡ length ys = rw split (position-past x ys (x ∷ post) apart ∙ zero-more x) in
       let at-t : position t (seg ++ post) ≤ length ys = rw split (before-last (in-append t ys (x ∷ []) (rw e at j))) in
       omega (arith, in-run t j, in-run x own)
     where
@@ -137,7 +142,7 @@ module _ (pre seg post : List ℕ) (once : Distinct (pre ++ (seg ++ post))) wher
 -- the same of a traversal
 module _ (f : Forest) (once : Distinct (finished f)) (x : ℕ) (i : among x (finished f) ≡ true) where
   -- m is one more than what was finished before
-  pub m-law : least (rank f x) (map (rank f) (subtree x f)) ≡ suc (length (before x f))
+  m-law : least (rank f x) (map (rank f) (subtree x f)) ≡ suc (length (before x f))
   m-law =
       subst (λ (l : List ℕ). least (suc (position x l)) (map (λ q. suc (position q l)) (subtree x f)) ≡ suc (length (before x f))) (sym (run x f i))
       (least-of-run (before x f) (subtree x f) (behind x f) (rw (run x f i) at once) x (subtree-self x f i))

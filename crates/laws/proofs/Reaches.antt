@@ -1,34 +1,36 @@
 -- `reaches` computes whether a path leads from u to v. A path whose vertices in between are below k + 1 is one that keeps below k, or one
 -- that goes to k and on from k, each part keeping below k; so paths that keep below k join at each vertex below k, and with k = n at every vertex.
-use mathlib.Core.Bool.{true, _&&_, false≢true}
+use mathlib.Core.Bool.{Bool, true, _&&_}
 use mathlib.Core.Logic.{_⊎_, inl, inr, _↔_}
-use mathlib.Core.Path.{_≡_, refl}
-use mathlib.Core.List.{List, [], _∷_}
+use mathlib.Core.Path.{_≡_, refl, subst}
+use mathlib.Core.List.{List}
 use Prim.Native.Nat.{ℕ, zero, suc, _<_}
 use native.Mathlib.Nat.{not-suc-le-zero}
 use native.Mathlib.Decide.{ℕ-discrete}
 use native.Mathlib.Omega.{arith}
 use lib.Dec.{eqb}
 use borrow.Author.Tests.{eqb-true, eq-eqb}
-use Rattle.lineage.specs.Graph.{Graph, Edge, first, later, Ends, Reaches, stay, step, someEdge, via, reaches}
+use Rattle.lineage.specs.Graph.{Graph, Edge, Ends, Reaches, stay, step, someEdge, via, reaches}
 use Rattle.laws.proofs.Tests.{or-left, or-right, or-cases, and-both, and-left, and-right}
+use Rattle.laws.proofs.Edges.{some-edge, edge-some}
 
+-- paths join
 pub reaches-on : {G : Graph} {u w v : ℕ} → Reaches G u w → Reaches G w v → Reaches G u v
 reaches-on stay q = q
 reaches-on (step e p) q = step e (reaches-on p q)
 
-edge-to : (u v : ℕ) (S T : List ℕ) → someEdge (λ s t. eqb s u && eqb t v) S T ≡ true → Edge S T u v
-edge-to u v [] T h = absurd (false≢true h)
-edge-to u v (x ∷ S) [] h = absurd (false≢true h)
-edge-to u v (x ∷ S) (y ∷ T) h =
-    elim (or-cases (eqb x u && eqb y v) _ h) [
-      | inl i ↦ rw (← eqb-true x u (and-left (eqb x u) _ i), ← eqb-true y v (and-right (eqb x u) _ i)) first
-      | inr i ↦ later (edge-to u v S T i)
-    ]
+-- whether an edge leads from u to v, as a test
+abbrev between : ℕ → ℕ → ℕ → ℕ → Bool
+between u v s t = eqb s u && eqb t v
 
-edge-from : {u v : ℕ} {S T : List ℕ} → Edge S T u v → someEdge (λ s t. eqb s u && eqb t v) S T ≡ true
-edge-from (first {u = u} {v = v}) = or-left _ (and-both (eq-eqb u u refl) (eq-eqb v v refl))
-edge-from {u} {v} (later {x = x} {y = y} e) = or-right (eqb x u && eqb y v) (edge-from e)
+edge-to : (u v : ℕ) (S T : List ℕ) → someEdge (between u v) S T ≡ true → Edge S T u v
+edge-to u v S T h =
+    let (s, t, e, b) = some-edge (between u v) S T h in
+    let from : Edge S T u t = subst (λ x. Edge S T x t) (eqb-true s u (and-left (eqb s u) _ b)) e in
+    subst (Edge S T u) (eqb-true t v (and-right (eqb s u) _ b)) from
+
+edge-from : {u v : ℕ} {S T : List ℕ} → Edge S T u v → someEdge (between u v) S T ≡ true
+edge-from {u} {v} e = edge-some (between u v) e (and-both (eq-eqb u u refl) (eq-eqb v v refl))
 
 module _ (G : Graph) where
   via-path : (k u v : ℕ) → via G k u v ≡ true → Reaches G u v
@@ -95,6 +97,7 @@ module _ (G : Graph) where
     path-via (step {u = u} {w = w} {v = v} e p) =
         join (G .n) w u v (ends .targets-low u w e) (via-grows (G .n) u w (or-right (eqb u w) (edge-from e))) (path-via p)
 
+    -- `reaches` computes whether a path leads from u to v
     pub reaches-exactly : (u v : ℕ) → (reaches G u v ≡ true) ↔ Reaches G u v
     unfolding reaches
     reaches-exactly u v = (via-path (G .n) u v, path-via)

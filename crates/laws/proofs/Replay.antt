@@ -4,7 +4,7 @@
 use mathlib.Core.Bool.{Bool, true, false, false≢true}
 use mathlib.Core.Logic.{inl, inr}
 use mathlib.Core.Path.{_≡_, sym, ap, _∙_}
-use mathlib.Core.List.{List, [], _∷_, _++_, append-assoc, append-nil}
+use mathlib.Core.List.{List, [], _∷_, _++_, append-nil, append-assoc}
 use Prim.Native.Nat.{ℕ, suc, _<_, _≤_}
 use native.Mathlib.Decide.{decLe}
 use native.Mathlib.Omega.{arith}
@@ -12,10 +12,10 @@ use Rattle.lineage.specs.Lists.{among, those}
 use Rattle.lineage.specs.Labels.{Forest, done, after}
 use Rattle.laws.specs.Visits.{Visits, over, skip, enter}
 use Rattle.laws.proofs.Tests.{is-false}
-use Rattle.laws.proofs.Lists.{here, there, in-left, in-right, in-append, those-append, those-yes, those-pass, in-one, in-cons}
+use Rattle.laws.proofs.Lists.{here, there, in-cons, in-one, in-left, in-right, in-append, Kept, those-append, those-yes, those-pass}
+use Rattle.laws.proofs.Traversal.{kept}
+use Rattle.laws.proofs.Visited.{seen-cases, visited-seen}
 use Rattle.laws.proofs.Forests.{Ranking, Fits, none, tree, entered, joinF, join-done, entered-finished, block-up, member-rank, rank-member}
-use Rattle.laws.proofs.Visited.{visited-seen, seen-cases}
-use Rattle.laws.proofs.Traversal.{Kept, kept}
 
 -- groups already seen are passed over
 skips : {next : ℕ → List ℕ} {seen : List ℕ} {f : Forest} (xs todo : List ℕ) → Kept xs seen → Visits next todo seen f → Visits next (xs ++ todo) seen f
@@ -38,7 +38,9 @@ module _
     Covered seen lo = (x : ℕ) → among x ord ≡ true → R .e x ≤ lo → among x seen ≡ true
 
     -- children of p that stand outside its block have been seen when it is entered
-    passed : (p : ℕ) {lo r : ℕ} (xs seen : List ℕ) → p < R .k → R .e p ≡ suc r → Outside xs lo r → Covered seen lo → Kept xs ord → Kept (those (R .child p) xs) seen
+    passed :
+        (p : ℕ) {lo r : ℕ} (xs seen : List ℕ) → p < R .k → R .e p ≡ suc r → Outside xs lo r → Covered seen lo → Kept xs ord
+        → Kept (those (R .child p) xs) seen
     passed p xs seen h y o c i x j =
         let t = those-pass (R .child p) x xs j in
         c x (i x (t .1)) (o x (t .1) (omega (arith, falls p x h (t .0))))

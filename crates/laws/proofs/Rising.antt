@@ -1,27 +1,29 @@
--- Rising lists: a filter of the numbers below n is one, and its members determine it. Counting.
+-- Lists without repeats, rising lists, and counting. A rising list is told by its members, and has no repeats; a filter of a rising list rises. A list
+-- without repeats is no longer than one that holds all its members, so n numbers below n without repeats are all of them.
 use mathlib.Core.Bool.{Bool, true, false, not, false≢true}
 use mathlib.Core.Logic.{_⊎_, inl, inr}
-use mathlib.Core.Path.{_≡_, refl, sym, ap, ap₂}
+use mathlib.Core.Path.{_≡_, refl, ap, ap₂}
 use mathlib.Core.List.{List, [], _∷_, _++_}
-use Prim.Native.Nat.{ℕ, zero, suc, _<_, _≤_, _+_}
+use Prim.Native.Nat.{ℕ, zero, suc, _+_, _<_, _≤_}
 use native.Mathlib.Nat.{not-suc-le-zero}
 use native.Mathlib.Omega.{arith}
 use lib.Dec.{eqb}
 use lib.ListN.{length, getD}
-use borrow.Author.Tests.{eqb-true, eq-eqb, ne-eqb}
-use Rattle.lineage.specs.Lists.{among, those, upto, position, firstOf}
-use Rattle.laws.proofs.Tests.{or-cases, clash, is-false, or-left, or-right}
-use Rattle.laws.proofs.Lists.{here, there, in-append, in-getD, those-yes, those-no, those-pass, those-keep, upto-low, in-upto, length-upto, position-low, at-position, among-append, in-left}
+use borrow.Author.Tests.{eq-eqb, ne-eqb}
+use Rattle.lineage.specs.Lists.{upto, among, those, firstOf, position}
+use Rattle.laws.proofs.Tests.{clash, is-false}
+use Rattle.laws.proofs.Lists.{among-append, here, there, in-cons, in-one, in-left, in-right, in-append, Kept, those-yes, those-no, those-pass, those-keep, those-all, those-split, in-upto, upto-low, length-upto, position-low, at-position, in-getD}
 
 -- no number stands twice
 abbrev pub Distinct : List ℕ → Type 0
 Distinct [] = Unit {0}
 Distinct (x ∷ xs) = (among x xs ≡ false) × Distinct xs
 
+-- joined lists without repeats, where they share no number, and the way back
 pub distinct-append : (a b : List ℕ) → Distinct a → Distinct b → ((x : ℕ) → among x a ≡ true → among x b ≡ false) → Distinct (a ++ b)
 distinct-append [] b da db apart = db
 distinct-append (x ∷ a) b da db apart =
-    (rw (among-append x a b, da .0) (apart x (or-left _ (eq-eqb x x refl))), distinct-append a b (da .1) db (λ y h. apart y (or-right (eqb y x) h)))
+    (rw (among-append x a b, da .0) (apart x (here x a)), distinct-append a b (da .1) db (λ y h. apart y (there y x a h)))
 
 pub distinct-right : (a b : List ℕ) → Distinct (a ++ b) → Distinct b
 distinct-right [] b d = d
@@ -30,8 +32,8 @@ distinct-right (x ∷ a) b d = distinct-right a b (d .1)
 pub distinct-apart : (a b : List ℕ) → Distinct (a ++ b) → (x : ℕ) → among x b ≡ true → among x a ≡ false
 distinct-apart [] b d x h = refl
 distinct-apart (y ∷ a) b d x h =
-    is-false (among x (y ∷ a)) (λ t. elim (or-cases (eqb x y) _ t) [
-      | inl e ↦ clash (rw (among-append y a b, ← eqb-true x y e) (or-right (among x a) h)) (d .0)
+    is-false (among x (y ∷ a)) (λ t. elim (in-cons x y a t) [
+      | inl e ↦ clash (in-right y a b (rw e at h)) (d .0)
       | inr i ↦ clash i (distinct-apart a b (d .1) x h)
     ])
 
@@ -58,7 +60,7 @@ rises-snoc [] n r l = ((λ y i. absurd (false≢true i)), tt)
 rises-snoc (x ∷ xs) n r l = (
   (λ y i. elim (in-append y xs (n ∷ []) i) [
     | inl j ↦ r .0 y j
-    | inr j ↦ elim (or-cases (eqb y n) false j) [ inl e ↦ rw (eqb-true y n e) (l x (here x xs)) | inr e ↦ absurd (false≢true e) ]
+    | inr j ↦ rw (in-one y n j) (l x (here x xs))
   ]),
   rises-snoc xs n (r .1) (λ y i. l y (there y x xs i)),
 )
@@ -81,18 +83,18 @@ rises-distinct (x ∷ xs) r = (is-false (among x xs) (λ i. absurd (omega (arith
 
 -- the head is the least
 head-least : (x y : ℕ) (xs : List ℕ) → Rises (x ∷ xs) → among y (x ∷ xs) ≡ true → x ≤ y
-head-least x y xs r i = elim (or-cases (eqb y x) _ i) [ inl e ↦ omega (arith, eqb-true y x e) | inr j ↦ omega (arith, r .0 y j) ]
+head-least x y xs r i = elim (in-cons y x xs i) [ inl e ↦ omega arith | inr j ↦ omega (arith, r .0 y j) ]
 
 -- rising lists with the same members are equal
-pub rises-unique : (xs ys : List ℕ) → Rises xs → Rises ys → ((q : ℕ) → among q xs ≡ true → among q ys ≡ true) → ((q : ℕ) → among q ys ≡ true → among q xs ≡ true) → xs ≡ ys
+pub rises-unique : (xs ys : List ℕ) → Rises xs → Rises ys → Kept xs ys → Kept ys xs → xs ≡ ys
 rises-unique [] [] r s to from = refl
 rises-unique [] (y ∷ ys) r s to from = absurd (false≢true (from y (here y ys)))
 rises-unique (x ∷ xs) [] r s to from = absurd (false≢true (to x (here x xs)))
 rises-unique (x ∷ xs) (y ∷ ys) r s to from =
     let same : x ≡ y = omega (arith, head-least x y xs r (from y (here y ys)), head-least y x ys s (to x (here x xs))) in
     ap₂ _∷_ same (rises-unique xs ys (r .1) (s .1)
-    (λ q i. elim (or-cases (eqb q y) _ (to q (there q x xs i))) [ inl e ↦ absurd (omega (arith, r .0 q i, eqb-true q y e)) | inr j ↦ j ])
-    (λ q i. elim (or-cases (eqb q x) _ (from q (there q y ys i))) [ inl e ↦ absurd (omega (arith, s .0 q i, eqb-true q x e)) | inr j ↦ j ]))
+    (λ q i. elim (in-cons q y ys (to q (there q x xs i))) [ inl e ↦ absurd (omega (arith, r .0 q i)) | inr j ↦ j ])
+    (λ q i. elim (in-cons q x xs (from q (there q y ys i))) [ inl e ↦ absurd (omega (arith, s .0 q i)) | inr j ↦ j ]))
 
 -- rising, neighbour by neighbour
 pub rises-next : (xs : List ℕ) → Rises xs → (i : ℕ) → suc i < length xs → getD xs i 0 < getD xs (suc i) 0
@@ -112,14 +114,14 @@ pub first-of :
     (p : ℕ → Bool) (xs : List ℕ) (other a : ℕ) → Rises xs → among a xs ≡ true → p a ≡ true
     → (p (firstOf p xs other) ≡ true) × (among (firstOf p xs other) xs ≡ true) × (firstOf p xs other ≤ a)
 first-of p [] other a r i t = absurd (false≢true i)
-first-of p (x ∷ xs) other a r i t = at (p x) refl (or-cases (eqb a x) _ i) (λ j. first-of p xs other a (r .1) j t)
+first-of p (x ∷ xs) other a r i t = at (p x) refl (in-cons a x xs i) (λ j. first-of p xs other a (r .1) j t)
   where
     at :
-        (b : Bool) → p x ≡ b → (eqb a x ≡ true) ⊎ (among a xs ≡ true)
+        (b : Bool) → p x ≡ b → (a ≡ x) ⊎ (among a xs ≡ true)
         → (among a xs ≡ true → (p (firstOf p xs other) ≡ true) × (among (firstOf p xs other) xs ≡ true) × (firstOf p xs other ≤ a))
         → (p (firstOf p (x ∷ xs) other) ≡ true) × (among (firstOf p (x ∷ xs) other) (x ∷ xs) ≡ true) × (firstOf p (x ∷ xs) other ≤ a)
     at true e c ih = rw (e, firstOf) (e, here x xs, head-least x a xs r i)
-    at false e (inl j) ih = clash t (rw (eqb-true a x j) e)
+    at false e (inl j) ih = clash t (rw j e)
     at false e (inr j) ih = let f = ih j in rw (e, firstOf) (f .0, there (firstOf p xs other) x xs (f .1), f .2)
 
 -- a stronger test keeps fewer
@@ -127,54 +129,52 @@ pub those-le : (p q : ℕ → Bool) (xs : List ℕ) → ((x : ℕ) → p x ≡ t
 those-le p q [] w = omega arith
 those-le p q (x ∷ xs) w = at (p x) refl (q x) refl (those-le p q xs w)
   where
-    at : (a : Bool) → p x ≡ a → (b : Bool) → q x ≡ b → length (those p xs) ≤ length (those q xs) → length (those p (x ∷ xs)) ≤ length (those q (x ∷ xs))
+    at :
+        (a : Bool) → p x ≡ a → (b : Bool) → q x ≡ b → length (those p xs) ≤ length (those q xs)
+        → length (those p (x ∷ xs)) ≤ length (those q (x ∷ xs))
     at true e true f ih = rw (those-yes p x xs e, those-yes q x xs f) (omega arith)
     at true e false f ih = clash (w x e) f
     at false e true f ih = rw (those-no p x xs e, those-yes q x xs f) (omega arith)
     at false e false f ih = rw (those-no p x xs e, those-no q x xs f) ih
 
-pub those-lt : (p q : ℕ → Bool) (xs : List ℕ) (a : ℕ) → ((x : ℕ) → p x ≡ true → q x ≡ true) → among a xs ≡ true → q a ≡ true → p a ≡ false → length (those p xs) < length (those q xs)
+pub those-lt :
+    (p q : ℕ → Bool) (xs : List ℕ) (a : ℕ) → ((x : ℕ) → p x ≡ true → q x ≡ true) → among a xs ≡ true → q a ≡ true → p a ≡ false
+    → length (those p xs) < length (those q xs)
 those-lt p q [] a w i t n = absurd (false≢true i)
-those-lt p q (x ∷ xs) a w i t n = at (or-cases (eqb a x) _ i) (p x) refl (q x) refl (λ j. those-lt p q xs a w j t n)
+those-lt p q (x ∷ xs) a w i t n = at (in-cons a x xs i) (p x) refl (q x) refl (λ j. those-lt p q xs a w j t n)
   where
     at :
-        (eqb a x ≡ true) ⊎ (among a xs ≡ true) → (b : Bool) → p x ≡ b → (c : Bool) → q x ≡ c
+        (a ≡ x) ⊎ (among a xs ≡ true) → (b : Bool) → p x ≡ b → (c : Bool) → q x ≡ c
         → (among a xs ≡ true → length (those p xs) < length (those q xs))
         → length (those p (x ∷ xs)) < length (those q (x ∷ xs))
     at (inl j) b e c f ih =
-        rw (those-no p x xs (rw (← eqb-true a x j) n), those-yes q x xs (rw (← eqb-true a x j) t)) (omega (arith, those-le p q xs w))
+        rw (those-no p x xs (rw j at n), those-yes q x xs (rw j at t)) (omega (arith, those-le p q xs w))
     at (inr j) true e true f ih = rw (those-yes p x xs e, those-yes q x xs f) (omega (arith, ih j))
     at (inr j) true e false f ih = clash (w x e) f
     at (inr j) false e true f ih = rw (those-no p x xs e, those-yes q x xs f) (omega (arith, ih j))
     at (inr j) false e false f ih = rw (those-no p x xs e, those-no q x xs f) (ih j)
 
+-- a filter keeps no more than there are
 pub those-short : (p : ℕ → Bool) (xs : List ℕ) → length (those p xs) ≤ length xs
-those-short p [] = omega arith
-those-short p (x ∷ xs) = at (p x) refl (those-short p xs)
-  where
-    at : (t : Bool) → p x ≡ t → length (those p xs) ≤ length xs → length (those p (x ∷ xs)) ≤ suc (length xs)
-    at true e ih = rw (those-yes p x xs e) (omega arith)
-    at false e ih = rw (those-no p x xs e) (omega arith)
+those-short p xs = omega (arith, those-split p xs)
 
+-- a list without its x's is shorter, where x is in it
 without : (x : ℕ) (ys : List ℕ) → among x ys ≡ true → length (those (λ y. not (eqb y x)) ys) < length ys
-without x [] i = absurd (false≢true i)
-without x (y ∷ ys) i = at (eqb y x) refl (or-cases (eqb x y) _ i) (without x ys)
-  where
-    others : ℕ → Bool
-    others z = not (eqb z x)
-
-    at : (t : Bool) → eqb y x ≡ t → (eqb x y ≡ true) ⊎ (among x ys ≡ true) → (among x ys ≡ true → length (those others ys) < length ys) → length (those others (y ∷ ys)) < suc (length ys)
-    at true e c ih = rw (those-no others y ys (ap not e)) (omega (arith, those-short others ys))
-    at false e (inl j) ih = clash (eq-eqb y x (sym (eqb-true x y j))) e
-    at false e (inr j) ih = rw (those-yes others y ys (ap not e)) (omega (arith, ih j))
+without x ys i =
+    rw (those-all (λ y. true) ys (λ y j. refl)) at
+    (those-lt (λ y. not (eqb y x)) (λ y. true) ys x (λ y t. refl) i refl (ap not (eq-eqb x x refl)))
 
 -- a list without repeats is no longer than a list that has all its members
-pub pigeonhole : (xs ys : List ℕ) → Distinct xs → ((x : ℕ) → among x xs ≡ true → among x ys ≡ true) → length xs ≤ length ys
+pub pigeonhole : (xs ys : List ℕ) → Distinct xs → Kept xs ys → length xs ≤ length ys
 pigeonhole [] ys d all = omega arith
 pigeonhole (x ∷ xs) ys d all =
-    let rest : length xs ≤ length (those (λ y. not (eqb y x)) ys) =
-    pigeonhole xs (those (λ y. not (eqb y x)) ys) (d .1) (λ z i. those-keep (λ y. not (eqb y x)) z ys (ap not (ne-eqb z x (λ e. clash (rw e at i) (d .0)))) (all z (there z x xs i))) in
-    omega (arith, rest, without x ys (all x (here x xs)))
+    omega (arith, pigeonhole xs (those other ys) (d .1) kept, without x ys (all x (here x xs)))
+  where
+    other : ℕ → Bool
+    other y = not (eqb y x)
+
+    kept : Kept xs (those other ys)
+    kept z i = those-keep other z ys (ap not (ne-eqb z x (λ e. clash (rw e at i) (d .0)))) (all z (there z x xs i))
 
 -- a list whose values under f count up has no repeats
 pub counting-distinct : (f : ℕ → ℕ) (xs : List ℕ) (c : ℕ) → ((i : ℕ) → i < length xs → f (getD xs i 0) ≡ c + i) → Distinct xs
@@ -194,5 +194,5 @@ pigeonhole-all xs d low v h = at (among v xs) refl
         absurd (omega (
           arith,
           length-upto (length xs),
-          pigeonhole (v ∷ xs) (upto (length xs)) (e, d) (λ x i. in-upto (length xs) x (elim (or-cases (eqb x v) _ i) [ inl j ↦ rw (eqb-true x v j) h | inr j ↦ low x j ])),
+          pigeonhole (v ∷ xs) (upto (length xs)) (e, d) (λ x i. in-upto (length xs) x (elim (in-cons x v xs i) [ inl j ↦ rw j h | inr j ↦ low x j ])),
         ))

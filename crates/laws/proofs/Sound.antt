@@ -4,27 +4,34 @@ use mathlib.Core.Bool.{true}
 use mathlib.Core.Logic.{_↔_}
 use mathlib.Core.Path.{_≡_, refl, sym, ap, ap₂, subst, _∙_}
 use mathlib.Core.List.{List, [], _∷_, map}
-use Prim.Native.Nat.{ℕ}
+use Prim.Native.Nat.{ℕ, _<_}
+use native.Mathlib.Omega.{arith}
 use lib.ListN.{length}
 use Rattle.lineage.specs.Lists.{Every}
-use Rattle.lineage.specs.Graph.{Graph, Ends, Condensed, condense}
-use Rattle.lineage.specs.Labels.{Labelling, Order, labelling}
+use Rattle.lineage.specs.Graph.{Graph, Ends, Reaches, Condensed, condense}
+use Rattle.lineage.specs.Labels.{Order, Labelling, labelling}
 use Rattle.lineage.specs.Index.{Index, indexBy, indexOf, Made}
+use Rattle.lineage.specs.Question.{placeIn}
 use Rattle.lineage.specs.Sound.{sound}
+use Rattle.laws.specs.Leads.{Down}
 use Rattle.laws.specs.Sound.{SoundLabelling, SoundGroups, Sound}
 use Rattle.laws.proofs.Names.{names-long}
 use Rattle.laws.proofs.Condensed.{groups-sound}
-use Rattle.laws.proofs.GraphFound.{graph, graph-ends, condense-made}
+use Rattle.laws.proofs.Paths.{paths-exactly}
 use Rattle.laws.proofs.Labelled.{labelling-sound}
 use Rattle.laws.proofs.OrderFound.{order-found}
+use Rattle.laws.proofs.GraphFound.{graph, graph-ends, condense-made}
 use Rattle.laws.proofs.Decides.{sound-decides}
 
 -- made, then sound
 module _ {names groups levels : List ℕ} {children : List (List ℕ)} (S : SoundGroups names groups levels children) where
-  labellings-sound : (n : ℕ) → n ≡ length names → (orders : List (List ℕ)) → Every (Order n) orders → Every (SoundLabelling children) (map (labelling groups children) orders)
+  labellings-sound :
+      (n : ℕ) → n ≡ length names → (orders : List (List ℕ)) → Every (Order n) orders
+      → Every (SoundLabelling children) (map (labelling groups children) orders)
   labellings-sound n e [] os = tt
   labellings-sound n e (o ∷ orders) os = (labelling-sound S o (rw e at (os .0)), labellings-sound n e orders (os .1))
 
+-- the index of an edge list under some orders passes the tests
 pub made-sound : (G : Graph) → Ends G → (orders : List (List ℕ)) → Every (Order (G .n)) orders → Sound (indexOf G orders)
 unfolding indexOf indexBy condense
 made-sound G ends orders os =
@@ -60,7 +67,15 @@ sound-exactly I = (sound-made I, λ M. subst Sound (M .yields) (made-sound (M .g
 pub sound-is-made : (I : Index) → (sound I ≡ true) ↔ Made I
 sound-is-made I = ((λ h. sound-made I (sound-decides I .0 h)), λ M. sound-decides I .1 (sound-exactly I .1 M))
 
--- the graph has as many vertices as the index has names
-pub made-long : {I : Index} (M : Made I) → length (I .names) ≡ M .graph .n
-unfolding indexOf indexBy condense
-made-long M = ap (λ (J : Index). length (J .names)) (sym (M .yields)) ∙ names-long (M .graph) (M .ends)
+-- of every graph that yields the index: it has as many vertices as the index has names, and its paths are those down the index's children
+module _ {I : Index} (M : Made I) where
+  pub made-long : length (I .names) ≡ M .graph .n
+  unfolding indexOf indexBy condense
+  made-long = ap (λ (J : Index). length (J .names)) (sym (M .yields)) ∙ names-long (M .graph) (M .ends)
+
+  pub made-paths :
+      (u v : ℕ) → u < length (I .names) → v < length (I .names) → Reaches (M .graph) u v ↔ Down (I .children) (placeIn I u) (placeIn I v)
+  unfolding indexOf indexBy condense
+  made-paths u v hu hv =
+      subst (λ (J : Index). Reaches (M .graph) u v ↔ Down (J .children) (placeIn J u) (placeIn J v)) (M .yields)
+      (paths-exactly (M .graph) (M .ends) u v (omega (arith, made-long)) (omega (arith, made-long)))

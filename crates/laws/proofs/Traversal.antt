@@ -9,13 +9,14 @@ use native.Mathlib.Omega.{arith}
 use lib.ListN.{length}
 use borrow.Author.Tests.{not-true}
 use Rattle.lineage.specs.Lists.{among, those}
-use Rattle.lineage.specs.Labels.{Forest, done, visit, after, along, traverse, forestOf, nobodysChild}
+use Rattle.lineage.specs.Labels.{Forest, done, visit, after, along, traverse, nobodysChild, forestOf}
+use Rattle.lineage.specs.Sound.{childOf}
 use Rattle.laws.specs.Visits.{Visits, over, skip, enter}
 use Rattle.laws.proofs.Tests.{clash, is-false}
-use Rattle.laws.proofs.Lists.{here, there, those-all, those-pass}
+use Rattle.laws.proofs.Lists.{here, there, Kept, those-pass, those-all}
 use Rattle.laws.proofs.Rising.{those-le, those-lt}
-use Rattle.lineage.specs.Sound.{childOf}
 
+-- one start, one forest
 pub unique : {next : ℕ → List ℕ} {todo seen : List ℕ} {f g : Forest} → Visits next todo seen f → Visits next todo seen g → f ≡ g
 unique over over = refl
 unique (skip a r) (skip b s) = unique r s
@@ -24,10 +25,6 @@ unique (enter a r t) (skip b s) = clash b a
 unique (enter {p = p} a r t) (enter b s v) =
     let e = unique r s in
     ap₂ (visit p) e (unique t (rw (← e) at v))
-
--- all of the one list is in the other
-abbrev pub Kept : List ℕ → List ℕ → Type 0
-Kept xs ys = (q : ℕ) → among q xs ≡ true → among q ys ≡ true
 
 -- what is seen stays seen
 pub kept : (f : Forest) (seen : List ℕ) → Kept seen (after f seen)
@@ -50,13 +47,16 @@ unseen-le places seen more k = those-le (λ q. not (among q more)) (λ q. not (a
 
 unseen-lt : (places : List ℕ) (p : ℕ) (seen : List ℕ) → among p places ≡ true → among p seen ≡ false → unseen places (p ∷ seen) < unseen places seen
 unseen-lt places p seen i new =
-    those-lt (λ q. not (among q (p ∷ seen))) (λ q. not (among q seen)) places p (not-kept seen (p ∷ seen) (λ q. there q p seen)) i (ap not new) (ap not (here p seen))
+    those-lt (λ q. not (among q (p ∷ seen))) (λ q. not (among q seen)) places p (not-kept seen (p ∷ seen) (λ q. there q p seen)) i
+    (ap not new) (ap not (here p seen))
 
 module _ (next : ℕ → List ℕ) (places : List ℕ) (closed : (p : ℕ) → Kept (next p) places) where
   abbrev Made : ℕ → Type 0
   Made f = (todo seen : List ℕ) → Kept todo places → unseen places seen < f → Visits next todo seen (traverse next f todo seen)
 
-  made-along : (f : ℕ) → Made f → (todo seen : List ℕ) → Kept todo places → unseen places seen < suc f → Visits next todo seen (along (traverse next f) next todo seen)
+  made-along :
+      (f : ℕ) → Made f → (todo seen : List ℕ) → Kept todo places → unseen places seen < suc f
+      → Visits next todo seen (along (traverse next f) next todo seen)
   made-along f ih [] seen all h = over
   made-along f ih (p ∷ todo) seen all h = at (among p seen) refl (λ s. made-along f ih todo s (λ q i. all q (there q p todo i)))
     where
@@ -76,6 +76,7 @@ module _ (next : ℕ → List ℕ) (places : List ℕ) (closed : (p : ℕ) → K
           (enter e (ih (next p) (p ∷ seen) (closed p) (omega (arith, fewer e)))
           (go _ (omega (arith, fewer e, after-fewer (traverse next f (next p) (p ∷ seen))))))
 
+  -- so `traverse` makes the traversal
   pub made : (f : ℕ) → Made f
   unfolding traverse
   made zero todo seen all h = absurd (not-suc-le-zero h)
@@ -91,5 +92,6 @@ pub forest-visits :
     → Visits (nextIn children ranked) (those (nobodysChild children) ranked) [] (forestOf children ranked)
 unfolding forestOf
 forest-visits children ranked places all l =
-    made (nextIn children ranked) places (λ p q i. all q (those-pass (childOf children p) q ranked i .1)) (suc (length children)) (those (nobodysChild children) ranked) []
+    made (nextIn children ranked) places (λ p q i. all q (those-pass (childOf children p) q ranked i .1)) (suc (length children))
+    (those (nobodysChild children) ranked) []
     (λ q i. all q (those-pass (nobodysChild children) q ranked i .1)) (omega (arith, unseen-none places))

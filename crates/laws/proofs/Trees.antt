@@ -2,32 +2,20 @@
 use mathlib.Core.Bool.{Bool, true, false, false≢true}
 use mathlib.Core.Path.{_≡_, refl, ap, _∙_}
 use mathlib.Core.List.{List, [], _∷_, _++_, append-assoc}
-use Prim.Native.Nat.{ℕ, zero, suc, _<_}
+use Prim.Native.Nat.{ℕ, zero, suc}
 use native.Mathlib.Omega.{arith}
-use lib.ListN.{length, getD}
+use lib.ListN.{getD}
 use Rattle.lineage.specs.Lists.{among, joined}
 use Rattle.lineage.specs.Labels.{Forest, done, visit, finished}
+use Rattle.laws.specs.Passes.{trees, OnlyOne}
 use Rattle.laws.proofs.Tests.{clash}
 use Rattle.laws.proofs.Lists.{among-append, in-left, in-right}
 use Rattle.laws.proofs.Rising.{Distinct, distinct-right, distinct-apart}
 
--- the trees of a forest, each as it is finished, its root last
-abbrev pub trees : Forest → List (List ℕ)
-trees done = []
-trees (visit p below rest) = (finished below ++ (p ∷ [])) ∷ trees rest
-
--- two numbers stand in the same list
-pub data Together : List (List ℕ) → ℕ → ℕ → Type 0 where
-  both : {t : List ℕ} {ts : List (List ℕ)} {u v : ℕ} → among u t ≡ true → among v t ≡ true → Together (t ∷ ts) u v
-  beyond : {t : List ℕ} {ts : List (List ℕ)} {u v : ℕ} → Together ts u v → Together (t ∷ ts) u v
-
+-- the trees one after the other are the order of finishing
 pub joined-trees : (f : Forest) → joined (trees f) ≡ finished f
 joined-trees done = refl
 joined-trees (visit p below rest) = append-assoc (finished below) (p ∷ []) (joined (trees rest)) ∙ ap (λ z. finished below ++ (p ∷ z)) (joined-trees rest)
-
--- exactly one of the lists holds v
-abbrev pub OnlyOne : List (List ℕ) → ℕ → Type 0
-OnlyOne ts v = (i : ℕ) × (i < length ts) × (among v (getD ts i []) ≡ true) × ((j : ℕ) → among v (getD ts j []) ≡ true → j ≡ i)
 
 holds : (ts : List (List ℕ)) (v j : ℕ) → among v (getD ts j []) ≡ true → among v (joined ts) ≡ true
 holds [] v j h = h

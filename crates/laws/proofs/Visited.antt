@@ -8,11 +8,11 @@ use Prim.Native.Nat.{ℕ}
 use lib.Dec.{eqb}
 use borrow.Author.Tests.{eqb-true}
 use Rattle.lineage.specs.Lists.{among}
-use Rattle.lineage.specs.Labels.{Forest, done, visit, finished, subtree, after}
+use Rattle.lineage.specs.Labels.{Forest, done, visit, after, finished, subtree}
 use Rattle.laws.specs.Leads.{Leads, stay, step}
 use Rattle.laws.specs.Visits.{Visits, over, skip, enter}
-use Rattle.laws.proofs.Tests.{or-cases, or-false-left, or-false-right, clash, is-false}
-use Rattle.laws.proofs.Lists.{here, there, in-cons, in-one, in-append, in-left, in-right}
+use Rattle.laws.proofs.Tests.{or-cases, clash, is-false, or-false-left, or-false-right}
+use Rattle.laws.proofs.Lists.{here, there, in-cons, in-one, in-left, in-right, in-append}
 use Rattle.laws.proofs.Rising.{Distinct, distinct-append}
 use Rattle.laws.proofs.Traversal.{kept}
 
@@ -101,7 +101,9 @@ module _ {next : ℕ → List ℕ} where
       ]))
 
   -- what is visited is downstream of the list
-  pub from-todo : {todo seen : List ℕ} {f : Forest} → Visits next todo seen f → (t : ℕ) → among t (finished f) ≡ true → (q : ℕ) × (among q todo ≡ true) × Leads next q t
+  pub from-todo :
+      {todo seen : List ℕ} {f : Forest} → Visits next todo seen f → (t : ℕ) → among t (finished f) ≡ true
+      → (q : ℕ) × (among q todo ≡ true) × Leads next q t
   from-todo over t h = absurd (false≢true h)
   from-todo (skip {p = p} {todo = todo} a r) t h = let (q, i, l) = from-todo r t h in (q, there q p todo i, l)
   from-todo (enter {p = p} {todo = todo} {below = below} {rest = rest} a r s) t h =
@@ -113,6 +115,7 @@ module _ {next : ℕ → List ℕ} where
         ]
       ]
 
+  -- a traversal from one group visits what is downstream of it
   pub from-one : {x : ℕ} {seen : List ℕ} {f : Forest} → Visits next (x ∷ []) seen f → (t : ℕ) → among t (finished f) ≡ true → Leads next x t
   from-one {x} r t h = let (q, i, l) = from-todo r t h in subst (λ z. Leads next z t) (in-one q x i) l
 
@@ -120,7 +123,8 @@ module _ {next : ℕ → List ℕ} where
   pub subtree-leads : {todo seen : List ℕ} {f : Forest} → Visits next todo seen f → (x t : ℕ) → among t (subtree x f) ≡ true → Leads next x t
   subtree-leads over x t h = absurd (false≢true h)
   subtree-leads (skip a r) x t h = subtree-leads r x t h
-  subtree-leads (enter {p = p} {below = below} {rest = rest} a r s) x t h = at (eqb x p) refl (among x (finished below)) refl (subtree-leads r x t) (subtree-leads s x t)
+  subtree-leads (enter {p = p} {below = below} {rest = rest} a r s) x t h =
+      at (eqb x p) refl (among x (finished below)) refl (subtree-leads r x t) (subtree-leads s x t)
     where
       at :
           (b : Bool) → eqb x p ≡ b → (c : Bool) → among x (finished below) ≡ c

@@ -5,7 +5,7 @@ use mathlib.Core.Bool.{Bool, true, false, false≢true}
 use mathlib.Core.Logic.{inl, inr}
 use mathlib.Core.Path.{_≡_, refl, sym, ap, _∙_}
 use mathlib.Core.List.{List, _∷_, _++_, append-assoc}
-use Prim.Native.Nat.{ℕ, zero, suc, _<_, _≤_, _+_, _-_}
+use Prim.Native.Nat.{ℕ, zero, suc, _+_, _-_, _<_, _≤_}
 use native.Mathlib.Nat.{not-suc-le-zero}
 use native.Mathlib.Omega.{arith}
 use lib.Dec.{eqb}
@@ -13,13 +13,14 @@ use lib.ListN.{length, getD, drop, length-append}
 use lib.Seq.{drop-cons}
 use borrow.Author.Tests.{eqb-true}
 use Rattle.lineage.specs.Lists.{among}
-use Rattle.lineage.specs.Labels.{Forest, done, visit, finished, Labelling, nobodysChild}
+use Rattle.lineage.specs.Labels.{Forest, done, visit, nobodysChild, finished, Labelling}
 use Rattle.lineage.specs.Sound.{childOf}
 use Rattle.laws.specs.Sound.{LeftWalk, arrived, left, SoundLabelling}
 use Rattle.laws.proofs.Lists.{among-append, in-cons, in-append}
 use Rattle.laws.proofs.Ranks.{before}
-use Rattle.laws.proofs.Forests.{Ranking, Fits, none, tree, entered, joinF, join-fits, block-up}
+use Rattle.laws.proofs.Forests.{Ranking, Fits, none, tree, entered, joinF, block-up, join-fits}
 
+-- a labelling over given children, as functions of places
 abbrev pub rankingOf : List (List ℕ) → Labelling → Ranking
 rankingOf children l = record { k = length children; child = childOf children; e = λ p. getD (l .e) p 0; m = λ p. getD (l .m) p 0 }
 
@@ -55,6 +56,7 @@ module _ {children : List (List ℕ)} {l : Labelling} (L : SoundLabelling childr
   grown (suc b) h n (left {q = q} {lo = lo} t w) =
       tree-left q lo n t (grown b (omega arith) (omega arith) (block q n)) (grown b (omega (arith, shorter q n)) (omega (arith, shorter q n)) w)
 
+  -- all ranks together
   pub forest : (f : Forest) × Fits (rankingOf children l) (nobodysChild children) f 0 (length children)
   forest = grown (length children) (omega arith) (omega arith) (L .roots)
 
@@ -69,10 +71,12 @@ module _ (children : List (List ℕ)) (l : Labelling) (at-rank : (p r : ℕ) →
       let back : getD (l .m) (getD (l .byRank) r 0) 0 - 1 ≡ lo = omega (arith, ap (λ q. getD (l .m) q 0) e) in
       left {q = r} {lo = lo} (rw e t) (rw back arrived)
 
+  -- a forest gives the walk over its roots
   pub fits-walk : {test : ℕ → Bool} {f : Forest} {lo hi : ℕ} → Fits (rankingOf children l) test f lo hi → LeftWalk l test hi lo
   fits-walk none = arrived
   fits-walk (tree {p = p} {lo = lo} {r = r} t h x y u v) = walk-on (fits-walk v) (one-tree p r lo (at-rank p r h y) t x)
 
+  -- and the walk below each of its groups
   pub fits-block :
       {test : ℕ → Bool} {f : Forest} {lo hi : ℕ} → Fits (rankingOf children l) test f lo hi
       → (q : ℕ) → among q (entered f) ≡ true → LeftWalk l (childOf children q) (getD (l .e) q 0 - 1) (getD (l .m) q 0 - 1)
@@ -86,14 +90,18 @@ module _ (children : List (List ℕ)) (l : Labelling) (at-rank : (p r : ℕ) →
       ]
 
 module _ {R : Ranking} where
-  pub finished-count : {ok : ℕ → Bool} {f : Forest} {lo hi : ℕ} → Fits R ok f lo hi → lo + length (finished f) ≡ hi
+  finished-count : {ok : ℕ → Bool} {f : Forest} {lo hi : ℕ} → Fits R ok f lo hi → lo + length (finished f) ≡ hi
   finished-count none = omega arith
-  finished-count (tree {p = p} {below = below} {next = next} t h x y u v) = omega (arith, finished-count u, finished-count v, length-append (finished below) (p ∷ finished next))
+  finished-count (tree {p = p} {below = below} {next = next} t h x y u v) =
+      omega (arith, finished-count u, finished-count v, length-append (finished below) (p ∷ finished next))
 
   -- m of a group is one more than what was finished before it was entered
-  pub fits-before : {ok : ℕ → Bool} {f : Forest} {lo hi : ℕ} → Fits R ok f lo hi → (q : ℕ) → among q (finished f) ≡ true → R .m q ≡ suc (lo + length (before q f))
+  pub fits-before :
+      {ok : ℕ → Bool} {f : Forest} {lo hi : ℕ} → Fits R ok f lo hi → (q : ℕ) → among q (finished f) ≡ true
+      → R .m q ≡ suc (lo + length (before q f))
   fits-before none q i = absurd (false≢true i)
-  fits-before (tree {p = p} {lo = lo} {r = r} {below = below} {next = next} t h x y u v) q i = at (eqb q p) refl (among q (finished below)) refl (fits-before u q) (fits-before v q)
+  fits-before (tree {p = p} {lo = lo} {r = r} {below = below} {next = next} t h x y u v) q i =
+      at (eqb q p) refl (among q (finished below)) refl (fits-before u q) (fits-before v q)
     where
       at :
           (b : Bool) → eqb q p ≡ b → (c : Bool) → among q (finished below) ≡ c
