@@ -9,3 +9,5 @@ pub mod Nets
 pub mod Turns
 pub mod Rules
 pub mod Soundness
+pub mod Answered
+pub mod Theorems

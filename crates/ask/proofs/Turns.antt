@@ -11,12 +11,13 @@ use borrow.Author.Tests.{eqb-false}
 use Rattle.lineage.specs.Numbers.{numAt}
 use Rattle.lineage.specs.Walk.{Net, Walked, walked, marked, openAt, tryAt}
 use Rattle.lineage.specs.Question.{inside, firstLabelling}
+use Rattle.laws.proofs.Tests.{or-false-left}
 use Rattle.numbers.proofs.Numbers.{room, numbers-long, numbers-at}
 use Rattle.sections.specs.Sections.{labelsIn}
 use Rattle.ask.specs.Fit.{count, all, netIn, passedOver, Fit, Below}
 use Rattle.ask.proofs.Labellings.{count-low}
 use Rattle.ask.proofs.Rows.{more, no-more}
-use Rattle.ask.proofs.Counting.{Gains, or-false-left, ones-low, open-gains}
+use Rattle.ask.proofs.Counting.{Gains, ones-low, open-gains}
 use Rattle.ask.proofs.Trying.{Tried, tried-none, tried-all, tried-hit, tried-over, tried-found, tried-next}
 use Rattle.ask.proofs.Nets.{net-deciding, net-yes, net-not-yes, net-over, net-spot, net-within}
 
