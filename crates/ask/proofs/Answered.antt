@@ -1,25 +1,18 @@
 -- What an answered question rests on: no check applies, so the two vertices are below n, there is a labelling, and the index that the bytes hold is sound.
 use mathlib.Core.Bool.{Bool, true, false, not, _||_, _&&_, true≢false}
-use mathlib.Core.Logic.{_↔_, Iff·symm, Iff·trans}
-use mathlib.Core.Path.{_≡_, refl, sym, ap, subst, _∙_}
-use mathlib.Core.List.{List, [], _∷_, _++_, map}
-use Prim.Native.Nat.{ℕ, suc, _+_, _≤_, _<_}
-use native.Mathlib.Omega.{arith}
-use lib.Dec.{eqb, leb, ltb}
-use lib.ListN.{length, getD, take, drop, length-map}
+use mathlib.Core.Path.{_≡_, refl}
+use mathlib.Core.List.{List, [], _∷_, _++_}
+use Prim.Native.Nat.{ℕ, _+_, _≤_, _<_}
+use lib.Dec.{leb, ltb}
+use lib.ListN.{length}
 use borrow.Author.Tests.{leb-true, leb-false, not-false}
-use Rattle.lineage.specs.Lists.{Every, ones, among, upto}
-use Rattle.lineage.specs.Graph.{Graph, Ends, Reaches}
-use Rattle.lineage.specs.Labels.{Order}
-use Rattle.lineage.specs.Index.{Index, indexOf}
-use Rattle.lineage.specs.Stored.{Form, mostLabellings, Counts, countsIn, section, headerLength, headerAt, formOf, isForm, countsFit, offsetsFit, decode}
+use Rattle.lineage.specs.Stored.{Form, mostLabellings, Counts, countsIn, section, headerLength, headerAt, formOf, isForm, countsFit, offsetsFit}
 use Rattle.lineage.specs.Sound.{startsPass, sound, contentsSound}
-use Rattle.lineage.specs.Question.{Answer, placeIn, netOf, answer}
-use Rattle.lineage.specs.Calls.{Check, Outcome, answered, refused, refuse, outcome, anyApplies, indexIn, askEarly, contentsCheck, Said, saidOf, askAnswer, askMarks}
+use Rattle.lineage.specs.Question.{answer}
+use Rattle.lineage.specs.Calls.{Check, answered, refuse, outcome, anyApplies, indexIn, askEarly, contentsCheck, Said, saidOf, askAnswer}
 use Rattle.laws.proofs.Tests.{or-false-left, or-false-right, and-left, and-right}
 use Rattle.laws.specs.Sound.{Sound}
 use Rattle.laws.proofs.Decides.{sound-decides}
-use Rattle.laws_answers.proofs.Demands.{answer-right}
 
 -- an answer is given only where no check applies
 answered-none : {A : Type 0} (cs : List Check) (a s : A) → outcome cs a ≡ answered s → (anyApplies cs ≡ false) × (a ≡ s)

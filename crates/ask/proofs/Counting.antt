@@ -5,7 +5,7 @@ use mathlib.Core.List.{List, [], _∷_}
 use Prim.Native.Nat.{ℕ, zero, suc, _+_, _≤_, _<_}
 use native.Mathlib.Omega.{arith}
 use lib.Dec.{eqb}
-use lib.ListN.{length, getD, set, length-set}
+use lib.ListN.{length, set, length-set}
 use Rattle.lineage.specs.Lists.{Every, ones}
 use Rattle.lineage.specs.Walk.{Net, Walked, marked, follow, pick, tryWith, openAt}
 use Rattle.laws.proofs.Tests.{or-false-left}

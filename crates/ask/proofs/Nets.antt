@@ -1,15 +1,15 @@
 -- The net that fit sections hold, field by field as the code reads it, and a group of it opened.
 use mathlib.Core.Bool.{Bool, true, false, _||_}
 use mathlib.Core.Logic.{_≢_}
-use mathlib.Core.Path.{_≡_, refl, sym, ap, _∙_}
+use mathlib.Core.Path.{_≡_, refl, sym, _∙_}
 use mathlib.Core.List.{List, [], _∷_}
-use Prim.Native.Nat.{ℕ, suc, _+_, _-_, _*_, _≤_, _<_}
+use Prim.Native.Nat.{ℕ, suc, _+_, _-_, _≤_, _<_}
 use native.Mathlib.Omega.{arith}
 use lib.ListN.{length, getD, set, length-set}
-use borrow.Author.Tests.{lt-ltb, le-ltb, ne-eqb, eqb-false}
+use borrow.Author.Tests.{lt-ltb, le-ltb, ne-eqb}
 use Rattle.lineage.specs.Lists.{Every}
 use Rattle.lineage.specs.Numbers.{numAt}
-use Rattle.lineage.specs.Walk.{Net, Walked, walked, marked, openAt, tryAt}
+use Rattle.lineage.specs.Walk.{Net, walked, marked, openAt, tryAt}
 use Rattle.lineage.specs.Question.{inside, firstLabelling}
 use Rattle.laws_answers.proofs.Marks.{ones-set}
 use Rattle.laws_answers.proofs.Labellings.{first-given}
@@ -18,7 +18,7 @@ use Rattle.sections.specs.Sections.{childrenIn, labelsIn}
 use Rattle.sections.proofs.Sections.{row-long, row-at}
 use Rattle.stored.specs.Sections.{ChildrenOf}
 use Rattle.ask.specs.Fit.{count, all, netIn, passedOver, Fit}
-use Rattle.ask.proofs.Rows.{row-all, row-below}
+use Rattle.ask.proofs.Rows.{row-all}
 use Rattle.ask.proofs.Counting.{Within, Gains, try-gains, open-gains, ones-low}
 use Rattle.ask.proofs.Trying.{open-is}
 

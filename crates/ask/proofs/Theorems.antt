@@ -1,25 +1,25 @@
 -- What an answer to a question on stored bytes says, wherever one is given, and whatever edge list and orders yield the bytes: it is yes exactly where
 -- a path of zero or more edges leads from source to target; the count is that of the walk's openings and of the marks left; on a no by the walk the
 -- groups opened are those reached through passing groups; and more orders open no more groups. `ask` gives these answers, by its contract.
-use mathlib.Core.Bool.{Bool, true, false, cond}
+use mathlib.Core.Bool.{Bool, true}
 use mathlib.Core.Logic.{_↔_, Iff·symm, Iff·trans}
 use mathlib.Core.Path.{_≡_, refl, sym, ap, subst, _∙_}
-use mathlib.Core.List.{List, [], _∷_, _++_, map}
-use Prim.Native.Nat.{ℕ, suc, _+_, _≤_, _<_}
+use mathlib.Core.List.{List, _++_}
+use Prim.Native.Nat.{ℕ, _+_, _≤_, _<_}
 use native.Mathlib.Omega.{arith}
 use lib.ListN.{length, getD, take, drop, length-map, List·getD-append}
 use lib.Seq.{take-at, drop-at}
-use Rattle.lineage.specs.Lists.{Every, ones, upto}
+use Rattle.lineage.specs.Lists.{Every, ones}
 use Rattle.lineage.specs.Graph.{Graph, Ends, Reaches}
 use Rattle.lineage.specs.Labels.{Order}
-use Rattle.lineage.specs.Index.{Index, indexOf, indexBy, Made}
+use Rattle.lineage.specs.Index.{Index, indexOf, Made}
 use Rattle.lineage.specs.Stored.{countsIn, headerAt, formOf, stretch, section, decode}
-use Rattle.lineage.specs.Question.{Answer, placeIn, netOf, answer}
-use Rattle.lineage.specs.Calls.{answered, indexIn, Said, saidOf, askAnswer, askMarks}
+use Rattle.lineage.specs.Question.{placeIn, netOf, answer}
+use Rattle.lineage.specs.Calls.{answered, indexIn, Said, askAnswer, askMarks}
 use Rattle.laws.proofs.Rising.{Distinct}
 use Rattle.laws.proofs.Grouped.{group-name}
 use Rattle.laws.proofs.Sound.{made-long}
-use Rattle.laws_answers.specs.Answers.{Member, Opened, Marked, marksOf, NoMore}
+use Rattle.laws_answers.specs.Answers.{Member, Opened, marksOf, NoMore}
 use Rattle.laws_answers.specs.Walks.{Through}
 use Rattle.laws_answers.proofs.Demands.{answer-right, marks-are-opened, opened-on-a-no, more-orders}
 use Rattle.numbers.proofs.Numbers.{numbers-long}

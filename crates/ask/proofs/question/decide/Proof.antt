@@ -1,7 +1,6 @@
 -- `ask::question::decide` meets its contract: each return is the first rule that holds, and what the code has read by then says so.
 use native.Mathlib.Omega.{arith}
 use mathlib.Core.Path.{refl}
-use lib.ListN.{length}
 use borrow.Author.Needs.{needs}
 use Rattle.lineage.specs.Question.{inside, outside}
 use Rattle.numbers.proofs.Numbers.{room}
