@@ -1,7 +1,7 @@
 -- What an answer to a question on stored bytes says, wherever one is given, and whatever edge list and orders yield the bytes: it is yes exactly where
 -- a path of zero or more edges leads from source to target; the count is that of the walk's openings and of the marks left; on a no by the walk the
 -- groups opened are those reached through passing groups; and more orders open no more groups. `ask` gives these answers, by its contract.
-use mathlib.Core.Bool.{Bool, true}
+use mathlib.Core.Bool.{Bool, true, false}
 use mathlib.Core.Logic.{_↔_, Iff·symm, Iff·trans}
 use mathlib.Core.Path.{_≡_, refl, sym, ap, subst, _∙_}
 use mathlib.Core.List.{List, _++_}
@@ -111,16 +111,16 @@ module _ (b : List ℕ) (u v : ℕ) (marks : List ℕ) (s : Said) (e : askAnswer
         },
       )
 
-  -- on a no by the walk the groups opened are exactly those reached from u's through groups that rules 3 and 4 let pass
+  -- on a no the groups opened are exactly those reached from u's child by child, where every group on the way, both ends included, passes rules 3 and 4
   pub asked-no :
-      s .reason ≡ 6 → (p : ℕ) → p < length (I .children)
+      s .says ≡ false → (p : ℕ) → p < length (I .children)
       → (getD (askMarks b u v marks) (getD (I .groups) p 0) 0 ≡ 1) ↔ Through (netOf I (placeIn I v) .children) (netOf I (placeIn I v) .no) (placeIn I u) p
-  asked-no six p h =
+  asked-no says p h =
       let named : getD (I .groups) p 0 < countsIn b .n = omega (arith, group-name (A .sound .condensed) p h .0, names-long b) in
       subst
       (λ (z : ℕ). (z ≡ 1) ↔ Through (netOf I (placeIn I v) .children) (netOf I (placeIn I v) .no) (placeIn I u) p)
       (sym (mark-at (getD (I .groups) p 0) named))
-      (opened-on-a-no I (A .sound) some u v source target (ap (λ (z : Said). z .reason) (A .said) ∙ six) p h)
+      (opened-on-a-no I (A .sound) some u v source target (ap (λ (z : Said). z .says) (A .said) ∙ says) p h)
 
 -- Demand 3: of two stored indexes of one edge list, the orders of the first among those of the second, the second says the same, opens no group that the first
 -- does not open, and counts no more.

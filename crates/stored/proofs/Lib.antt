@@ -1,7 +1,13 @@
 -- The laws of the stored form.
+pub mod Tests
 pub mod Checks
 pub mod Forms
 pub mod Checked
 pub mod Laid
 pub mod Stretches
 pub mod Held
+pub mod Starts
+pub mod LabelNumbers
+pub mod Offsets
+pub mod Encoded
+pub mod Decoded
