@@ -1,6 +1,6 @@
 -- What an answer to a question on stored bytes says, wherever one is given, and whatever edge list and orders yield the bytes: it is yes exactly where
--- a path of zero or more edges leads from source to target; the count is that of the walk's openings and of the marks left; on a no by the walk the
--- groups opened are those reached through passing groups; and more orders open no more groups. `ask` gives these answers, by its contract.
+-- a path of zero or more edges leads from source to target; the count is that of the walk's openings and of the marks left; on a no the groups
+-- opened are those reached through passing groups; and more orders open no more groups. `ask` gives these answers, by its contract.
 use mathlib.Core.Bool.{Bool, true, false}
 use mathlib.Core.Logic.{_↔_, Iff·symm, Iff·trans}
 use mathlib.Core.Path.{_≡_, refl, sym, ap, subst, _∙_}
@@ -24,6 +24,9 @@ use Rattle.laws_answers.specs.Walks.{Through}
 use Rattle.laws_answers.proofs.Demands.{answer-right, marks-are-opened, opened-on-a-no, more-orders}
 use Rattle.numbers.proofs.Numbers.{numbers-long}
 use Rattle.numbers.proofs.Tables.{table-long}
+use Rattle.ask.specs.declared.Asked.{Asked}
+use Rattle.ask.specs.declared.Asked.the-variants.{Answer, Refused}
+use Rattle.ask.specs.Asked.{askedOf}
 use Rattle.ask.proofs.Answered.{Answered, answered-only, none-applies}
 
 -- the index that bytes hold has n names and d labellings
@@ -135,10 +138,12 @@ module _ (G : Graph) (ends : Ends G) (orders₁ orders₂ : List (List ℕ)) (up
       let sized₂ : countsIn b₂ .n ≡ G .n =
       sym (names-long b₂) ∙ made-long (record { graph = G; ends = ends; orders = orders₂; permuted = permuted; yields = y₂ }) in
       let sized₁ : countsIn b₁ .n ≡ G .n =
-      sym (names-long b₁) ∙ ap (λ (J : Index). length (J .names)) (sym y₁) ∙ names-same G orders₁ orders₂ ∙ ap (λ (J : Index). length (J .names)) y₂ ∙ names-long b₂ ∙ sized₂ in
+      sym (names-long b₁) ∙ ap (λ (J : Index). length (J .names)) (sym y₁) ∙ names-same G orders₁ orders₂
+      ∙ ap (λ (J : Index). length (J .names)) y₂ ∙ names-long b₂ ∙ sized₂ in
       let ordered : 0 < length orders₁ = omega (arith, orders-long G orders₁, ap (λ (J : Index). length (J .labels)) y₁, labels-long b₁, A₁ .some) in
       let D : NoMore (answer (indexIn b₁) u v) (answer (indexIn b₂) u v) =
-      rw (y₁, y₂) at (more-orders G ends orders₁ orders₂ up permuted ordered u v (omega (arith, sized₁, A₁ .source-low)) (omega (arith, sized₁, A₁ .target-low))) in (
+      rw (y₁, y₂) at
+      (more-orders G ends orders₁ orders₂ up permuted ordered u v (omega (arith, sized₁, A₁ .source-low)) (omega (arith, sized₁, A₁ .target-low))) in (
         sym (ap (λ (z : Said). z .says) (A₂ .said)) ∙ D .says ∙ ap (λ (z : Said). z .says) (A₁ .said),
         (
           omega (arith, D .count, ap (λ (z : Said). z .opened) (A₁ .said), ap (λ (z : Said). z .opened) (A₂ .said)),
@@ -146,3 +151,24 @@ module _ (G : Graph) (ends : Ends G) (orders₁ orders₂ : List (List ℕ)) (up
               mark-at b₁ u v marks₁ s₁ e₁ i (omega (arith, sized₁)) ∙ D .marks i (sym (mark-at b₂ u v marks₂ s₂ e₂ i (omega (arith, sized₂))) ∙ one),
         ),
       )
+
+-- What `ask` may answer and leave, by its contract: two results are equal.
+pub record Allowed (b : List ℕ) (u v : ℕ) (marks : List ℕ) (r : Asked) (m : List ℕ) : Type 0 where
+  pub answers : askedOf r ≡ askAnswer b u v (length marks)
+  pub leaves : m ≡ askMarks b u v marks
+
+answer-one :
+    {says says' : Bool} {reason reason' opened opened' : ℕ}
+    → says ≡ says' → reason ≡ reason' → opened ≡ opened' → Answer says reason opened ≡ Answer says' reason' opened'
+answer-one a b c = cc
+
+asked-one : (r r' : Asked) → askedOf r ≡ askedOf r' → r ≡ r'
+asked-one (Answer says reason opened) (Answer says' reason' opened') e =
+    let same : _≡_ {A = Said} (record { says = says; reason = reason; opened = opened }) (record { says = says'; reason = reason'; opened = opened' }) = cc in
+    answer-one (ap (λ (z : Said). z .says) same) (ap (λ (z : Said). z .reason) same) (ap (λ (z : Said). z .opened) same)
+asked-one (Answer says reason opened) (Refused number extra) e = let z : _≡_ {A = ℕ} 0 1 = cc in absurd (omega arith)
+asked-one (Refused number extra) (Answer says reason opened) e = let z : _≡_ {A = ℕ} 0 1 = cc in absurd (omega arith)
+asked-one (Refused number extra) (Refused number' extra') e = cc
+
+pub asked-once : {b : List ℕ} {u v : ℕ} {marks : List ℕ} {r r' : Asked} {m m' : List ℕ} → Allowed b u v marks r m → Allowed b u v marks r' m' → (r ≡ r') × (m ≡ m')
+asked-once A B = (asked-one _ _ (A .answers ∙ sym (B .answers)), A .leaves ∙ sym (B .leaves))
