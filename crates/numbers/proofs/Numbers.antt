@@ -3,18 +3,18 @@
 use mathlib.Core.Path.{_≡_, refl, sym, ap, _∙_}
 use mathlib.Core.Logic.{_⊎_, inl, inr, ⊎-elim, _≢_}
 use mathlib.Core.List.{List, _∷_}
-use Prim.Native.Nat.{ℕ, zero, suc, _+_, _*_, _/_, _%_, _^_, _≤_, _<_}
+use Prim.Native.Nat.{ℕ, zero, suc, _+_, _-_, _*_, _/_, _%_, _^_, _≤_, _<_}
 use native.Mathlib.Omega.{arith}
 use native.Mathlib.Numerals.{add-one}
 use native.Mathlib.Decide.{decLt}
-use native.Mathlib.Nat.{mul-le-mul-left, mul-suc, mul-add, pow-suc, add-zero, add-assoc}
-use lib.ListN.{length, getD, set}
+use native.Mathlib.Nat.{mul-le-mul-left, mul-le-mul-right, mul-suc, mul-add, pow-suc, add-zero, add-assoc}
+use lib.ListN.{length, getD, take, drop, set}
 use lib.Arith.{lt-of-le-ne}
 use lib.Seq.{ext-getD}
 use Rattle.lineage.specs.Lists.{part}
 use Rattle.lineage.specs.Numbers.{leAt, numAt, numbers, leBytes}
 use Rattle.numbers.specs.Put.{put}
-use Rattle.numbers.specs.Regions.{Kept}
+use Rattle.numbers.specs.Regions.{Kept, Part}
 use Rattle.numbers.proofs.Tables.{table-long, table-at}
 use Rattle.numbers.proofs.Put.{put-here, put-kept, put-sets}
 use Rattle.numbers.proofs.Regions.{part-length, part-at}
@@ -22,6 +22,10 @@ use Rattle.numbers.proofs.Regions.{part-length, part-at}
 -- number i of k lies within l bytes
 pub room : (w i k l : ℕ) → i < k → w * k ≤ l → w * i + w ≤ l
 room w i k l h r = omega (arith, mul-le-mul-left w h, mul-suc w i)
+
+-- numbers take at least as many bytes as there are numbers
+pub count-low : (w n : ℕ) → 2 ≤ w → n ≤ w * n
+count-low w n h = omega (arith, mul-le-mul-right n h)
 
 -- two numbers lie apart
 apart : (w i j : ℕ) → j ≢ i → (w * i + w ≤ w * j) ⊎ (w * j + w ≤ w * i)
@@ -105,6 +109,23 @@ numbers-part w s k a n h =
     (λ i l.
     let j : i < n = omega (arith, numbers-long w t n) in
     numbers-at w t n i j ∙ num-part w s a n i j ∙ sym (numbers-at w s k (a + i) (omega arith)) ∙ part-at (numbers w s k) a n i j)
+
+-- a part from number to number
+pub part-by : (w from count a e : ℕ) (s : List ℕ)
+    → a ≡ w * from
+    → e ≡ w * (from + count)
+    → w * (from + count) ≤ length s
+    → Part s (w * from) (w * count) (take (e - a) (drop a s))
+unfolding part
+part-by w from count a e s ea ee h =
+    let size : e - a ≡ w * count = omega (arith, mul-add w from count) in
+    record {
+      is = rw (size, ea);
+      long = rw (size, ea) (part-length s (w * from) (w * count) (omega (arith, mul-add w from count)));
+    }
+
+pub part-from : (w from from' size : ℕ) (s r : List ℕ) → from ≡ from' → Part s (w * from) size r → Part s (w * from') size r
+part-from w from from' size s r e P = rw (← e) P
 
 -- two bytes and four, read
 pub num-two : (w i r : ℕ) (s : List ℕ) → w ≡ 2 → r ≡ leAt 2 s (w * i) → r ≡ numAt w s i

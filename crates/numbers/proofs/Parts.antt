@@ -1,11 +1,11 @@
 -- A part of a list: of two lists one after the other, of a part, and the whole.
-use mathlib.Core.Path.{_≡_, sym, ap, _∙_}
+use mathlib.Core.Path.{_≡_, ap, _∙_}
 use mathlib.Core.List.{List, [], _∷_, _++_}
 use Prim.Native.Nat.{ℕ, zero, suc, _+_, _-_, _≤_}
 use native.Mathlib.Omega.{arith}
-use native.Mathlib.Nat.{sub-zero, not-suc-le-zero}
-use lib.ListN.{length, take, drop, length-drop, take-append-drop}
-use lib.Seq.{length-take-le, take-length, take-append-le, drop-append-le, drop-drop}
+use native.Mathlib.Nat.{sub-zero, zero-sub, suc-sub-suc, not-suc-le-zero}
+use lib.ListN.{length, take, drop, length-drop}
+use lib.Seq.{take-length, take-nil, take-take, take-append-le, drop-append-le, drop-drop}
 use Rattle.lineage.specs.Lists.{part}
 
 module _ {A : Type 0} where
@@ -32,10 +32,20 @@ module _ {A : Type 0} where
   unfolding part
   part-drop s n at size = rw (drop-drop at n s)
 
-  pub part-take : (s : List A) (n at size : ℕ) → at + size ≤ n → n ≤ length s → part (take n s) at size ≡ part s at size
-  part-take s n at size h k =
-      sym (part-left (take n s) (drop n s) at size (omega (arith, length-take-le n s k)))
-      ∙ ap (λ (z : List A). part z at size) (take-append-drop n s)
+  drop-take : (s : List A) (at n : ℕ) → drop at (take n s) ≡ take (n - at) (drop at s)
+  drop-take s zero n = rw sub-zero
+  drop-take [] (suc at) n = rw (take-nil {A = A} n, take-nil {A = A} (n - suc at))
+  drop-take (x ∷ s) (suc at) zero = rw zero-sub
+  drop-take (x ∷ s) (suc at) (suc n) = drop-take s at n ∙ rw (suc-sub-suc n at)
+
+  pub part-take : (s : List A) (n at size : ℕ) → at + size ≤ n → part (take n s) at size ≡ part s at size
+  unfolding part
+  part-take s n at size h = rw (drop-take s at n) (take-take size (n - at) (drop at s) (omega arith))
+
+  -- a part of a part
+  pub part-part : (s : List A) (a n at size : ℕ) → at + size ≤ n → part (part s a n) at size ≡ part s (a + at) size
+  unfolding part
+  part-part s a n at size h = part-take (drop a s) n at size h ∙ part-drop s a at size
 
   -- the whole
   pub part-whole : (s : List A) (n : ℕ) → length s ≡ n → part s 0 n ≡ s

@@ -51,7 +51,7 @@ module _ (s : List ℕ) (p : ℕ) (bs : List ℕ) (fits : p + length bs ≤ leng
   put-below : (at count : ℕ) → at + count ≤ p → part (put s p bs) at count ≡ part s at count
   unfolding put
   put-below at count h =
-      part-left (take p s) (bs ++ drop (p + length bs) s) at count (omega (arith, front)) ∙ part-take s p at count h (omega arith)
+      part-left (take p s) (bs ++ drop (p + length bs) s) at count (omega (arith, front)) ∙ part-take s p at count h
 
   put-above : (at count : ℕ) → p + length bs ≤ at → part (put s p bs) at count ≡ part s at count
   unfolding part

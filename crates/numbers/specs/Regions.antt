@@ -11,3 +11,8 @@ pub record Kept (w w' : List ℕ) (base size : ℕ) : Type 0 where
   pub long : length w' ≡ length w
   pub below : (at count : ℕ) → at + count ≤ base → part w' at count ≡ part w at count
   pub above : (at count : ℕ) → base + size ≤ at → part w' at count ≡ part w at count
+
+-- r is the part of s of this size from position at on, whole
+pub record Part (s : List ℕ) (at size : ℕ) (r : List ℕ) : Type 0 where
+  pub is : r ≡ part s at size
+  pub long : length r ≡ size

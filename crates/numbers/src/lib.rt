@@ -5,6 +5,7 @@ ghost use lib.ListN.{length};
 ghost use Rattle.lineage.specs.Lists.{cleared};
 ghost use Rattle.lineage.specs.Numbers.{Width, leAt, numAt, leBytes};
 ghost use Rattle.numbers.specs.Put.{put};
+ghost use Rattle.numbers.specs.Regions.{Part};
 
 fn wide(x: u8) -> usize
     ensures { λ r. ⌜ (r ≡ x) × (r < 256) ⌝ }
@@ -16,6 +17,15 @@ fn low(v: usize) -> u8
     ensures { λ r. ⌜ r ≡ v % 256 ⌝ }
 {
     (v % 256) as u8
+}
+
+// The bytes that so many numbers of w bytes take.
+pub fn bytes_of(w: usize, count: usize) -> usize
+    requires { ⌜ Width w ⌝ }
+    requires { ⌜ count < 2 ^ 32 ⌝ }
+    ensures { λ r. ⌜ (r ≡ w * count) × (r ≤ 4 * count) ⌝ }
+{
+    w * count
 }
 
 // The number that the two bytes from position p on make.
@@ -38,6 +48,17 @@ pub fn num(s: &[u8], w: usize, i: usize) -> usize
     } else {
         pair(s, p) + 65536 * pair(s, p + 2)
     }
+}
+
+// The part that holds count numbers from number `from` on.
+pub fn numbers_from(s: &[u8], w: usize, from: usize, count: usize) -> &[u8]
+    requires { ⌜ Width w ⌝ }
+    requires { ⌜ (from + count < 2 ^ 32) × (w * (from + count) ≤ length (now s)) ⌝ }
+    ensures { λ r. ⌜ Part (now (s .entry)) (w * from) (w * count) (now r) ⌝ }
+{
+    let start = bytes_of(w, from);
+    let end = bytes_of(w, from + count);
+    &s[start..end]
 }
 
 // Writes v, its lowest w bytes, as number i of a stretch of numbers of w bytes.

@@ -1,0 +1,102 @@
+// Each section as its own stretch of the stored bytes: a part of the lent index. So are the two halves of a labelling and one group's children.
+use crate::header::Layout;
+use crate::header::label_count;
+ghost use Prim.Native.Nat.{_+_, _*_, _≤_, _<_};
+ghost use lib.ListN.{length};
+ghost use Rattle.lineage.specs.Numbers.{Width, numAt};
+ghost use Rattle.stored.specs.Header.{Laid};
+ghost use Rattle.numbers.specs.Regions.{Part};
+ghost use Rattle.stored.specs.Sections.{Section, ChildrenOf};
+
+// The name of each vertex's group.
+pub fn names(index: &[u8], l: Layout) -> &[u8]
+    requires { ⌜ Laid (now index) l ⌝ }
+    ensures { λ r. ⌜ Section (now (index .entry)) l 0 (now r) ⌝ }
+{
+    let from = l.names;
+    let to = l.groups;
+    &index[from..to]
+}
+
+// The names of all groups, rising.
+pub fn groups(index: &[u8], l: Layout) -> &[u8]
+    requires { ⌜ Laid (now index) l ⌝ }
+    ensures { λ r. ⌜ Section (now (index .entry)) l 1 (now r) ⌝ }
+{
+    let from = l.groups;
+    let to = l.levels;
+    &index[from..to]
+}
+
+// The level of each group, by place.
+pub fn levels(index: &[u8], l: Layout) -> &[u8]
+    requires { ⌜ Laid (now index) l ⌝ }
+    ensures { λ r. ⌜ Section (now (index .entry)) l 2 (now r) ⌝ }
+{
+    let from = l.levels;
+    let to = l.starts;
+    &index[from..to]
+}
+
+// Where each group's children start, by place, and at the end c.
+pub fn starts(index: &[u8], l: Layout) -> &[u8]
+    requires { ⌜ Laid (now index) l ⌝ }
+    ensures { λ r. ⌜ Section (now (index .entry)) l 3 (now r) ⌝ }
+{
+    let from = l.starts;
+    let to = l.children;
+    &index[from..to]
+}
+
+// The children of all groups, one group after the other.
+pub fn children(index: &[u8], l: Layout) -> &[u8]
+    requires { ⌜ Laid (now index) l ⌝ }
+    ensures { λ r. ⌜ Section (now (index .entry)) l 4 (now r) ⌝ }
+{
+    let from = l.children;
+    let to = l.labels;
+    &index[from..to]
+}
+
+// The labels, one labelling after the other.
+pub fn labels(index: &[u8], l: Layout) -> &[u8]
+    requires { ⌜ Laid (now index) l ⌝ }
+    ensures { λ r. ⌜ Section (now (index .entry)) l 5 (now r) ⌝ }
+{
+    let from = l.labels;
+    let to = l.total;
+    &index[from..to]
+}
+
+// The k triples s, m, e of labelling j, by place.
+pub fn triples(labels: &[u8], w: usize, k: usize, d: usize, j: usize) -> &[u8]
+    requires { ⌜ Width w ⌝ }
+    requires { ⌜ (k ≤ 200000) × ((d ≤ 5) × (j < d)) ⌝ }
+    requires { ⌜ w * (d * (4 * k)) ≤ length (now labels) ⌝ }
+    ensures { λ r. ⌜ Part (now (labels .entry)) (w * (j * (4 * k))) (w * (3 * k)) (now r) ⌝ }
+{
+    numbers::numbers_from(labels, w, label_count(k, j), 3 * k)
+}
+
+// The k places by rank of labelling j.
+pub fn by_rank(labels: &[u8], w: usize, k: usize, d: usize, j: usize) -> &[u8]
+    requires { ⌜ Width w ⌝ }
+    requires { ⌜ (k ≤ 200000) × ((d ≤ 5) × (j < d)) ⌝ }
+    requires { ⌜ w * (d * (4 * k)) ≤ length (now labels) ⌝ }
+    ensures { λ r. ⌜ Part (now (labels .entry)) (w * (j * (4 * k) + 3 * k)) (w * k) (now r) ⌝ }
+{
+    numbers::numbers_from(labels, w, label_count(k, j) + 3 * k, k)
+}
+
+// One group's children, from child start to next child start: the very bytes of the stored form.
+pub fn children_of<'a>(starts: &[u8], children: &'a [u8], w: usize, p: usize) -> &'a [u8]
+    requires { ⌜ Width w ⌝ }
+    requires { ⌜ w * (p + 1) + w ≤ length (now starts) ⌝ }
+    requires { ⌜ numAt w (now starts) p ≤ numAt w (now starts) (p + 1) ⌝ }
+    requires { ⌜ w * numAt w (now starts) (p + 1) ≤ length (now children) ⌝ }
+    ensures { λ r. ⌜ ChildrenOf (now (starts .entry)) (now (children .entry)) w p (now r) ⌝ }
+{
+    let start = numbers::num(starts, w, p);
+    let next = numbers::num(starts, w, p + 1);
+    numbers::numbers_from(children, w, start, next - start)
+}
