@@ -1,0 +1,80 @@
+-- Child starts from what was read of them.
+use mathlib.Core.Bool.{Bool, true, false, _&&_}
+use mathlib.Core.Path.{_≡_, refl, sym, ap, _∙_}
+use mathlib.Core.List.{List}
+use Prim.Native.Nat.{ℕ, zero, suc, _+_, _-_, _≤_, _<_}
+use native.Mathlib.Omega.{arith}
+use native.Mathlib.Numerals.{add-one}
+use lib.Dec.{eqb, leb}
+use lib.ListN.{getD}
+use borrow.Author.Tests.{le-leb, lt-leb, eq-eqb, ne-eqb, leb-true, eqb-true}
+use Rattle.lineage.specs.Lists.{allBelow}
+use Rattle.lineage.specs.Numbers.{numAt, numbers}
+use Rattle.lineage.specs.Sound.{startsPass}
+use Rattle.laws.proofs.Tests.{and-left, and-right}
+use Rattle.numbers.proofs.Numbers.{numbers-at}
+use Rattle.sound_groups.specs.Fit.{Starts, Rows, Row}
+use Rattle.sound_groups.proofs.Passed.{all-at}
+use Rattle.sound_groups.proofs.Read.{was-read}
+
+-- the start of p is not above the next
+abbrev pub notFalling : List ℕ → ℕ → Bool
+notFalling starts p = leb (getD starts p 0) (getD starts (suc p) 0)
+
+module _ {w k : ℕ} {starts : List ℕ} (S : Starts w starts k) where
+  module _ {p a b : ℕ} (low : p < k) (this : a ≡ numAt w starts p) (next : b ≡ numAt w starts (p + 1)) where
+    these : notFalling (numbers w starts (k + 1)) p ≡ leb a b
+    these = rw (← (was-read (S .held) {i = p} (omega arith) this), ← (was-read (S .held) {i = suc p} (omega arith) (rw (add-one p) at next)))
+
+    pub start-keeps : a ≤ b → notFalling (numbers w starts (k + 1)) p ≡ true
+    start-keeps h = these ∙ le-leb a b h
+
+    pub start-falls : b < a → notFalling (numbers w starts (k + 1)) p ≡ false
+    start-falls h = these ∙ lt-leb a b h
+
+  module _ {a : ℕ} (c : ℕ) (first : a ≡ numAt w starts 0) where
+    zeroth : a ≡ getD (numbers w starts (k + 1)) 0 0
+    zeroth = was-read (S .held) {i = 0} (omega arith) first
+
+    pub starts-wrong : (a ≡ 0 → ⊥) → false ≡ startsPass (numbers w starts (k + 1)) k c
+    starts-wrong f = rw (← zeroth, ne-eqb a 0 f)
+
+    pub starts-fall : a ≡ 0 → allBelow k (notFalling (numbers w starts (k + 1))) ≡ false → false ≡ startsPass (numbers w starts (k + 1)) k c
+    starts-fall z f = rw (← zeroth, eq-eqb a 0 z, f)
+
+    pub starts-end : {b : ℕ} → a ≡ 0 → allBelow k (notFalling (numbers w starts (k + 1))) ≡ true → b ≡ numAt w starts k → eqb b c ≡ startsPass (numbers w starts (k + 1)) k c
+    starts-end z t e = rw (← zeroth, eq-eqb a 0 z, t, ← (was-read (S .held) {i = k} (omega arith) e))
+
+-- Starts that have passed: none falls, and none is above c.
+module _ {w k c : ℕ} {starts : List ℕ} (R : Rows w starts k c) where
+  later : (allBelow k (notFalling (numbers w starts (k + 1))) && eqb (getD (numbers w starts (k + 1)) k 0) c) ≡ true
+  later = and-right (eqb (getD (numbers w starts (k + 1)) 0 0) 0) _ (R .passed)
+
+  at : (p : ℕ) → p ≤ k → getD (numbers w starts (k + 1)) p 0 ≡ numAt w starts p
+  at p h = numbers-at w starts (k + 1) p (omega arith)
+
+  pub row-rises : (p : ℕ) → p < k → numAt w starts p ≤ numAt w starts (p + 1)
+  row-rises p h =
+      let S : List ℕ = numbers w starts (k + 1) in
+      let t : notFalling S p ≡ true = all-at (notFalling S) k p (and-left (allBelow k (notFalling S)) (eqb (getD S k 0) c) later) h in
+      omega (arith, leb-true (getD S p 0) (getD S (suc p) 0) t, at p (omega arith), at (suc p) h, ap (numAt w starts) (add-one p))
+
+  climb : (j p : ℕ) → p + j ≡ k → numAt w starts p ≤ c
+  climb zero p e =
+      let S : List ℕ = numbers w starts (k + 1) in
+      let last : getD S k 0 ≡ c = eqb-true (getD S k 0) c (and-right (allBelow k (notFalling S)) (eqb (getD S k 0) c) later) in
+      let here : p ≡ k = omega arith in
+      omega (arith, last, at k (omega arith), ap (numAt w starts) here)
+  climb (suc j) p e = omega (arith, row-rises p (omega arith), climb j (p + 1) (omega arith))
+
+  pub row-within : (p : ℕ) → p ≤ k → numAt w starts p ≤ c
+  row-within p h = climb (k - p) p (omega arith)
+
+  -- the row between two starts that were read
+  pub row-between : {p a b : ℕ} → p < k → a ≡ numAt w starts p → b ≡ numAt w starts (p + 1) → Row w starts k c p a (b - a)
+  row-between {p} {a} {b} h ea eb = record {
+    low = h;
+    begins = ea;
+    ends = omega (arith, row-rises p h);
+    within = omega (arith, row-rises p h, row-within (p + 1) (omega arith));
+  }

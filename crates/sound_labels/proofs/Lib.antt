@@ -1,0 +1,4 @@
+pub mod Read
+pub mod Ranks
+pub mod Falls
+pub mod Least
