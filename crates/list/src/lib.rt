@@ -1,0 +1,2 @@
+// The downstream list: all vertices that a vertex reaches, rising (document 01, "Downstream list").
+pub mod sweep;
