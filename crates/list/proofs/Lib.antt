@@ -3,3 +3,4 @@ pub mod Turn
 pub mod Swept
 pub mod Marking
 pub mod Sweeping
+pub mod Writing

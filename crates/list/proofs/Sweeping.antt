@@ -1,5 +1,5 @@
 -- The sweep on its way down: sweeping the ranks that are left, over the marks as they are, comes to the whole sweep over the marks as they were.
-use mathlib.Core.Path.{_≡_, refl, sym, ap, _∙_}
+use mathlib.Core.Path.{_≡_, refl, sym, _∙_}
 use mathlib.Core.List.{List, []}
 use Prim.Native.Nat.{ℕ, suc, _≤_}
 use native.Mathlib.Omega.{arith}

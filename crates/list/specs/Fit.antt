@@ -14,3 +14,8 @@ pub record Spots (w k c : ℕ) (groups starts children : List ℕ) (marks : ℕ)
 pub record Ranked (w k : ℕ) (places : List ℕ) : Type 0 where
   pub places-held : Holds w places k
   pub place-low : (r : ℕ) → r < k → numAt w places r < k
+
+-- the names of n vertices' groups, each with its mark among so many
+pub record Names (w n : ℕ) (names : List ℕ) (marks : ℕ) : Type 0 where
+  pub held : Holds w names n
+  pub name-low : (v : ℕ) → v < n → numAt w names v < marks

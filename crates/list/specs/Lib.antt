@@ -1,3 +1,4 @@
--- What the contracts inside this crate say of marks and of the lent sections.
+-- What the contracts inside this crate say of marks, vertices and the lent sections.
 pub mod Sweep
+pub mod Listing
 pub mod Fit

@@ -1,2 +1,3 @@
 // The downstream list: all vertices that a vertex reaches, rising (document 01, "Downstream list").
+pub mod listing;
 pub mod sweep;
