@@ -46,7 +46,8 @@ le-part (suc w) s b size p h =
 pub le-own : (w : ℕ) (s : List ℕ) (p : ℕ) → leAt w s p ≡ leAt w (part s p w) 0
 le-own w s p = sym (le-part w s p w 0 (omega arith) ∙ ap (leAt w s) (add-zero p))
 
-le-tail : (w a : ℕ) (s : List ℕ) (p : ℕ) → leAt w (a ∷ s) (p + 1) ≡ leAt w s p
+-- without the first byte
+pub le-tail : (w a : ℕ) (s : List ℕ) (p : ℕ) → leAt w (a ∷ s) (p + 1) ≡ leAt w s p
 unfolding leAt
 le-tail zero a s p = refl
 le-tail (suc w) a s p = omega (arith, ap (λ (n : ℕ). getD (a ∷ s) n 0) (add-one p), le-tail w a s (p + 1))

@@ -4,7 +4,7 @@ use mathlib.Core.List.{List, [], _∷_, _++_}
 use Prim.Native.Nat.{ℕ, zero, suc, _+_, _-_, _≤_}
 use native.Mathlib.Omega.{arith}
 use native.Mathlib.Nat.{sub-zero, zero-sub, suc-sub-suc, not-suc-le-zero}
-use lib.ListN.{length, take, drop, length-drop}
+use lib.ListN.{length, take, drop, length-take, length-drop}
 use lib.Seq.{take-length, take-nil, take-take, take-append-le, drop-append-le, drop-drop}
 use Rattle.lineage.specs.Lists.{part}
 
@@ -46,6 +46,11 @@ module _ {A : Type 0} where
   pub part-part : (s : List A) (a n at size : ℕ) → at + size ≤ n → part (part s a n) at size ≡ part s (a + at) size
   unfolding part
   part-part s a n at size h = part-take (drop a s) n at size h ∙ part-drop s a at size
+
+  -- it is not longer than its size
+  pub part-beyond : (s : List A) (at size i : ℕ) → size ≤ i → length (part s at size) ≤ i
+  unfolding part
+  part-beyond s at size i h = omega (arith, length-take size (drop at s))
 
   -- the whole
   pub part-whole : (s : List A) (n : ℕ) → length s ≡ n → part s 0 n ≡ s

@@ -58,6 +58,9 @@ module _ {a r : Bool} (e : r ≡ a) where
   pub answered : not r ≡ false → a ≡ true
   answered t = rw (← e) (not-false r t)
 
+  pub refused : not r ≡ true → a ≡ false
+  refused f = rw (← e) (not-true r f)
+
   pub and-fails : (b : Bool) → not r ≡ true → false ≡ (a && b)
   and-fails b f = rw (← e, not-true r f)
 

@@ -1,6 +1,11 @@
 -- What is asked of the stretches of one labelling before they are tested.
+use mathlib.Core.Bool.{true}
+use mathlib.Core.Path.{_≡_}
 use mathlib.Core.List.{List}
-use Prim.Native.Nat.{ℕ, _*_, _≤_}
+use Prim.Native.Nat.{ℕ, _*_}
+use Rattle.lineage.specs.Lists.{allBelow}
+use Rattle.lineage.specs.Sound.{rankPasses, innerPasses}
+use Rattle.sections.specs.Sections.{labellingIn}
 use Rattle.sound_groups.specs.Fit.{Holds, Places}
 
 -- a stretch holds the triples s, m, e of k groups
@@ -16,3 +21,9 @@ pub record Labels (w : ℕ) (triples places : List ℕ) (k : ℕ) : Type 0 where
 pub record Labelled (w : ℕ) (starts children triples places : List ℕ) (k c : ℕ) : Type 0 where
   pub below : Places w starts children k c
   pub labels : Labels w triples places k
+
+-- a labelling whose ranks and inner intervals have passed their tests
+pub record Ranked (w : ℕ) (triples places : List ℕ) (k : ℕ) : Type 0 where
+  pub labels : Labels w triples places k
+  pub ranks : allBelow k (rankPasses k (labellingIn w triples places k)) ≡ true
+  pub inners : allBelow k (innerPasses (labellingIn w triples places k)) ≡ true

@@ -1,12 +1,15 @@
 // The tests of one labelling: with those of the groups they decide whether contents are sound.
 ghost use mathlib.Core.Path.{_≡_};
-ghost use Prim.Native.Nat.{_+_, _*_, _^_, _<_, min};
+ghost use Prim.Native.Nat.{_+_, _*_, _^_, _≤_, _<_, min};
+ghost use lib.ListN.{length};
 ghost use Rattle.lineage.specs.Lists.{allBelow};
-ghost use Rattle.lineage.specs.Numbers.{numAt};
-ghost use Rattle.lineage.specs.Sound.{rankPasses, fallPasses, outerPasses, innerPasses};
+ghost use Rattle.lineage.specs.Numbers.{numAt, numbers};
+ghost use Rattle.lineage.specs.Sound.{childOf, walkEnds, rankPasses, fallPasses, outerPasses, innerPasses, blockPasses, labelsPass};
 ghost use Rattle.sections.specs.Sections.{childrenIn, labellingIn};
+ghost use Rattle.sound_groups.specs.Fit.{Places};
 ghost use Rattle.sound_labels.specs.Tests.{leastBelow};
-ghost use Rattle.sound_labels.specs.Fit.{Triples, Labels, Labelled};
+ghost use Rattle.sound_labels.specs.Marks.{marked, unmarked, Within, Tells};
+ghost use Rattle.sound_labels.specs.Fit.{Triples, Labels, Labelled, Ranked};
 use numbers::num;
 use sound_groups::row_span;
 
@@ -208,4 +211,152 @@ fn inners_pass(triples: &[u8], places: &[u8], w: usize, k: usize) -> bool
         p += 1;
     }
     true
+}
+
+// Whether q is a child of group p: it is looked for in the row, which rises, by halves.
+fn child_in(
+    starts: &[u8],
+    children: &[u8],
+    w: usize,
+    k: usize,
+    c: usize,
+    p: usize,
+    q: usize,
+) -> bool
+    requires { ⌜ Places w (now starts) (now children) k c ⌝ }
+    requires { ⌜ p < k ⌝ }
+    ensures { λ a. ⌜ a ≡ childOf (childrenIn w (now (starts .entry)) (now (children .entry)) k c) p q ⌝ }
+{
+    let row = row_span(starts, w, k, c, p);
+    let from = row.from;
+    let mut low = 0;
+    let mut high = row.len;
+    while low < high {
+        let middle = low + (high - low) / 2;
+        let x = num(children, w, from + middle);
+        if x == q {
+            return true;
+        }
+        if x < q {
+            low = middle + 1;
+        } else {
+            high = middle;
+        }
+    }
+    false
+}
+
+// Whether the inner interval of group p is its own rank and, side by side, the inner intervals of children of p.
+fn block_passes(
+    starts: &[u8],
+    children: &[u8],
+    triples: &[u8],
+    places: &[u8],
+    w: usize,
+    k: usize,
+    c: usize,
+    p: usize,
+) -> bool
+    requires { ⌜ Places w (now starts) (now children) k c ⌝ }
+    requires { ⌜ Ranked w (now triples) (now places) k ⌝ }
+    requires { ⌜ p < k ⌝ }
+    ensures { λ a. ⌜ a ≡ blockPasses (childrenIn w (now (starts .entry)) (now (children .entry)) k c) (labellingIn w (now (triples .entry)) (now (places .entry)) k) p ⌝ }
+{
+    let low = label(triples, w, k, p, M) - 1;
+    let mut rank = label(triples, w, k, p, E) - 1;
+    while low < rank {
+        let q = num(places, w, rank - 1);
+        if !child_in(starts, children, w, k, c, p, q) {
+            return false;
+        }
+        rank = label(triples, w, k, q, M) - 1;
+    }
+    rank == low
+}
+
+// Whether the inner interval of every group is.
+fn blocks_pass(
+    starts: &[u8],
+    children: &[u8],
+    triples: &[u8],
+    places: &[u8],
+    w: usize,
+    k: usize,
+    c: usize,
+) -> bool
+    requires { ⌜ Places w (now starts) (now children) k c ⌝ }
+    requires { ⌜ Ranked w (now triples) (now places) k ⌝ }
+    ensures { λ a. ⌜ a ≡ allBelow k (blockPasses (childrenIn w (now (starts .entry)) (now (children .entry)) k c) (labellingIn w (now (triples .entry)) (now (places .entry)) k)) ⌝ }
+{
+    let mut p = 0;
+    while p < k {
+        if !block_passes(starts, children, triples, places, w, k, c, p) {
+            return false;
+        }
+        p += 1;
+    }
+    true
+}
+
+// Marks every child: sets the mark of each of the c child entries to 1.
+pub fn mark_children(children: &[u8], marks: &mut [u8], w: usize, c: usize)
+    requires { ⌜ Within w (now children) c (length (now marks)) ⌝ }
+    ensures { λ _. ⌜ now (marks .exit) ≡ marked (numbers w (now (children .entry)) c) (now (marks .entry)) ⌝ }
+{
+    let mut j = 0;
+    while j < c {
+        let q = num(children, w, j);
+        marks[q] = 1;
+        j += 1;
+    }
+}
+
+// Whether all ranks are, side by side, the inner intervals of groups whose mark is 0.
+fn roots_pass(triples: &[u8], places: &[u8], marks: &[u8], w: usize, k: usize) -> bool
+    requires { ⌜ Ranked w (now triples) (now places) k ⌝ }
+    requires { ⌜ k ≤ length (now marks) ⌝ }
+    ensures { λ a. ⌜ a ≡ walkEnds (labellingIn w (now (triples .entry)) (now (places .entry)) k) (unmarked (now (marks .entry))) k k 0 ⌝ }
+{
+    let mut rank = k;
+    while 0 < rank {
+        let q = num(places, w, rank - 1);
+        if marks[q] != 0 {
+            return false;
+        }
+        rank = label(triples, w, k, q, M) - 1;
+    }
+    true
+}
+
+// Whether one labelling is by the rules over the children, marks telling who is nobody's child.
+fn labels_pass(
+    starts: &[u8],
+    children: &[u8],
+    triples: &[u8],
+    places: &[u8],
+    marks: &[u8],
+    w: usize,
+    k: usize,
+    c: usize,
+) -> bool
+    requires { ⌜ Labelled w (now starts) (now children) (now triples) (now places) k c ⌝ }
+    requires { ⌜ Tells (childrenIn w (now starts) (now children) k c) (now marks) k ⌝ }
+    ensures { λ a. ⌜ a ≡ labelsPass (childrenIn w (now (starts .entry)) (now (children .entry)) k c) (labellingIn w (now (triples .entry)) (now (places .entry)) k) ⌝ }
+{
+    if !ranks_pass(triples, places, w, k) {
+        return false;
+    }
+    if !falls_pass(starts, children, triples, places, w, k, c) {
+        return false;
+    }
+    if !outers_pass(starts, children, triples, places, w, k, c) {
+        return false;
+    }
+    if !inners_pass(triples, places, w, k) {
+        return false;
+    }
+    if !blocks_pass(starts, children, triples, places, w, k, c) {
+        return false;
+    }
+    roots_pass(triples, places, marks, w, k)
 }
