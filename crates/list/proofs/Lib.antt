@@ -1,6 +1,7 @@
 -- The laws that the proofs of this crate cite.
 pub mod Turn
 pub mod Swept
+pub mod Downstream
 pub mod Marking
 pub mod Sweeping
 pub mod Writing

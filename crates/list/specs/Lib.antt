@@ -1,4 +1,5 @@
 -- What the contracts inside this crate say of marks, vertices and the lent sections.
 pub mod Sweep
 pub mod Listing
+pub mod Marks
 pub mod Fit
