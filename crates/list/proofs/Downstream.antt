@@ -42,7 +42,7 @@ those-same p q (x ∷ xs) same = at (q x) refl (those-same p q xs (λ y i. same 
     at false e ih = those-no p x xs (same x (here x xs) ∙ e) ∙ ih ∙ sym (those-no q x xs e)
 
 -- the first of some sound labellings
-first-sound : (children : List (List ℕ)) (labels : List Labelling) → Every (SoundLabelling children) labels → 0 < length labels → SoundLabelling children (firstLabels labels)
+pub first-sound : (children : List (List ℕ)) (labels : List Labelling) → Every (SoundLabelling children) labels → 0 < length labels → SoundLabelling children (firstLabels labels)
 first-sound children [] all h = absurd (not-suc-le-zero h)
 first-sound children (l ∷ labels) all h = all .0
 

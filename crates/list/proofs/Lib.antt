@@ -2,6 +2,8 @@
 pub mod Turn
 pub mod Swept
 pub mod Downstream
+pub mod Contents
+pub mod Fitted
 pub mod Marking
 pub mod Sweeping
 pub mod Writing
