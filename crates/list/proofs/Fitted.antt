@@ -1,6 +1,6 @@
 -- What the sections of sound contents give the sweep: they are fit for it, and what it reads of them is what the index has.
 use mathlib.Core.Bool.{Bool, true, _&&_}
-use mathlib.Core.Path.{_≡_, sym, ap, ap₂, _∙_}
+use mathlib.Core.Path.{_≡_, refl, sym, ap, ap₂, _∙_}
 use mathlib.Core.List.{List}
 use Prim.Native.Nat.{ℕ, _+_, _*_, _≤_, _<_}
 use native.Mathlib.Omega.{arith}
@@ -72,6 +72,22 @@ module _
 
     sound-index : Sound I
     sound-index = sound-decides I .0 (S .index-sound)
+
+    -- the index that the bytes hold is sound, and has a labelling
+    pub index-sound : Sound (indexIn b)
+    index-sound = rw (index-is O P) sound-index
+
+    pub labels-some : 0 < length (indexIn b .labels)
+    unfolding indexFrom
+    labels-some = rw (index-is O P) (omega (arith, labels-long w labels k d, O .laid .least))
+
+    -- its names are those of the section
+    pub names-are : numbers w names n ≡ indexIn b .names
+    unfolding indexFrom
+    names-are = rw (index-is O P) refl
+
+    pub names-count : length (indexIn b .names) ≡ n
+    names-count = ap length (sym names-are) ∙ numbers-long w names n
 
     sound-groups : SoundGroups (numbers w names n) (numbers w groups k) (numbers w levels k) (childrenIn w starts children k c)
     unfolding indexFrom

@@ -4,6 +4,7 @@ pub mod Swept
 pub mod Downstream
 pub mod Contents
 pub mod Fitted
+pub mod Found
 pub mod Marking
 pub mod Sweeping
 pub mod Writing

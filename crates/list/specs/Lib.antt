@@ -3,3 +3,4 @@ pub mod Sweep
 pub mod Listing
 pub mod Marks
 pub mod Fit
+pub mod Listed
