@@ -1,0 +1,133 @@
+/* Lends the library's calls to a program on the other side of a pipe: a request names a call, its numbers and its buffers; the reply is what the call
+ * returned and what every writable buffer holds afterwards. Each buffer is lent flush against a page that nothing may touch, so a read or a write one
+ * element past its length ends this process, and with it the test. The library is x86-64 code; the program that asks may run on any machine. */
+#define _DEFAULT_SOURCE
+#include <stdint.h>
+#include <stdio.h>
+#include <stdlib.h>
+#include <string.h>
+#include <sys/mman.h>
+#include <unistd.h>
+
+typedef struct { uint32_t refusal, extra, n, k, c, d; } opened;
+typedef struct { uint32_t refusal, extra, yes, reason, opened, deciding; } asked;
+typedef struct { uint32_t refusal, extra, count; } counted;
+
+opened trial_open(const uint8_t *index, size_t index_len, uint8_t *marks, size_t marks_len);
+asked trial_ask(const uint8_t *index, size_t index_len, uint8_t *marks, size_t marks_len, uint32_t source, uint32_t target);
+counted trial_list(const uint8_t *index, size_t index_len, uint8_t *marks, size_t marks_len, uint32_t *out, size_t out_len, uint32_t vertex);
+counted trial_build(const uint32_t *sources, size_t sources_len, const uint32_t *targets, size_t targets_len, const uint32_t *orders,
+                    size_t orders_len, uint32_t *work, size_t work_len, uint8_t *out, size_t out_len, uint32_t n, uint32_t d);
+
+enum { OPEN = 1, ASK = 2, LIST = 3, BUILD = 4, ASK_ALL = 5 };
+
+static void take(void *to, size_t size) {
+    if (fread(to, 1, size, stdin) != size) exit(2);
+}
+
+static uint32_t number(void) {
+    uint32_t x;
+    take(&x, 4);
+    return x;
+}
+
+static void give(const void *from, size_t size) {
+    if (fwrite(from, 1, size, stdout) != size) exit(2);
+}
+
+/* a lent buffer: `size` bytes that end where the forbidden page begins */
+typedef struct { uint8_t *at, *room; size_t size, whole, length; } lent;
+
+static lent buffer(size_t element) {
+    size_t page = (size_t)sysconf(_SC_PAGESIZE);
+    lent b;
+    b.length = number();
+    b.size = b.length * element;
+    b.whole = (b.size + page - 1) / page * page + page;
+    b.room = mmap(NULL, b.whole, PROT_READ | PROT_WRITE, MAP_PRIVATE | MAP_ANONYMOUS, -1, 0);
+    if (b.room == MAP_FAILED || mprotect(b.room + b.whole - page, page, PROT_NONE)) exit(3);
+    b.at = b.room + b.whole - page - b.size;
+    take(b.at, b.size);
+    return b;
+}
+
+static void done(lent b) { munmap(b.room, b.whole); }
+
+static void give_back(lent b) {
+    give(b.at, b.size);
+    done(b);
+}
+
+static void serve_open(void) {
+    lent index = buffer(1), marks = buffer(1);
+    opened r = trial_open(index.at, index.length, marks.at, marks.length);
+    give(&r, sizeof r);
+    done(index);
+    give_back(marks);
+}
+
+static void serve_ask(void) {
+    uint32_t source = number(), target = number();
+    lent index = buffer(1), marks = buffer(1);
+    asked r = trial_ask(index.at, index.length, marks.at, marks.length, source, target);
+    give(&r, sizeof r);
+    done(index);
+    give_back(marks);
+}
+
+/* one index, many questions, the same marks before each: answers, then each question's marks */
+static void serve_ask_all(void) {
+    lent index = buffer(1), marks = buffer(1), pairs = buffer(4);
+    uint8_t *before = malloc(marks.size + 1);
+    const uint32_t *pair = (const uint32_t *)pairs.at;
+    memcpy(before, marks.at, marks.size);
+    for (size_t i = 0; i + 1 < pairs.length; i += 2) {
+        memcpy(marks.at, before, marks.size);
+        asked r = trial_ask(index.at, index.length, marks.at, marks.length, pair[i], pair[i + 1]);
+        give(&r, sizeof r);
+        give(marks.at, marks.size);
+    }
+    free(before);
+    done(index);
+    done(pairs);
+    done(marks);
+}
+
+static void serve_list(void) {
+    uint32_t vertex = number();
+    lent index = buffer(1), marks = buffer(1), out = buffer(4);
+    counted r = trial_list(index.at, index.length, marks.at, marks.length, (uint32_t *)out.at, out.length, vertex);
+    give(&r, sizeof r);
+    done(index);
+    give_back(marks);
+    give_back(out);
+}
+
+static void serve_build(void) {
+    uint32_t n = number(), d = number();
+    lent sources = buffer(4), targets = buffer(4), orders = buffer(4), work = buffer(4), out = buffer(1);
+    counted r = trial_build((uint32_t *)sources.at, sources.length, (uint32_t *)targets.at, targets.length, (uint32_t *)orders.at, orders.length,
+                            (uint32_t *)work.at, work.length, out.at, out.length, n, d);
+    give(&r, sizeof r);
+    done(sources);
+    done(targets);
+    done(orders);
+    give_back(work);
+    give_back(out);
+}
+
+int main(void) {
+    uint32_t call;
+    while (fread(&call, 4, 1, stdin) == 1) {
+        switch (call) {
+        case OPEN: serve_open(); break;
+        case ASK: serve_ask(); break;
+        case LIST: serve_list(); break;
+        case BUILD: serve_build(); break;
+        case ASK_ALL: serve_ask_all(); break;
+        default: return 4;
+        }
+        if (fflush(stdout)) return 2;
+    }
+    return 0;
+}

@@ -1,0 +1,130 @@
+//! One call made twice, of the library and of the independent program, on the same input and equal buffers: outcomes and buffers must be equal. Buffers
+//! are lent with a pattern in them and a few elements behind what the call may touch.
+
+use crate::Library;
+use independent::chance::Chance;
+use independent::graph::flat;
+use independent::{Graph, Index};
+
+/// What buffers hold before a call.
+const PATTERN: u8 = 0xa5;
+
+/// The header's n, kept to a size that marks can be lent for; a header too short for one says 0.
+fn marks_for(index: &[u8]) -> usize {
+    if index.len() < 8 {
+        return 0;
+    }
+    (u32::from_le_bytes(index[4..8].try_into().unwrap()) as usize).min(5_000)
+}
+
+pub fn open(library: &mut Library, index: &[u8], marks: usize) {
+    let (mut ours, mut theirs) = (vec![PATTERN; marks], vec![PATTERN; marks]);
+    let got = library.open(index, &mut ours);
+    let expected = independent::open(index, &mut theirs);
+    assert_eq!(got, expected, "open of {} bytes with {marks} marks", index.len());
+    assert_eq!(ours, theirs, "marks after open: {expected:?}");
+}
+
+/// Open with marks as long as the header asks, and one shorter and longer.
+pub fn open_around(library: &mut Library, index: &[u8]) {
+    let n = marks_for(index);
+    for marks in [n.saturating_sub(1), n, n + 3] {
+        open(library, index, marks);
+    }
+}
+
+/// Every question of `pairs`, of bytes that open and of bytes that do not.
+pub fn ask(library: &mut Library, index: &[u8], pairs: &[(u32, u32)]) {
+    let marks = marks_for(index) + 3;
+    let before = vec![PATTERN; marks];
+    for (&(u, v), (got, ours)) in pairs.iter().zip(library.ask_all(index, &before, pairs)) {
+        let mut theirs = before.clone();
+        let expected = independent::ask(index, u, v, &mut theirs);
+        assert_eq!(got, expected, "{u} to {v}");
+        assert_eq!(ours, theirs, "marks after {u} to {v}: {expected:?}");
+    }
+}
+
+/// Questions of an index that the independent program has made and need not judge each time; answers by its own walk, yes and no by plain closure.
+pub fn ask_made(library: &mut Library, graph: &Graph, index: &Index, image: &[u8], pairs: &[(u32, u32)]) {
+    let closure = independent::closure::Closure::of(graph);
+    let n = graph.n;
+    let before = vec![PATTERN; n + 3];
+    for (&(u, v), (got, marks)) in pairs.iter().zip(library.ask_all(image, &before, pairs)) {
+        let asked = index.question(u as usize, v as usize);
+        let got = got.expect("a question in range of a sound index is answered");
+        assert_eq!(got, asked.answer, "{u} to {v}");
+        assert_eq!(got.yes, closure.reaches(u as usize, v as usize), "{u} to {v}: yes exactly when a path exists");
+        let mut expected = before.clone();
+        expected[..n].fill(0);
+        asked.opened.iter().for_each(|&name| expected[name] = 1);
+        assert_eq!(marks, expected, "marks after {u} to {v}");
+    }
+}
+
+/// The downstream list into a list that is longer than needed, exact, and one too short.
+pub fn list(library: &mut Library, index: &[u8], vertex: u32) {
+    let marks = marks_for(index) + 3;
+    let needed = independent::list(index, vertex, &mut vec![0; marks], &mut vec![0; 5_000]).unwrap_or(0) as usize;
+    for size in [needed + 2, needed, needed.saturating_sub(1)] {
+        let (mut ours, mut theirs) = (vec![PATTERN; marks], vec![PATTERN; marks]);
+        let (mut got, mut expected) = (vec![0xdead_beef; size], vec![0xdead_beef; size]);
+        let result = library.list(index, vertex, &mut ours, &mut got);
+        let right = independent::list(index, vertex, &mut theirs, &mut expected);
+        assert_eq!(result, right, "list of {vertex} into {size}");
+        assert_eq!(got, expected, "the list of {vertex}");
+        assert_eq!(ours, theirs, "marks after the list of {vertex}");
+    }
+}
+
+/// What a build is lent, but for its memory.
+#[derive(Clone, Debug)]
+pub struct Input {
+    pub n: u32,
+    pub sources: Vec<u32>,
+    pub targets: Vec<u32>,
+    pub orders: Vec<u32>,
+    pub d: u32,
+}
+
+impl Input {
+    pub fn of(graph: &Graph, orders: &[Vec<usize>]) -> Input {
+        let d = orders.len() as u32;
+        Input { n: graph.n as u32, sources: graph.sources(), targets: graph.targets(), orders: flat(orders), d }
+    }
+
+    pub fn work_needed(&self) -> usize {
+        16 * self.n as usize + 4 * self.sources.len() + 64
+    }
+}
+
+/// A build into memory of these sizes.
+pub fn build(library: &mut Library, input: &Input, work: usize, out: usize) {
+    let (mut our_work, mut their_work) = (vec![0x5a5a_5a5a; work], vec![0x5a5a_5a5a; work]);
+    let (mut our_out, mut their_out) = (vec![PATTERN; out], vec![PATTERN; out]);
+    let Input { n, sources, targets, orders, d } = input;
+    let got = library.build(*n, sources, targets, orders, *d, &mut our_work, &mut our_out);
+    let expected = independent::build(*n, sources, targets, orders, *d, &mut their_work, &mut their_out);
+    assert_eq!(got, expected, "build of {n} vertices, {} edges, d = {d}, work {work}, out {out}", sources.len());
+    assert!(our_out == their_out, "the output of a build of {n} vertices, {} edges, d = {d}: {expected:?}", sources.len());
+    assert!(our_work == their_work, "the work memory after a build of {n} vertices, {} edges, d = {d}: {expected:?}", sources.len());
+}
+
+/// A build into exact memory, into more, and into one element less of either.
+pub fn build_around(library: &mut Library, input: &Input) {
+    let work = input.work_needed();
+    let mut room = vec![0; 400_000];
+    let Input { n, sources, targets, orders, d } = input;
+    let total = independent::build(*n, sources, targets, orders, *d, &mut vec![0; work], &mut room).unwrap_or(0) as usize;
+    for (work, out) in [(work, total), (work + 5, total + 5), (work - 1, total), (work, total.saturating_sub(1))] {
+        build(library, input, work, out);
+    }
+}
+
+/// Pairs of vertices: all of them where they are few, a sample otherwise.
+pub fn pairs(chance: &mut Chance, n: usize, most: usize) -> Vec<(u32, u32)> {
+    if n * n <= most {
+        return (0..n as u32).flat_map(|u| (0..n as u32).map(move |v| (u, v))).collect();
+    }
+    (0..most).map(|_| (chance.below(n) as u32, chance.below(n) as u32)).collect()
+}

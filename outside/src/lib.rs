@@ -1,0 +1,168 @@
+//! The proved library, asked through a pipe: `serve.c` lends its calls, this module speaks to it. What comes back of each call is its outcome and the
+//! contents of every buffer that it could write.
+
+pub mod compare;
+
+use independent::{Answer, Counts, Refusal};
+use std::io::{BufReader, BufWriter, Read, Write};
+use std::process::{Child, ChildStdin, ChildStdout, Command, Stdio};
+
+/// The process that holds the library.
+pub struct Library {
+    child: Child,
+    to: BufWriter<ChildStdin>,
+    from: BufReader<ChildStdout>,
+}
+
+/// What a call returned: the numbers of its answer, or its refusal.
+pub type Outcome<T> = Result<T, Refusal>;
+
+const OPEN: u32 = 1;
+const ASK: u32 = 2;
+const LIST: u32 = 3;
+const BUILD: u32 = 4;
+const ASK_ALL: u32 = 5;
+
+/// The server that `outside/make` made, unless the environment names another.
+fn server() -> String {
+    std::env::var("DROBISTEN_SERVER").unwrap_or_else(|_| concat!(env!("CARGO_MANIFEST_DIR"), "/../target/outside/serve").to_string())
+}
+
+impl Library {
+    pub fn start() -> Library {
+        let mut child = Command::new(server())
+            .stdin(Stdio::piped())
+            .stdout(Stdio::piped())
+            .spawn()
+            .expect("the server starts: run outside/make first");
+        let to = BufWriter::with_capacity(1 << 20, child.stdin.take().unwrap());
+        let from = BufReader::with_capacity(1 << 20, child.stdout.take().unwrap());
+        Library { child, to, from }
+    }
+
+    fn number(&mut self, x: u32) {
+        self.to.write_all(&x.to_le_bytes()).unwrap();
+    }
+
+    fn bytes(&mut self, b: &[u8]) {
+        self.number(b.len() as u32);
+        self.to.write_all(b).unwrap();
+    }
+
+    fn words(&mut self, ws: &[u32]) {
+        self.number(ws.len() as u32);
+        for w in ws {
+            self.to.write_all(&w.to_le_bytes()).unwrap();
+        }
+    }
+
+    /// Numbers of a reply. A server that has ended has touched what was not lent.
+    fn reply<const N: usize>(&mut self) -> [u32; N] {
+        self.to.flush().unwrap();
+        let mut bytes = vec![0u8; 4 * N];
+        self.from.read_exact(&mut bytes).expect("the library answers, and touches nothing but what it was lent");
+        std::array::from_fn(|i| u32::from_le_bytes(bytes[4 * i..4 * i + 4].try_into().unwrap()))
+    }
+
+    fn bytes_back(&mut self, b: &mut [u8]) {
+        self.from.read_exact(b).expect("the buffer comes back");
+    }
+
+    fn words_back(&mut self, ws: &mut [u32]) {
+        let mut bytes = vec![0u8; 4 * ws.len()];
+        self.bytes_back(&mut bytes);
+        for (w, four) in ws.iter_mut().zip(bytes.chunks_exact(4)) {
+            *w = u32::from_le_bytes(four.try_into().unwrap());
+        }
+    }
+
+    pub fn open(&mut self, index: &[u8], marks: &mut [u8]) -> Outcome<Counts> {
+        self.number(OPEN);
+        self.bytes(index);
+        self.bytes(marks);
+        let [refusal, extra, n, k, c, d] = self.reply();
+        self.bytes_back(marks);
+        let counts = Counts { n: n as usize, k: k as usize, c: c as usize, d: d as usize };
+        outcome(refusal, extra, [n, k, c, d].iter().all(|&x| x == 0), counts)
+    }
+
+    fn answer([refusal, extra, yes, reason, opened, labelling]: [u32; 6]) -> Outcome<Answer> {
+        assert!(yes <= 1, "yes is 0 or 1");
+        let nothing = [yes, reason, opened, labelling].iter().all(|&x| x == 0);
+        outcome(refusal, extra, nothing, Answer { yes: yes == 1, reason, opened, labelling })
+    }
+
+    pub fn ask(&mut self, index: &[u8], source: u32, target: u32, marks: &mut [u8]) -> Outcome<Answer> {
+        self.number(ASK);
+        self.number(source);
+        self.number(target);
+        self.bytes(index);
+        self.bytes(marks);
+        let reply = self.reply();
+        self.bytes_back(marks);
+        Self::answer(reply)
+    }
+
+    /// Many questions of one index, each with the same marks lent; each answer with the marks after it.
+    pub fn ask_all(&mut self, index: &[u8], marks: &[u8], pairs: &[(u32, u32)]) -> Vec<(Outcome<Answer>, Vec<u8>)> {
+        self.number(ASK_ALL);
+        self.bytes(index);
+        self.bytes(marks);
+        self.words(&pairs.iter().flat_map(|&(u, v)| [u, v]).collect::<Vec<u32>>());
+        pairs
+            .iter()
+            .map(|_| {
+                let reply = self.reply();
+                let mut after = vec![0; marks.len()];
+                self.bytes_back(&mut after);
+                (Self::answer(reply), after)
+            })
+            .collect()
+    }
+
+    pub fn list(&mut self, index: &[u8], vertex: u32, marks: &mut [u8], out: &mut [u32]) -> Outcome<u32> {
+        self.number(LIST);
+        self.number(vertex);
+        self.bytes(index);
+        self.bytes(marks);
+        self.words(out);
+        let [refusal, extra, count] = self.reply();
+        self.bytes_back(marks);
+        self.words_back(out);
+        outcome(refusal, extra, count == 0, count)
+    }
+
+    #[allow(clippy::too_many_arguments)]
+    pub fn build(&mut self, n: u32, sources: &[u32], targets: &[u32], orders: &[u32], d: u32, work: &mut [u32], out: &mut [u8]) -> Outcome<u32> {
+        self.number(BUILD);
+        self.number(n);
+        self.number(d);
+        self.words(sources);
+        self.words(targets);
+        self.words(orders);
+        self.words(work);
+        self.bytes(out);
+        let [refusal, extra, total] = self.reply();
+        self.words_back(work);
+        self.bytes_back(out);
+        outcome(refusal, extra, total == 0, total)
+    }
+}
+
+/// Refusal 0 is none; with a refusal the numbers of the answer are 0.
+fn outcome<T>(number: u32, extra: u32, nothing: bool, answer: T) -> Outcome<T> {
+    if number == 0 {
+        assert_eq!(extra, 0, "no refusal, no extra number");
+        Ok(answer)
+    } else {
+        assert!(nothing, "a refusal carries no answer");
+        Err(Refusal { number, extra })
+    }
+}
+
+impl Drop for Library {
+    fn drop(&mut self) {
+        let _ = self.child.kill();
+        let _ = self.child.wait();
+    }
+}

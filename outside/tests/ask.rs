@@ -1,0 +1,52 @@
+//! Ask beside the independent program: answers by closure, reasons and counts by its own walk, marks byte by byte.
+
+use independent::chance::{Chance, Kind};
+use independent::stored::encode;
+use independent::{Graph, Index};
+use outside::compare;
+use outside::Library;
+
+#[test]
+fn all_pairs_on_random_graphs_of_every_kind() {
+    let (mut library, mut chance) = (Library::start(), Chance::new(31));
+    for round in 0..400 {
+        let n = chance.between(1, 24);
+        let graph = chance.graph(Kind::ALL[round % Kind::ALL.len()], n);
+        let d = chance.between(1, 5);
+        let index = Index::of(&graph, &chance.orders(graph.n, d));
+        let pairs = compare::pairs(&mut chance, graph.n, 600);
+        compare::ask_made(&mut library, &graph, &index, &encode(&index), &pairs);
+    }
+}
+
+#[test]
+fn vertices_out_of_range_and_damaged_images_are_refused() {
+    let (mut library, mut chance) = (Library::start(), Chance::new(32));
+    for _ in 0..300 {
+        let n = chance.between(0, 10);
+        let graph = chance.any_graph(n);
+        let n = graph.n as u32;
+        let d = chance.between(1, 3);
+        let bytes = encode(&Index::of(&graph, &chance.orders(graph.n, d)));
+        let pairs = [(0, 0), (n, 0), (0, n), (n, n), (n.max(1) - 1, u32::MAX), (u32::MAX, 0), (0, n.max(1) - 1)];
+        compare::ask(&mut library, &bytes, &pairs);
+        compare::ask(&mut library, &chance.any_damage(&bytes), &pairs);
+    }
+}
+
+/// A line of 4,096 groups, and the same with a second line beside it that the walk has to go down to its end.
+#[test]
+fn the_walk_goes_4096_levels_deep() {
+    let (mut library, mut chance) = (Library::start(), Chance::new(33));
+    let line = Graph { n: 4_096, edges: (0..4_095).map(|v| (v, v + 1)).collect() };
+    let index = Index::of(&line, &[(0..4_096).collect()]);
+    compare::ask_made(&mut library, &line, &index, &encode(&index), &[(0, 4_095), (4_095, 0), (2, 4_000)]);
+    // Every vertex of the line has an edge to one end that is ranked first, so no interval ever rules a group out.
+    let mut edges: Vec<(usize, usize)> = (0..4_093).map(|v| (v, v + 1)).collect();
+    edges.extend([(4_093, 4_094), (4_095, 4_094)]);
+    let deep = Graph { n: 4_096, edges };
+    for orders in [vec![(0..4_096).rev().collect::<Vec<usize>>()], chance.orders(4_096, 1)] {
+        let index = Index::of(&deep, &orders);
+        compare::ask_made(&mut library, &deep, &index, &encode(&index), &[(0, 4_094), (0, 4_095), (4_095, 4_094), (4_095, 0)]);
+    }
+}
