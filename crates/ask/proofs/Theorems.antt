@@ -1,7 +1,7 @@
 -- What an answer to a question on stored bytes says, wherever one is given, and whatever edge list and orders yield the bytes: it is yes exactly where
--- a path of zero or more edges leads from source to target; the count is that of the walk's openings and of the marks left; on a no by the walk the
--- groups opened are those reached through passing groups; and more orders open no more groups. `ask` gives these answers, by its contract.
-use mathlib.Core.Bool.{Bool, true}
+-- a path of zero or more edges leads from source to target; the count is that of the walk's openings and of the marks left; on a no the groups
+-- opened are those reached through passing groups; and more orders open no more groups. `ask` gives these answers, by its contract.
+use mathlib.Core.Bool.{Bool, true, false}
 use mathlib.Core.Logic.{_↔_, Iff·symm, Iff·trans}
 use mathlib.Core.Path.{_≡_, refl, sym, ap, subst, _∙_}
 use mathlib.Core.List.{List, _++_}
@@ -24,6 +24,9 @@ use Rattle.laws_answers.specs.Walks.{Through}
 use Rattle.laws_answers.proofs.Demands.{answer-right, marks-are-opened, opened-on-a-no, more-orders}
 use Rattle.numbers.proofs.Numbers.{numbers-long}
 use Rattle.numbers.proofs.Tables.{table-long}
+use Rattle.ask.specs.declared.Asked.{Asked}
+use Rattle.ask.specs.declared.Asked.the-variants.{Answer, Refused}
+use Rattle.ask.specs.Asked.{askedOf}
 use Rattle.ask.proofs.Answered.{Answered, answered-only, none-applies}
 
 -- the index that bytes hold has n names and d labellings
@@ -111,16 +114,16 @@ module _ (b : List ℕ) (u v : ℕ) (marks : List ℕ) (s : Said) (e : askAnswer
         },
       )
 
-  -- on a no by the walk the groups opened are exactly those reached from u's through groups that rules 3 and 4 let pass
+  -- on a no the groups opened are exactly those reached from u's child by child, where every group on the way, both ends included, passes rules 3 and 4
   pub asked-no :
-      s .reason ≡ 6 → (p : ℕ) → p < length (I .children)
+      s .says ≡ false → (p : ℕ) → p < length (I .children)
       → (getD (askMarks b u v marks) (getD (I .groups) p 0) 0 ≡ 1) ↔ Through (netOf I (placeIn I v) .children) (netOf I (placeIn I v) .no) (placeIn I u) p
-  asked-no six p h =
+  asked-no says p h =
       let named : getD (I .groups) p 0 < countsIn b .n = omega (arith, group-name (A .sound .condensed) p h .0, names-long b) in
       subst
       (λ (z : ℕ). (z ≡ 1) ↔ Through (netOf I (placeIn I v) .children) (netOf I (placeIn I v) .no) (placeIn I u) p)
       (sym (mark-at (getD (I .groups) p 0) named))
-      (opened-on-a-no I (A .sound) some u v source target (ap (λ (z : Said). z .reason) (A .said) ∙ six) p h)
+      (opened-on-a-no I (A .sound) some u v source target (ap (λ (z : Said). z .says) (A .said) ∙ says) p h)
 
 -- Demand 3: of two stored indexes of one edge list, the orders of the first among those of the second, the second says the same, opens no group that the first
 -- does not open, and counts no more.
@@ -146,3 +149,22 @@ module _ (G : Graph) (ends : Ends G) (orders₁ orders₂ : List (List ℕ)) (up
               mark-at b₁ u v marks₁ s₁ e₁ i (omega (arith, sized₁)) ∙ D .marks i (sym (mark-at b₂ u v marks₂ s₂ e₂ i (omega (arith, sized₂))) ∙ one),
         ),
       )
+
+-- What `ask` may answer and leave, by its contract: two results are equal.
+pub record Allowed (b : List ℕ) (u v : ℕ) (marks : List ℕ) (r : Asked) (m : List ℕ) : Type 0 where
+  pub answers : askedOf r ≡ askAnswer b u v (length marks)
+  pub leaves : m ≡ askMarks b u v marks
+
+answer-one : {says says' : Bool} {reason reason' opened opened' : ℕ} → says ≡ says' → reason ≡ reason' → opened ≡ opened' → Answer says reason opened ≡ Answer says' reason' opened'
+answer-one a b c = cc
+
+asked-one : (r r' : Asked) → askedOf r ≡ askedOf r' → r ≡ r'
+asked-one (Answer says reason opened) (Answer says' reason' opened') e =
+    let same : _≡_ {A = Said} (record { says = says; reason = reason; opened = opened }) (record { says = says'; reason = reason'; opened = opened' }) = cc in
+    answer-one (ap (λ (z : Said). z .says) same) (ap (λ (z : Said). z .reason) same) (ap (λ (z : Said). z .opened) same)
+asked-one (Answer says reason opened) (Refused number extra) e = let z : _≡_ {A = ℕ} 0 1 = cc in absurd (omega arith)
+asked-one (Refused number extra) (Answer says reason opened) e = let z : _≡_ {A = ℕ} 0 1 = cc in absurd (omega arith)
+asked-one (Refused number extra) (Refused number' extra') e = cc
+
+pub asked-once : {b : List ℕ} {u v : ℕ} {marks : List ℕ} {r r' : Asked} {m m' : List ℕ} → Allowed b u v marks r m → Allowed b u v marks r' m' → (r ≡ r') × (m ≡ m')
+asked-once A B = (asked-one _ _ (A .answers ∙ sym (B .answers)), A .leaves ∙ sym (B .leaves))

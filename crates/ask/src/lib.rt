@@ -10,8 +10,8 @@ ghost use Rattle.ask.specs.Asked.{askedOf, lateAnswer, lateMarks};
 
 pub mod intervals;
 pub mod place;
-pub mod walk;
 pub mod question;
+pub mod walk;
 
 use stored::header;
 use stored::header::Header;
@@ -47,16 +47,28 @@ fn ask_laid(index: &[u8], l: Layout, source: usize, target: usize, marks: &mut [
 {
     let n = l.n;
     if marks.len() < n {
-        return Asked::Refused { number: 13, extra: n };
+        return Asked::Refused {
+            number: 13,
+            extra: n,
+        };
     }
     if n <= source {
-        return Asked::Refused { number: 14, extra: 0 };
+        return Asked::Refused {
+            number: 14,
+            extra: 0,
+        };
     }
     if n <= target {
-        return Asked::Refused { number: 14, extra: 1 };
+        return Asked::Refused {
+            number: 14,
+            extra: 1,
+        };
     }
     if !contents_sound(index, l, marks) {
-        return Asked::Refused { number: 15, extra: 0 };
+        return Asked::Refused {
+            number: 15,
+            extra: 0,
+        };
     }
     let r = question::question(
         stored::sections::names(index, l),
