@@ -46,7 +46,8 @@ le-part (suc w) s b size p h =
 pub le-own : (w : ℕ) (s : List ℕ) (p : ℕ) → leAt w s p ≡ leAt w (part s p w) 0
 le-own w s p = sym (le-part w s p w 0 (omega arith) ∙ ap (leAt w s) (add-zero p))
 
-le-tail : (w a : ℕ) (s : List ℕ) (p : ℕ) → leAt w (a ∷ s) (p + 1) ≡ leAt w s p
+-- without the first byte
+pub le-tail : (w a : ℕ) (s : List ℕ) (p : ℕ) → leAt w (a ∷ s) (p + 1) ≡ leAt w s p
 unfolding leAt
 le-tail zero a s p = refl
 le-tail (suc w) a s p = omega (arith, ap (λ (n : ℕ). getD (a ∷ s) n 0) (add-one p), le-tail w a s (p + 1))
@@ -150,20 +151,20 @@ put-all s p v h =
     let three : p + 3 ≡ suc (suc (suc p)) = omega arith in
     rw (add-one, two, three) (put-sets s p (leBytes 4 v) h)
 
-pub put-two : (w i v a b : ℕ) (s : List ℕ)
+pub put-two : (w p v a b : ℕ) (s : List ℕ)
     → w ≡ 2
-    → w * i + w ≤ length s
+    → p + w ≤ length s
     → a ≡ v % 256
     → b ≡ v / 256 % 256
-    → set (set s (w * i) a) (w * i + 1) b ≡ put s (w * i) (leBytes w v)
-put-two w i v a b s e h ea eb = cc (put-first s (w * i) v (omega arith))
+    → set (set s p a) (p + 1) b ≡ put s p (leBytes w v)
+put-two w p v a b s e h ea eb = cc (put-first s p v (omega arith))
 
-pub put-four : (w i v a b c d : ℕ) (s : List ℕ)
+pub put-four : (w p v a b c d : ℕ) (s : List ℕ)
     → w ≡ 4
-    → w * i + w ≤ length s
+    → p + w ≤ length s
     → a ≡ v % 256
     → b ≡ v / 256 % 256
     → c ≡ v / 256 / 256 % 256
     → d ≡ v / 256 / 256 / 256 % 256
-    → set (set (set (set s (w * i) a) (w * i + 1) b) (w * i + 2) c) (w * i + 3) d ≡ put s (w * i) (leBytes w v)
-put-four w i v a b c d s e h ea eb ec ed = cc (put-all s (w * i) v (omega arith))
+    → set (set (set (set s p a) (p + 1) b) (p + 2) c) (p + 3) d ≡ put s p (leBytes w v)
+put-four w p v a b c d s e h ea eb ec ed = cc (put-all s p v (omega arith))

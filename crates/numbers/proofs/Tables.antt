@@ -21,7 +21,8 @@ getD-upto (suc n) i h = at (decLt i n) (getD-upto n i)
     at (yes l) ih = List·getD-append (upto n) (n ∷ []) 0 i (omega (arith, length-upto n)) ∙ ih l
     at (no l) ih = getD-at (upto n) n [] 0 i (omega (arith, length-upto n)) ∙ omega arith
 
-getD-mapped : {A B : Type 0} (f : A → B) (xs : List A) (i : ℕ) (a : A) (b : B) → i < length xs → getD (map f xs) i b ≡ f (getD xs i a)
+-- an entry of a mapped list
+pub getD-mapped : {A B : Type 0} (f : A → B) (xs : List A) (i : ℕ) (a : A) (b : B) → i < length xs → getD (map f xs) i b ≡ f (getD xs i a)
 getD-mapped f [] i a b h = absurd (not-suc-le-zero h)
 getD-mapped f (x ∷ xs) zero a b h = refl
 getD-mapped f (x ∷ xs) (suc i) a b h = getD-mapped f xs i a b (omega arith)

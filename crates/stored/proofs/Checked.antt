@@ -86,7 +86,7 @@ module _ (b : List ℕ) where
       → refused 12 0 ≡ outcome (headerChecks b) (layoutIn b)
   offsets-wrong long e f g = rw (le-ltb (length b) 48 long, e, f, g)
 
-  all-right : 48 ≤ length b
+  pub all-right : 48 ≤ length b
       → isForm (headerAt b 0) ≡ true
       → countsFit F (countsIn b) ≡ true
       → offsetsFit F (countsIn b) b ≡ true

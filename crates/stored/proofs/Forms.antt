@@ -1,8 +1,8 @@
--- The table of forms: each has a width of 2 or 4, and bounds that are not above 200,000 vertices and 1,000,000 child entries.
+-- The table of forms: each has a number of 32 bits, a width of 2 or 4, and bounds that are not above 200,000 vertices and 1,000,000 child entries.
 use mathlib.Core.Bool.{Bool, true, false, cond}
 use mathlib.Core.Path.{_≡_, refl}
 use mathlib.Core.List.{List, [], _∷_}
-use Prim.Native.Nat.{ℕ, _≤_}
+use Prim.Native.Nat.{ℕ, _^_, _≤_, _<_}
 use native.Mathlib.Omega.{arith}
 use lib.Dec.{eqb}
 use Rattle.lineage.specs.Lists.{Every}
@@ -12,12 +12,13 @@ use Rattle.stored.specs.declared.header.Row.{Row}
 use Rattle.stored.specs.Header.{rowOf}
 
 pub record Within (F : Form) : Type 0 where
+  pub number : F .number < 2 ^ 32
   pub width : Width (F .width)
   pub vertices : F .vertices ≤ 200000
   pub entries : F .entries ≤ 1000000
 
 form1-within : Within form1
-form1-within = record { width = record { low = omega arith; high = omega arith; even = refl }; vertices = omega arith; entries = omega arith }
+form1-within = record { number = omega arith; width = record { low = omega arith; high = omega arith; even = refl }; vertices = omega arith; entries = omega arith }
 
 forms-within : Every Within forms
 forms-within = (form1-within, tt)

@@ -6,7 +6,7 @@ use Prim.Native.Nat.{ℕ, _≤_}
 use native.Mathlib.Omega.{arith}
 use lib.Dec.{eqb, leb, ltb}
 use lib.ListN.{length}
-use borrow.Author.Tests.{leb-true, eqb-true, not-false}
+use borrow.Author.Tests.{leb-true, eqb-true, eq-eqb, not-false}
 use Rattle.lineage.specs.Lists.{sameList}
 use Rattle.lineage.specs.Numbers.{Width}
 use Rattle.lineage.specs.Stored.{Form, Counts, headerAt, countsIn, formOf, isForm, countsFit, offsetsFit}
@@ -20,7 +20,7 @@ neither true true e = (refl, refl)
 neither true false e = absurd (true≢false e)
 neither false q e = absurd (true≢false e)
 
-both : (p q : Bool) → (p && q) ≡ true → (p ≡ true) × (q ≡ true)
+pub both : (p q : Bool) → (p && q) ≡ true → (p ≡ true) × (q ≡ true)
 both true q e = (refl, e)
 both false q e = absurd (false≢true e)
 
@@ -31,6 +31,10 @@ same-list (x ∷ xs) [] e = absurd (false≢true e)
 same-list (x ∷ xs) (y ∷ ys) e =
     let b = both (eqb x y) (sameList xs ys) e in
     ap₂ (λ (z : ℕ) (zs : List ℕ). z ∷ zs) (eqb-true x y (b .0)) (same-list xs ys (b .1))
+
+pub same-self : (xs : List ℕ) → sameList xs xs ≡ true
+same-self [] = refl
+same-self (x ∷ xs) = ap₂ _&&_ (eq-eqb x x refl) (same-self xs)
 
 -- counts that fit a form
 pub record Bounded (F : Form) (a : Counts) : Type 0 where

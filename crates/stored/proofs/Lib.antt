@@ -5,3 +5,8 @@ pub mod Checked
 pub mod Laid
 pub mod Stretches
 pub mod Held
+pub mod Starts
+pub mod LabelNumbers
+pub mod Offsets
+pub mod Encoded
+pub mod Decoded

@@ -1,3 +1,4 @@
 -- What the contracts of this crate and of those above say of the stored form.
 pub mod Header
 pub mod Sections
+pub mod Fits

@@ -1,0 +1,121 @@
+-- Bytes whose header passes, read and written again. Header and sections, cut at the offsets, make up the bytes; each section's numbers written are its
+-- stretch. Where the child starts pass too, the index that is read has these very sections, so writing it gives the bytes back.
+use mathlib.Core.Bool.{true}
+use mathlib.Core.Path.{_≡_, sym, ap, ap₂, subst, _∙_}
+use mathlib.Core.List.{List, [], _∷_, _++_, map}
+use Prim.Native.Nat.{ℕ, _*_, _<_}
+use native.Mathlib.Omega.{arith}
+use lib.ListN.{length, getD, take}
+use lib.Seq.{take-all}
+use borrow.Author.Tests.{eqb-true}
+use Rattle.lineage.specs.Lists.{joined, part}
+use Rattle.lineage.specs.Numbers.{numbers, written}
+use Rattle.lineage.specs.Stored.{Form, Counts, sizes, offsets, startsFrom, labelNumbers, sections, countsOf, header, encode, headerAt, countsIn, formOf, stretch, section, labellingAt, decode}
+use Rattle.lineage.specs.Sound.{startsPass}
+use Rattle.lineage.specs.Calls.{indexIn}
+use Rattle.numbers.proofs.Tables.{table-long}
+use Rattle.numbers.proofs.Parts.{part-whole}
+use Rattle.numbers.proofs.Regions.{part-length}
+use Rattle.numbers.proofs.Numbers.{numbers-long, numbers-part}
+use Rattle.numbers.proofs.Written.{Bytes, bytes-part, written-numbers}
+use Rattle.stored.specs.declared.header.Layout.{Layout}
+use Rattle.stored.specs.Header.{layoutIn, Laid}
+use Rattle.stored.proofs.Starts.{Rising, starts-rise, rows-joined, starts-again}
+use Rattle.stored.proofs.LabelNumbers.{labels-written}
+use Rattle.stored.proofs.Offsets.{cut, cut-joined, offsets-within}
+
+module _ {b : List ℕ} {l : Layout} (L : Laid b l) (small : Bytes b) where
+  abbrev F : Form
+  F = formOf (headerAt b 0)
+
+  abbrev w : ℕ
+  w = F .width
+
+  abbrev a : Counts
+  a = countsIn b
+
+  M : Laid b (layoutIn b)
+  M = subst (Laid b) (L .is) L
+
+  -- the numbers of a section, written, are its stretch
+  stretch-long : (i : ℕ) → i < 6 → length (stretch w a b i) ≡ w * getD (sizes (a .n) (a .k) (a .c) (a .d)) i 0
+  unfolding stretch
+  stretch-long i h =
+      let o : List ℕ = offsets w (a .n) (a .k) (a .c) (a .d) in
+      let s : List ℕ = sizes (a .n) (a .k) (a .c) (a .d) in
+      part-length b (getD o i 0) (w * getD s i 0) (omega (arith, offsets-within w b 48 s i h, M .long))
+
+  pub section-written : (i : ℕ) → i < 6 → written w (section w a b i) ≡ stretch w a b i
+  unfolding section stretch
+  section-written i h =
+      let o : List ℕ = offsets w (a .n) (a .k) (a .c) (a .d) in
+      let s : List ℕ = sizes (a .n) (a .k) (a .c) (a .d) in
+      written-numbers w (stretch w a b i) (getD s i 0) (bytes-part b (getD o i 0) (w * getD s i 0) small) (stretch-long i h)
+
+  -- the header, written, is the first 48 bytes
+  header-is : header F a ≡ numbers 4 (part b 0 48) 12
+  unfolding numbers
+  header-is =
+      ap₂ (λ (form : ℕ) (o : List ℕ). form ∷ a .n ∷ a .k ∷ a .c ∷ a .d ∷ o) (eqb-true (F .number) (headerAt b 0) (M .known)) (sym (M .offsets))
+      ∙ sym (numbers-part 4 b 12 0 12 (omega arith) ∙ part-whole (numbers 4 b 12) 12 (numbers-long 4 b 12))
+
+  pub header-written : written 4 (header F a) ≡ take 48 b
+  unfolding part
+  header-written =
+      ap (written 4) header-is
+      ∙ written-numbers 4 (part b 0 48) 12 (bytes-part b 0 48 small) (part-length b 0 48 (omega (arith, M .long)))
+
+  -- header and sections, written, are the bytes
+  abbrev sectionsIn : List (List ℕ)
+  sectionsIn = section w a b 0 ∷ section w a b 1 ∷ section w a b 2 ∷ section w a b 3 ∷ section w a b 4 ∷ section w a b 5 ∷ []
+
+  sections-written : map (written w) sectionsIn ≡ cut w b 48 (sizes (a .n) (a .k) (a .c) (a .d))
+  unfolding stretch
+  sections-written =
+      rw (section-written 0 (omega arith), section-written 1 (omega arith), section-written 2 (omega arith), section-written 3 (omega arith), section-written 4 (omega arith), section-written 5 (omega arith))
+
+  pub bytes-written : written 4 (header F a) ++ joined (map (written w) sectionsIn) ≡ b
+  bytes-written =
+      ap₂ (λ (h : List ℕ) (s : List (List ℕ)). h ++ joined s) header-written sections-written
+      ∙ cut-joined w b 48 (sizes (a .n) (a .k) (a .c) (a .d))
+      ∙ take-all (layoutIn b .total) b (omega (arith, M .long))
+
+  -- Child starts that pass: the index has these sections.
+  section-long : (i : ℕ) → length (section w a b i) ≡ getD (sizes (a .n) (a .k) (a .c) (a .d)) i 0
+  unfolding section
+  section-long i = numbers-long w (stretch w a b i) (getD (sizes (a .n) (a .k) (a .c) (a .d)) i 0)
+
+  module _ (starts : startsPass (section w a b 3) (a .k) (a .c) ≡ true) where
+    rising : Rising (section w a b 3) (a .k) (a .c)
+    rising = starts-rise (section w a b 3) (a .k) (a .c) starts
+
+    starts-are : startsFrom 0 (indexIn b .children) ≡ section w a b 3
+    unfolding decode
+    starts-are = starts-again rising (section w a b 4) (section-long 4) (omega (arith, section-long 3))
+
+    children-are : joined (indexIn b .children) ≡ section w a b 4
+    unfolding decode
+    children-are = rows-joined rising (section w a b 4) (section-long 4)
+
+    labels-are : joined (map (labelNumbers (length (indexIn b .groups))) (indexIn b .labels)) ≡ section w a b 5
+    unfolding decode
+    labels-are =
+        ap (λ (k : ℕ). joined (map (labelNumbers k) (indexIn b .labels))) (section-long 1)
+        ∙ labels-written (a .k) (a .d) (section w a b 5) (section-long 5)
+
+    sections-are : sections (indexIn b) ≡ sectionsIn
+    unfolding decode
+    sections-are = rw (starts-are, children-are, labels-are)
+
+    counts-are : countsOf (indexIn b) ≡ a
+    unfolding decode
+    counts-are =
+        let c : length (joined (indexIn b .children)) ≡ a .c = ap length children-are ∙ section-long 4 in
+        let d : length (indexIn b .labels) ≡ a .d = table-long (labellingAt (a .k) (section w a b 5)) (a .d) in
+        rw (section-long 0, section-long 1, c, d)
+
+    -- the bytes are written again
+    pub encode-decode : encode F (indexIn b) ≡ b
+    unfolding encode
+    encode-decode =
+        ap₂ (λ (z : Counts) (s : List (List ℕ)). written 4 (header F z) ++ joined (map (written w) s)) counts-are sections-are ∙ bytes-written

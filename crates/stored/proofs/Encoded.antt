@@ -1,0 +1,162 @@
+-- An index that fits a form, written: its header is read again and passes, each section is read again, and so the index is.
+use mathlib.Core.Bool.{true, _&&_}
+use mathlib.Core.Path.{_≡_, sym, ap, ap₂, subst, _∙_}
+use mathlib.Core.List.{List, [], _++_, map}
+use Prim.Native.Nat.{ℕ, _+_, _*_, _^_, _≤_, _<_}
+use native.Mathlib.Omega.{arith}
+use native.Mathlib.Nat.{mul-le-mul, mul-le-mul-left}
+use lib.ListN.{length, getD, drop}
+use borrow.Author.Tests.{eq-eqb}
+use Rattle.lineage.specs.Lists.{upto, joined, part, sameList, Every}
+use Rattle.lineage.specs.Numbers.{numbers, written}
+use Rattle.lineage.specs.Labels.{Labelling}
+use Rattle.lineage.specs.Index.{Index}
+use Rattle.lineage.specs.Stored.{Form, Counts, sizes, offsets, offsetsFrom, totalLength, sections, startsFrom, countsOf, header, encode, headerAt, countsIn, formOf, isForm, countsFit, offsetsFit, stretch, section, rowAt, labellingAt, decode}
+use Rattle.numbers.specs.Put.{put}
+use Rattle.numbers.proofs.Put.{put-start}
+use Rattle.numbers.proofs.Tables.{getD-mapped}
+use Rattle.numbers.proofs.Blocks.{every-at}
+use Rattle.numbers.proofs.Written.{Below, written-long, num-front, written-at, numbers-written}
+use Rattle.lineage.specs.Calls.{answered, outcome}
+use Rattle.stored.specs.Header.{layoutIn, offsetsIn, headerChecks}
+use Rattle.stored.specs.Fits.{Fits}
+use Rattle.stored.proofs.Forms.{Within, form-within}
+use Rattle.stored.proofs.Checked.{all-right}
+use Rattle.stored.proofs.Laid.{same-self, Bounded, fit-bounds}
+use Rattle.stored.proofs.Starts.{starts-long, rows-read}
+use Rattle.stored.proofs.LabelNumbers.{labels-long, labels-read}
+use Rattle.stored.proofs.Offsets.{lengths, offsets-part, offsets-last, putSections, sections-put}
+
+-- the index of bytes at given counts
+abbrev decodeBy : ℕ → Counts → List ℕ → Index
+decodeBy w a b = record {
+  names = section w a b 0;
+  groups = section w a b 1;
+  levels = section w a b 2;
+  children = map (rowAt (section w a b 3) (section w a b 4)) (upto (a .k));
+  labels = map (labellingAt (a .k) (section w a b 5)) (upto (a .d));
+}
+
+index-is : {I : Index} {names groups levels : List ℕ} {children : List (List ℕ)} {labels : List Labelling}
+    → names ≡ I .names
+    → groups ≡ I .groups
+    → levels ≡ I .levels
+    → children ≡ I .children
+    → labels ≡ I .labels
+    → record { names = names; groups = groups; levels = levels; children = children; labels = labels } ≡ I
+index-is e f g h i = rw (e, f, g, h, i)
+
+-- every number of a header within the bounds is of 32 bits
+pub header-fits : (F : Form) (a : Counts) → F .number < 2 ^ 32 → Bounded F a → Below (2 ^ 32) (header F a)
+header-fits F a number B =
+    let w = B .width .high in
+    let vertices = mul-le-mul w (B .vertices) in
+    let k : a .k ≤ 200000 = omega arith in
+    let groups = mul-le-mul w k in
+    let entries = mul-le-mul w (B .entries) in
+    let labels = mul-le-mul w (mul-le-mul (B .most) (mul-le-mul-left 4 k)) in
+    (number, (omega arith, (omega arith, (omega arith, (omega arith, (omega arith, (omega arith, (omega arith, (omega arith, (omega arith, (omega arith, (omega arith, tt))))))))))))
+
+module _ {F : Form} {I : Index} (E : Fits F I) where
+  abbrev a : Counts
+  a = countsOf I
+
+  within : Within F
+  within = subst Within (E .known) (form-within (F .number))
+
+  bounded : Bounded F a
+  bounded = subst (λ (G : Form). countsFit G a ≡ true → Bounded G a) (E .known) (fit-bounds (F .number) a) (E .counts)
+
+  -- the sections have the sizes that the counts give
+  sizes-are : lengths (sections I) ≡ sizes (a .n) (a .k) (a .c) (a .d)
+  sizes-are =
+      let levels = E .levels in
+      let starts : length (startsFrom 0 (I .children)) ≡ a .k + 1 = omega (arith, starts-long 0 (I .children), E .children) in
+      let labels = labels-long (a .k) (I .labels) (E .labels) in
+      rw (levels, starts, labels)
+
+  header-small : Below (256 ^ 4) (header F a)
+  header-small = header-fits F a (within .number) bounded
+
+  -- the header is read again
+  pub header-read : (i : ℕ) → i < 12 → headerAt (encode F I) i ≡ getD (header F a) i 0
+  unfolding encode
+  header-read i h =
+      num-front 4 (written 4 (header F a)) (joined (map (written (F .width)) (sections I))) i (omega (arith, written-long 4 (header F a)))
+      ∙ written-at 4 (header F a) i header-small h
+
+  pub counts-read : countsIn (encode F I) ≡ a
+  counts-read = rw (header-read 1 (omega arith), header-read 2 (omega arith), header-read 3 (omega arith), header-read 4 (omega arith))
+
+  -- each section is read again
+  stretch-read : (i : ℕ) → i < 6 → stretch (F .width) a (encode F I) i ≡ written (F .width) (getD (sections I) i [])
+  unfolding encode stretch
+  stretch-read i h =
+      subst
+      (λ (z : List ℕ). part (encode F I) (getD (offsetsFrom (F .width) 48 z) i 0) (F .width * getD z i 0) ≡ written (F .width) (getD (sections I) i []))
+      sizes-are
+      (offsets-part (F .width) (written 4 (header F a)) (sections I) 48 i (sym (written-long 4 (header F a))) h)
+
+  section-read : (i : ℕ) → i < 6 → section (F .width) a (encode F I) i ≡ getD (sections I) i []
+  unfolding section
+  section-read i h =
+      let size : getD (sizes (a .n) (a .k) (a .c) (a .d)) i 0 ≡ length (getD (sections I) i []) =
+      ap (λ (z : List ℕ). getD z i 0) (sym sizes-are) ∙ getD-mapped length (sections I) i [] 0 h in
+      ap₂ (numbers (F .width)) (stretch-read i h) size
+      ∙ numbers-written (F .width) (getD (sections I) i []) (every-at (Every (λ x. x < 256 ^ F .width)) (sections I) i [] (E .small) h)
+
+  children-read : map (rowAt (section (F .width) a (encode F I) 3) (section (F .width) a (encode F I) 4)) (upto (a .k)) ≡ I .children
+  children-read =
+      ap₂ (λ (s t : List ℕ). map (rowAt s t) (upto (a .k))) (section-read 3 (omega arith)) (section-read 4 (omega arith))
+      ∙ ap (λ (k : ℕ). map (rowAt (startsFrom 0 (I .children)) (joined (I .children))) (upto k)) (sym (E .children))
+      ∙ rows-read (I .children)
+
+  labellings-read : map (labellingAt (a .k) (section (F .width) a (encode F I) 5)) (upto (a .d)) ≡ I .labels
+  labellings-read =
+      ap (λ (s : List ℕ). map (labellingAt (a .k) s) (upto (a .d))) (section-read 5 (omega arith))
+      ∙ labels-read (a .k) (I .labels) (E .labels)
+
+  -- the index is read again
+  pub decode-encode : decode (F .width) (encode F I) ≡ I
+  unfolding decode
+  decode-encode =
+      ap (λ (z : Counts). decodeBy (F .width) z (encode F I)) counts-read
+      ∙ index-is (section-read 0 (omega arith)) (section-read 1 (omega arith)) (section-read 2 (omega arith)) children-read labellings-read
+
+  -- it is as long as its counts say
+  pub encode-long : length (encode F I) ≡ totalLength (F .width) (a .n) (a .k) (a .c) (a .d)
+  unfolding encode
+  encode-long =
+      offsets-last (F .width) (written 4 (header F a)) (sections I) 48 (sym (written-long 4 (header F a)))
+      ∙ ap (λ (z : List ℕ). getD (offsetsFrom (F .width) 48 z) 6 0) sizes-are
+
+  -- its header passes
+  form-read : formOf (headerAt (encode F I) 0) ≡ F
+  form-read = ap formOf (header-read 0 (omega arith)) ∙ E .known
+
+  offsets-read : offsetsIn (encode F I) ≡ offsets (F .width) (a .n) (a .k) (a .c) (a .d)
+  offsets-read =
+      rw (header-read 5 (omega arith), header-read 6 (omega arith), header-read 7 (omega arith), header-read 8 (omega arith), header-read 9 (omega arith), header-read 10 (omega arith), header-read 11 (omega arith))
+
+  offsets-fit : offsetsFit F a (encode F I) ≡ true
+  offsets-fit =
+      let o : List ℕ = offsets (F .width) (a .n) (a .k) (a .c) (a .d) in
+      ap₂ _&&_
+      (ap (λ (z : List ℕ). sameList z o) offsets-read ∙ same-self o)
+      (eq-eqb (length (encode F I)) (totalLength (F .width) (a .n) (a .k) (a .c) (a .d)) encode-long)
+
+  pub encode-passes : answered (layoutIn (encode F I)) ≡ outcome (headerChecks (encode F I)) (layoutIn (encode F I))
+  encode-passes =
+      all-right (encode F I)
+      (omega (arith, encode-long))
+      (ap isForm (header-read 0 (omega arith)) ∙ eq-eqb (formOf (F .number) .number) (F .number) (ap (λ (G : Form). G .number) (E .known)))
+      (ap₂ countsFit form-read counts-read ∙ E .counts)
+      (ap₂ (λ (G : Form) (z : Counts). offsetsFit G z (encode F I)) form-read counts-read ∙ offsets-fit)
+
+  -- its header and its sections, each put at its offset
+  pub encode-put : (out : List ℕ)
+      → length (encode F I) ≤ length out
+      → putSections (F .width) (put out 0 (written 4 (header F a))) 48 (sections I) ≡ encode F I ++ drop (length (encode F I)) out
+  unfolding encode
+  encode-put out h =
+      sections-put (F .width) (written 4 (header F a)) (sections I) out 48 (sym (written-long 4 (header F a))) h ∙ put-start out (encode F I)
