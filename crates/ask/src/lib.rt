@@ -1,9 +1,6 @@
 // Asking a stored index: is the target reached from the source, by which rule, and how many groups were opened for it.
 ghost use mathlib.Core.Path.{_≡_};
-ghost use Prim.Native.Nat.{_≤_};
 ghost use lib.ListN.{length};
-ghost use Rattle.lineage.specs.Lists.{cleared};
-ghost use Rattle.lineage.specs.Sound.{contentsSound};
 ghost use Rattle.lineage.specs.Calls.{askAnswer, askMarks};
 ghost use Rattle.stored.specs.Header.{Laid};
 ghost use Rattle.ask.specs.Asked.{askedOf, lateAnswer, lateMarks};
@@ -28,15 +25,6 @@ pub enum Asked {
         number: usize,
         extra: usize,
     },
-}
-
-fn contents_sound(index: &[u8], l: Layout, marks: &mut [u8]) -> bool
-    requires { ⌜ Laid (now index) l ⌝ }
-    requires { ⌜ l .n ≤ length (now marks) ⌝ }
-    ensures { λ r. ⌜ r ≡ contentsSound (l .width) (now (index .entry)) ⌝ }
-    ensures { λ _. ⌜ now (marks .exit) ≡ cleared (l .n) (now (marks .entry)) ⌝ }
-{
-    false
 }
 
 // A question on bytes whose header passes: refusals 13, 14 and 15, or the answer.
@@ -64,7 +52,7 @@ fn ask_laid(index: &[u8], l: Layout, source: usize, target: usize, marks: &mut [
             extra: 1,
         };
     }
-    if !contents_sound(index, l, marks) {
+    if !open::contents_sound(index, l, marks) {
         return Asked::Refused {
             number: 15,
             extra: 0,
