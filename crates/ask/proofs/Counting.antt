@@ -5,9 +5,11 @@ use mathlib.Core.List.{List, [], _∷_}
 use Prim.Native.Nat.{ℕ, zero, suc, _+_, _≤_, _<_}
 use native.Mathlib.Omega.{arith}
 use lib.Dec.{eqb}
-use lib.ListN.{length, getD, set, length-set}
+use lib.ListN.{length, set, length-set}
 use Rattle.lineage.specs.Lists.{Every, ones}
 use Rattle.lineage.specs.Walk.{Net, Walked, marked, follow, pick, tryWith, openAt}
+use Rattle.laws.proofs.Tests.{or-false-left}
+use Rattle.laws_answers.proofs.Marks.{ones-set}
 
 -- the marks stay as long as they are, and gain as many as are counted
 pub record Gains (m : List ℕ) (a : Walked) : Type 0 where
@@ -22,11 +24,6 @@ pub ones-low : (m : List ℕ) → ones m ≤ length m
 ones-low [] = omega arith
 ones-low (x ∷ xs) = omega (arith, ones-low xs, one-low (eqb x 1))
 
-pub ones-set : (m : List ℕ) (i : ℕ) → i < length m → eqb (getD m i 0) 1 ≡ false → ones (set m i 1) ≡ suc (ones m)
-ones-set [] i h f = absurd (omega arith)
-ones-set (x ∷ xs) zero h f = rw f (omega arith)
-ones-set (x ∷ xs) (suc i) h f = omega (arith, ones-set xs i (omega arith) f)
-
 -- children are groups below k, and each group's mark is among l
 pub record Within (N : Net) (k l : ℕ) : Type 0 where
   pub children : (p : ℕ) → p < k → Every (λ h. h < k) (N .children p)
@@ -39,10 +36,6 @@ follow-gains true m a rest A R = A
 follow-gains false m a rest A R =
     let B : Gains (a .marks) (rest (a .marks)) = R (a .marks) (A .long) in
     record { long = B .long ∙ A .long; gain = omega (arith, B .gain, A .gain) }
-
-pub or-false-left : (a b : Bool) → (a || b) ≡ false → a ≡ false
-or-false-left false b h = refl
-or-false-left true b h = h
 
 module _ (N : Net) {k l : ℕ} (W : Within N k l) where
   -- what opens an unmarked group, gains

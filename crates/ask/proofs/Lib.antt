@@ -9,3 +9,7 @@ pub mod Nets
 pub mod Turns
 pub mod Rules
 pub mod Soundness
+pub mod Asking
+pub mod Refusals
+pub mod Answered
+pub mod Theorems

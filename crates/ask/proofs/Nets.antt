@@ -1,24 +1,25 @@
 -- The net that fit sections hold, field by field as the code reads it, and a group of it opened.
 use mathlib.Core.Bool.{Bool, true, false, _||_}
 use mathlib.Core.Logic.{_≢_}
-use mathlib.Core.Path.{_≡_, refl, sym, ap, _∙_}
+use mathlib.Core.Path.{_≡_, refl, sym, _∙_}
 use mathlib.Core.List.{List, [], _∷_}
-use Prim.Native.Nat.{ℕ, suc, _+_, _-_, _*_, _≤_, _<_}
+use Prim.Native.Nat.{ℕ, suc, _+_, _-_, _≤_, _<_}
 use native.Mathlib.Omega.{arith}
 use lib.ListN.{length, getD, set, length-set}
-use borrow.Author.Tests.{lt-ltb, le-ltb, ne-eqb, eqb-false}
+use borrow.Author.Tests.{lt-ltb, le-ltb, ne-eqb}
 use Rattle.lineage.specs.Lists.{Every}
 use Rattle.lineage.specs.Numbers.{numAt}
-use Rattle.lineage.specs.Walk.{Net, Walked, walked, marked, openAt, tryAt}
+use Rattle.lineage.specs.Walk.{Net, walked, marked, openAt, tryAt}
 use Rattle.lineage.specs.Question.{inside, firstLabelling}
+use Rattle.laws_answers.proofs.Marks.{ones-set}
+use Rattle.laws_answers.proofs.Labellings.{first-given}
 use Rattle.numbers.proofs.Numbers.{numbers-at}
 use Rattle.sections.specs.Sections.{childrenIn, labelsIn}
 use Rattle.sections.proofs.Sections.{row-long, row-at}
 use Rattle.stored.specs.Sections.{ChildrenOf}
 use Rattle.ask.specs.Fit.{count, all, netIn, passedOver, Fit}
-use Rattle.ask.proofs.Passing.{some-first}
-use Rattle.ask.proofs.Rows.{row-all, row-below}
-use Rattle.ask.proofs.Counting.{Within, Gains, try-gains, open-gains, ones-low, ones-set}
+use Rattle.ask.proofs.Rows.{row-all}
+use Rattle.ask.proofs.Counting.{Within, Gains, try-gains, open-gains, ones-low}
 use Rattle.ask.proofs.Trying.{open-is}
 
 -- a property of each element by its position
@@ -38,11 +39,11 @@ module _ {w k d t : ℕ} {groups levels starts children labels : List ℕ} {mark
 
     pub net-yes : 0 < l → N .yes h ≡ true
     unfolding netIn
-    net-yes b = some-first (inside h t) (labelsIn w labels k d) ∙ rw (← e) (lt-ltb 0 l b)
+    net-yes b = first-given (inside h t) (labelsIn w labels k d) ∙ rw (← e) (lt-ltb 0 l b)
 
     pub net-not-yes : l ≤ 0 → N .yes h ≡ false
     unfolding netIn
-    net-not-yes b = some-first (inside h t) (labelsIn w labels k d) ∙ rw (← e) (le-ltb 0 l b)
+    net-not-yes b = first-given (inside h t) (labelsIn w labels k d) ∙ rw (← e) (le-ltb 0 l b)
 
   -- whether h is passed over
   pub net-over : (m : List ℕ) (h : ℕ) → passedOver w k d t groups levels labels m h ≡ (marked N m h || N .no h)

@@ -1,7 +1,7 @@
 -- The row of a group: the part of the children from child start to next child start. Its numbers are the group's children, as the index has them.
-use mathlib.Core.Path.{_≡_, refl, sym, ap, _∙_}
+use mathlib.Core.Path.{_≡_, sym, ap, _∙_}
 use mathlib.Core.List.{List, []}
-use Prim.Native.Nat.{ℕ, suc, _+_, _-_, _*_, _/_, _≤_, _<_}
+use Prim.Native.Nat.{ℕ, _+_, _-_, _*_, _≤_, _<_}
 use native.Mathlib.Omega.{arith}
 use native.Mathlib.Nat.{mul-le-mul-left, mul-div-le, div-eq-of-eq-mul-right, lt-of-mul-lt-mul-left, le-of-mul-le-mul-left}
 use lib.ListN.{length, getD}

@@ -14,13 +14,13 @@ use Rattle.lineage.specs.Numbers.{numAt}
 use Rattle.lineage.specs.Index.{Index}
 use Rattle.lineage.specs.Walk.{Walked, walked, openAt}
 use Rattle.lineage.specs.Question.{inside, outside, firstFrom, firstLabelling, rule2, rule3, rule4, netOf, walk, byWalk, between}
+use Rattle.laws_answers.proofs.Labellings.{first-given}
 use Rattle.numbers.proofs.Numbers.{numbers-at}
 use Rattle.sections.specs.Sections.{labelsIn}
 use Rattle.sections.proofs.Sections.{labels-long}
 use Rattle.ask.specs.declared.question.Reply.{Reply}
 use Rattle.ask.specs.Fit.{groupsIn, netIn, Fit}
 use Rattle.ask.specs.Replies.{answerBy}
-use Rattle.ask.proofs.Passing.{some-first}
 use Rattle.ask.proofs.Counting.{Gains, ones-low, open-gains, open-deciding}
 use Rattle.ask.proofs.Nets.{net-spot, net-within}
 
@@ -48,7 +48,7 @@ module _ {w k d t : ℕ} {groups levels starts children labels : List ℕ} {mark
 
   module _ (apart : x ≢ t) (i : ℕ) (inner : i ≡ firstLabelling (inside x t) (labelsIn w labels k d)) where
     two : rule2 I x t ≡ ltb 0 i
-    two = rw (some-first (inside x t) (labelsIn w labels k d), ← inner) refl
+    two = rw (first-given (inside x t) (labelsIn w labels k d), ← inner) refl
 
     pub rule-2 : Says true 2 i → 0 < i → answerBy r m ≡ between I x t m
     rule-2 s h = ap (λ (q : Reply). answerBy q m) s ∙ rw (ne-eqb x t apart, two, lt-ltb 0 i h, ← inner) refl
@@ -62,7 +62,7 @@ module _ {w k d t : ℕ} {groups levels starts children labels : List ℕ} {mark
 
       module _ (lower : b < a) (o : ℕ) (outer : o ≡ firstLabelling (outside x t) (labelsIn w labels k d)) where
         four : rule4 I x t ≡ ltb 0 o
-        four = rw (some-first (outside x t) (labelsIn w labels k d), ← outer) refl
+        four = rw (first-given (outside x t) (labelsIn w labels k d), ← outer) refl
 
         pub rule-4 : Says false 4 o → 0 < o → answerBy r m ≡ between I x t m
         rule-4 s h =

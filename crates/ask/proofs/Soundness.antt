@@ -1,9 +1,9 @@
 -- What sound contents give a question: the sections are fit for the walk, the group list rises, and every vertex's group has a place.
-use mathlib.Core.Bool.{Bool, true, _&&_}
+use mathlib.Core.Bool.{Bool, true}
 use mathlib.Core.Logic.{_≢_}
 use mathlib.Core.Path.{_≡_, refl, sym, ap, _∙_}
 use mathlib.Core.List.{List, []}
-use Prim.Native.Nat.{ℕ, zero, suc, _+_, _-_, _*_, _≤_, _<_}
+use Prim.Native.Nat.{ℕ, zero, suc, _+_, _-_, _≤_, _<_}
 use native.Mathlib.Omega.{arith}
 use native.Mathlib.Numerals.{add-one}
 use native.Mathlib.Decide.{ℕ-discrete}
@@ -14,9 +14,8 @@ use Rattle.lineage.specs.Lists.{among, allBelow}
 use Rattle.lineage.specs.Graph.{placeOf}
 use Rattle.lineage.specs.Numbers.{numAt, numbers}
 use Rattle.lineage.specs.Sound.{childOf}
-use Rattle.lineage.specs.Index.{Index}
 use Rattle.lineage.specs.Question.{between, placeIn, walk, answer}
-use Rattle.laws.specs.Sound.{Sound, SoundGroups}
+use Rattle.laws.specs.Sound.{SoundGroups}
 use Rattle.laws.proofs.Tests.{and-left, and-right}
 use Rattle.laws.proofs.Lists.{in-getD}
 use Rattle.laws.proofs.Rising.{Rises}

@@ -1,7 +1,7 @@
 -- One child's turn in its row: rule 2 ends the walk, or the child is passed over, or it is opened; and after the last child nothing is left.
 use mathlib.Core.Bool.{Bool, true, false, _||_}
 use mathlib.Core.Logic.{_≢_}
-use mathlib.Core.Path.{_≡_, refl, sym, ap, _∙_}
+use mathlib.Core.Path.{_≡_, sym, _∙_}
 use mathlib.Core.List.{List}
 use Prim.Native.Nat.{ℕ, _+_, _-_, _*_, _≤_, _<_}
 use native.Mathlib.Omega.{arith}
@@ -9,15 +9,16 @@ use native.Mathlib.Nat.{mul-le-mul-left}
 use lib.ListN.{length, getD}
 use borrow.Author.Tests.{eqb-false}
 use Rattle.lineage.specs.Numbers.{numAt}
-use Rattle.lineage.specs.Walk.{Net, Walked, walked, marked, openAt, tryAt}
+use Rattle.lineage.specs.Walk.{Net, walked, marked, openAt, tryAt}
 use Rattle.lineage.specs.Question.{inside, firstLabelling}
+use Rattle.laws.proofs.Tests.{or-false-left}
 use Rattle.numbers.proofs.Numbers.{room, numbers-long, numbers-at}
 use Rattle.sections.specs.Sections.{labelsIn}
 use Rattle.ask.specs.Fit.{count, all, netIn, passedOver, Fit, Below}
 use Rattle.ask.proofs.Labellings.{count-low}
 use Rattle.ask.proofs.Rows.{more, no-more}
-use Rattle.ask.proofs.Counting.{Gains, or-false-left, ones-low, open-gains}
-use Rattle.ask.proofs.Trying.{Tried, tried-none, tried-all, tried-hit, tried-over, tried-found, tried-next}
+use Rattle.ask.proofs.Counting.{Gains, ones-low, open-gains}
+use Rattle.ask.proofs.Trying.{Tried, tried-all, tried-hit, tried-over, tried-found, tried-next}
 use Rattle.ask.proofs.Nets.{net-deciding, net-yes, net-not-yes, net-over, net-spot, net-within}
 
 module _ {w k d t : ℕ} {groups levels starts children labels : List ℕ} {marks : ℕ} (F : Fit w k d t groups levels starts children labels marks) {L : ℕ} {row : List ℕ} (B : Below w k L levels row) where

@@ -3,3 +3,4 @@ pub mod Intervals
 pub mod Fit
 pub mod Replies
 pub mod Lent
+pub mod Asked

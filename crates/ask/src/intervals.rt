@@ -9,7 +9,14 @@ ghost use Rattle.lineage.specs.Question.{inside, outside, firstLabelling};
 ghost use Rattle.sections.specs.Sections.{labelsIn};
 ghost use Rattle.ask.specs.Intervals.{Labelled, innerBound, outerBound};
 
-// Whether number i of x's triple is not above number j of t's; the numbers of a triple are s, m, e.
+// The numbers of a triple: s, m, e.
+const S: usize = 0;
+
+const M: usize = 1;
+
+const E: usize = 2;
+
+// Whether number i of x's triple is not above number j of t's.
 fn not_above(triples: &[u8], w: usize, x: usize, i: usize, t: usize, j: usize) -> bool
     requires { ⌜ Width w ⌝ }
     requires { ⌜ (i < 3) × (w * (3 * x + 3) ≤ length (now triples)) ⌝ }
@@ -26,9 +33,9 @@ fn inner_bound(triples: &[u8], w: usize, x: usize, t: usize, b: usize) -> bool
     ensures { λ r. ⌜ r ≡ innerBound w (now (triples .entry)) x t b ⌝ }
 {
     if b == 0 {
-        not_above(triples, w, x, 1, t, 2)
+        not_above(triples, w, x, M, t, E)
     } else {
-        not_above(triples, w, t, 2, x, 2)
+        not_above(triples, w, t, E, x, E)
     }
 }
 
@@ -39,9 +46,9 @@ fn outer_bound(triples: &[u8], w: usize, x: usize, t: usize, b: usize) -> bool
     ensures { λ r. ⌜ r ≡ outerBound w (now (triples .entry)) x t b ⌝ }
 {
     if b == 0 {
-        not_above(triples, w, x, 0, t, 0)
+        not_above(triples, w, x, S, t, S)
     } else {
-        not_above(triples, w, t, 2, x, 2)
+        not_above(triples, w, t, E, x, E)
     }
 }
 

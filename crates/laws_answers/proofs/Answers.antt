@@ -1,22 +1,23 @@
 -- Answers over a sound index. Rule 2 says yes only of a group that leads to the target, rules 3 and 4 rule out only groups that do not, and the walk
 -- finds the target exactly where one of x's children leads to it: so an answer is yes exactly where a path down children leads from x to t.
 -- Its count and its marks are those of the groups that the walk opens, its deciding number that of the first labelling whose test held.
-use mathlib.Core.Bool.{true, false, false≢true}
+use mathlib.Core.Bool.{true, false, false≢true, true≢false}
 use mathlib.Core.Logic.{_↔_}
 use mathlib.Core.Path.{_≡_, refl, _∙_}
 use mathlib.Core.List.{List, [], _∷_}
 use Prim.Native.Nat.{ℕ, _<_}
 use native.Mathlib.Omega.{arith}
-use lib.ListN.{length, getD}
+use lib.ListN.{length, getD, getD-replicate}
 use Rattle.lineage.specs.Index.{Index}
 use Rattle.lineage.specs.Question.{inside, outside, firstLabelling, rule3, netOf, walk, Answer}
 use Rattle.laws.specs.Leads.{Down, stay}
 use Rattle.laws.specs.Sound.{Sound}
 use Rattle.laws.proofs.Tests.{or-left, or-right, clash}
+use Rattle.laws.proofs.Grouped.{group-name}
 use Rattle.laws_answers.specs.Walks.{End, nowhere, yes-at, Walks, Through}
 use Rattle.laws_answers.specs.Answers.{noMarks, Deciding, by-inner, by-outer, by-walk, none-1, none-3, none-6, Opened, unopened, finding, failing, Marked}
 use Rattle.laws_answers.proofs.Tries.{Judges, ends-yes, walk-yes, walk-no}
-use Rattle.laws_answers.proofs.Through.{opened-through}
+use Rattle.laws_answers.proofs.Through.{passes, opened-through}
 use Rattle.laws_answers.proofs.Walked.{isYes, numberAt, Ran}
 use Rattle.laws_answers.proofs.Labellings.{first-is}
 use Rattle.laws_answers.proofs.Nets.{lower, walk-ran, mark-is, marked-of}
@@ -89,16 +90,25 @@ module _ (I : Index) (S : Sound I) (x t : ℕ) (bx : x < length (I .children)) w
     rule-down (rule-5 n y p w) = (λ h. walk-yes (lower I S t) J bx (walk-finds w .1), λ d. refl)
     rule-down (rule-6 n y p w) = (λ h. absurd (false≢true h), λ d. absurd (walk-no (lower I S t) J bx y (walk-fails w .0) d))
 
-    -- under reason 6 the marked groups are those reached from x through rules 3 and 4
+    -- of a source that rule 3 or 4 rules out nothing is reached and nothing is marked
+    ruled-out :
+        netOf I t .no x ≡ true
+        → (p : ℕ) → p < length (I .children) → (getD (noMarks I) (getD (I .groups) p 0) 0 ≡ 1) ↔ Through (netOf I t .children) (netOf I t .no) x p
+    ruled-out out p b = (
+      (λ h. absurd (omega (arith, getD-replicate {A = ℕ} (length (I .names)) (getD (I .groups) p 0) 0 0 (group-name (S .condensed) p b .0)))),
+      λ v. clash out (passes v),
+    )
+
+    -- on a no the marked groups are those reached from x through rules 3 and 4
     pub rule-no :
-        {a : Answer} → Rule I x t a → a .reason ≡ 6
+        {a : Answer} → Rule I x t a → a .says ≡ false
         → (p : ℕ) → p < length (I .children) → (getD (a .marks) (getD (I .groups) p 0) 0 ≡ 1) ↔ Through (netOf I t .children) (netOf I t .no) x p
-    rule-no (rule-1 s) six p b = absurd (omega arith)
-    rule-no (rule-2 n y) six p b = absurd (omega arith)
-    rule-no (rule-3 n y l) six p b = absurd (omega arith)
-    rule-no (rule-4 n y l o) six p b = absurd (omega arith)
-    rule-no (rule-5 n y q w) six p b = absurd (omega arith)
-    rule-no (rule-6 n y q w) six p b =
+    rule-no (rule-1 s) never p b = absurd (true≢false never)
+    rule-no (rule-2 n y) never p b = absurd (true≢false never)
+    rule-no (rule-3 n y l) never p b = ruled-out (or-left _ l) p b
+    rule-no (rule-4 n y l o) never p b = ruled-out (or-right (rule3 I x t) o) p b
+    rule-no (rule-5 n y q w) never p b = absurd (true≢false never)
+    rule-no (rule-6 n y q w) never p b =
         let M : Marked I (W .groups) (afterWalk false 6 (walk I t x (noMarks I))) = walk-marked refl refl in
         let marked = mark-is I S (W .groups) (M .low) p b in
         let through = opened-through (lower I S t) J bx y q (walk-fails w .0) p in

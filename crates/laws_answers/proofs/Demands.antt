@@ -1,6 +1,6 @@
 -- The demands on answers as theorems. A question goes from the vertex u to the vertex v, whose groups stand at the places `placeIn I u` and
 -- `placeIn I v`. What is said of a sound index holds of every index that opens and of every one that is built (`sound-exactly` of laws).
-use mathlib.Core.Bool.{true, _||_}
+use mathlib.Core.Bool.{true, false, _||_}
 use mathlib.Core.Logic.{_↔_, Iff·symm, Iff·trans}
 use mathlib.Core.Path.{_≡_}
 use mathlib.Core.List.{List}
@@ -70,9 +70,9 @@ module _ (I : Index) (S : Sound I) where
     pub answer-down : (u v : ℕ) → u < length (I .names) → v < length (I .names) → (answer I u v .says ≡ true) ↔ Down (I .children) (placeIn I u) (placeIn I v)
     answer-down u v bu bv = rule-down I S (placeIn I u) (placeIn I v) (place bu) (place bv) some (answer-rule I u v)
 
-    -- under reason 6 the groups opened are exactly those reached from u's through rules 3 and 4
+    -- on a no the groups opened are exactly those reached from u's child by child, where every group on the way, both ends included, passes rules 3 and 4
     pub opened-on-a-no :
-        (u v : ℕ) → u < length (I .names) → v < length (I .names) → answer I u v .reason ≡ 6 → (p : ℕ) → p < length (I .children)
+        (u v : ℕ) → u < length (I .names) → v < length (I .names) → answer I u v .says ≡ false → (p : ℕ) → p < length (I .children)
         → (getD (answer I u v .marks) (getD (I .groups) p 0) 0 ≡ 1) ↔ Through (netOf I (placeIn I v) .children) (netOf I (placeIn I v) .no) (placeIn I u) p
     opened-on-a-no u v bu bv = rule-no I S (placeIn I u) (placeIn I v) (place bu) (place bv) some (answer-rule I u v)
 

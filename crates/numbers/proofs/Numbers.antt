@@ -151,20 +151,20 @@ put-all s p v h =
     let three : p + 3 ≡ suc (suc (suc p)) = omega arith in
     rw (add-one, two, three) (put-sets s p (leBytes 4 v) h)
 
-pub put-two : (w i v a b : ℕ) (s : List ℕ)
+pub put-two : (w p v a b : ℕ) (s : List ℕ)
     → w ≡ 2
-    → w * i + w ≤ length s
+    → p + w ≤ length s
     → a ≡ v % 256
     → b ≡ v / 256 % 256
-    → set (set s (w * i) a) (w * i + 1) b ≡ put s (w * i) (leBytes w v)
-put-two w i v a b s e h ea eb = cc (put-first s (w * i) v (omega arith))
+    → set (set s p a) (p + 1) b ≡ put s p (leBytes w v)
+put-two w p v a b s e h ea eb = cc (put-first s p v (omega arith))
 
-pub put-four : (w i v a b c d : ℕ) (s : List ℕ)
+pub put-four : (w p v a b c d : ℕ) (s : List ℕ)
     → w ≡ 4
-    → w * i + w ≤ length s
+    → p + w ≤ length s
     → a ≡ v % 256
     → b ≡ v / 256 % 256
     → c ≡ v / 256 / 256 % 256
     → d ≡ v / 256 / 256 / 256 % 256
-    → set (set (set (set s (w * i) a) (w * i + 1) b) (w * i + 2) c) (w * i + 3) d ≡ put s (w * i) (leBytes w v)
-put-four w i v a b c d s e h ea eb ec ed = cc (put-all s (w * i) v (omega arith))
+    → set (set (set (set s p a) (p + 1) b) (p + 2) c) (p + 3) d ≡ put s p (leBytes w v)
+put-four w p v a b c d s e h ea eb ec ed = cc (put-all s p v (omega arith))

@@ -1,11 +1,11 @@
 -- A part of a list: of two lists one after the other, of a part, and the whole.
 use mathlib.Core.Path.{_≡_, ap, _∙_}
 use mathlib.Core.List.{List, [], _∷_, _++_}
-use Prim.Native.Nat.{ℕ, zero, suc, _+_, _-_, _≤_}
+use Prim.Native.Nat.{ℕ, zero, suc, _+_, _-_, _≤_, _<_}
 use native.Mathlib.Omega.{arith}
 use native.Mathlib.Nat.{sub-zero, zero-sub, suc-sub-suc, not-suc-le-zero}
-use lib.ListN.{length, take, drop, length-take, length-drop}
-use lib.Seq.{take-length, take-nil, take-take, take-append-le, drop-append-le, drop-drop}
+use lib.ListN.{length, getD, take, drop, length-take, length-drop}
+use lib.Seq.{take-suc, getD-drop, take-length, take-nil, take-take, take-append-le, drop-append-le, drop-drop}
 use Rattle.lineage.specs.Lists.{part}
 
 module _ {A : Type 0} where
@@ -46,6 +46,12 @@ module _ {A : Type 0} where
   pub part-part : (s : List A) (a n at size : ℕ) → at + size ≤ n → part (part s a n) at size ≡ part s (a + at) size
   unfolding part
   part-part s a n at size h = part-take (drop a s) n at size h ∙ part-drop s a at size
+
+  -- one element more
+  pub part-more : (s : List A) (at i : ℕ) (d : A) → at + i < length s → part s at (suc i) ≡ part s at i ++ (getD s (at + i) d ∷ [])
+  unfolding part
+  part-more s at i d h =
+      take-suc (drop at s) i d (omega (arith, length-drop at s)) ∙ ap (λ (x : A). take i (drop at s) ++ (x ∷ [])) (getD-drop at s i d)
 
   -- it is not longer than its size
   pub part-beyond : (s : List A) (at size i : ℕ) → size ≤ i → length (part s at size) ≤ i

@@ -4,7 +4,7 @@ use mathlib.Core.Path.{_≡_, refl, ap, _∙_}
 use mathlib.Core.List.{List, [], _++_, append-assoc}
 use Prim.Native.Nat.{ℕ, _+_, _-_, _≤_}
 use native.Mathlib.Omega.{arith}
-use native.Mathlib.Nat.{add-zero}
+use native.Mathlib.Nat.{add-zero, zero-add}
 use lib.ListN.{length, take, drop, length-append, length-take, length-drop, take-append-drop}
 use lib.Seq.{length-take-le, take-at, drop-at, drop-drop, sets, sets-eq}
 use Rattle.lineage.specs.Lists.{part}
@@ -16,6 +16,11 @@ use Rattle.numbers.proofs.Parts.{drop-past, part-take, part-left}
 pub put-none : (s : List ℕ) (p : ℕ) → put s p [] ≡ s
 unfolding put
 put-none s p = rw add-zero (take-append-drop p s)
+
+-- bytes at the very start
+pub put-start : (s bs : List ℕ) → put s 0 bs ≡ bs ++ drop (length bs) s
+unfolding put
+put-start s bs = rw zero-add
 
 module _ (s : List ℕ) (p : ℕ) (bs : List ℕ) (fits : p + length bs ≤ length s) where
   -- the length stays

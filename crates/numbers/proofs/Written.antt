@@ -1,16 +1,19 @@
 -- Numbers written one after the other, and read again. At any width: what was written is read, and bytes that are read as numbers are those numbers' bytes.
 use mathlib.Core.Path.{_≡_, refl, sym, ap, ap₂, _∙_}
-use mathlib.Core.List.{List, [], _∷_, _++_, map, map-map, append-assoc}
+use mathlib.Core.List.{List, [], _∷_, _++_, map, map-map, append-assoc, append-nil}
 use Prim.Native.Nat.{ℕ, zero, suc, _+_, _*_, _/_, _%_, _^_, _≤_, _<_}
 use native.Mathlib.Omega.{arith}
+use native.Mathlib.Numerals.{add-one}
 use native.Mathlib.Decide.{decLt}
 use native.Mathlib.Nat.{mul-zero, mul-suc}
 use lib.ListN.{length, getD, length-append, length-map, List·getD-eq-default}
 use lib.Seq.{take-all}
 use Rattle.lineage.specs.Lists.{upto, joined, part, Every}
 use Rattle.lineage.specs.Numbers.{leAt, numAt, numbers, leBytes, written}
+use Rattle.numbers.specs.Put.{put}
+use Rattle.numbers.proofs.Put.{put-none, put-next}
 use Rattle.numbers.proofs.Tables.{getD-mapped, table-is}
-use Rattle.numbers.proofs.Parts.{part-left, part-beyond}
+use Rattle.numbers.proofs.Parts.{part-left, part-more, part-beyond}
 use Rattle.numbers.proofs.Blocks.{every-of, every-at, Sized, sized-map, block-at, blocks-of}
 use Rattle.numbers.proofs.Regions.{part-length, part-at}
 use Rattle.numbers.proofs.Numbers.{room, le-own, le-tail, le-bytes, bytes-long}
@@ -83,3 +86,34 @@ written-numbers w s n small e =
     ap joined (map-map (leBytes w) (numAt w s) (upto n))
     ∙ blocks-of (λ i. leBytes w (numAt w s i)) w s n (λ i l. number-bytes w s n i small e l)
     ∙ take-all (w * n) s (omega arith)
+
+-- Words written one by one: none of them yet, and one more.
+module _ (w at from : ℕ) (words s : List ℕ) where
+  abbrev pub wordsPut : ℕ → List ℕ
+  wordsPut i = put s at (written w (part words from i))
+
+  pub words-none : s ≡ wordsPut 0
+  unfolding part
+  words-none = sym (put-none s at)
+
+  pub words-more : (t : List ℕ) (p i v : ℕ)
+      → t ≡ wordsPut i
+      → p ≡ at + w * i
+      → v ≡ getD words (from + i) 0
+      → from + i < length words
+      → at + w * i + w ≤ length s
+      → put t p (leBytes w v) ≡ wordsPut (i + 1)
+  words-more t p i v e ep ev h fits =
+      let bs : List ℕ = written w (part words from i) in
+      let long : length bs ≡ w * i =
+      written-long w (part words from i) ∙ ap (λ (n : ℕ). w * n) (part-length words from i (omega arith)) in
+      let here : p ≡ at + length bs = omega arith in
+      let next : bs ++ leBytes w v ≡ written w (part words from (i + 1)) =
+      sym
+      (ap (λ (n : ℕ). written w (part words from n)) (add-one i)
+      ∙ ap (written w) (part-more words from i 0 h)
+      ∙ written-append w (part words from i) (getD words (from + i) 0 ∷ [])
+      ∙ ap (λ (z : List ℕ). bs ++ z) (append-nil (leBytes w (getD words (from + i) 0)) ∙ ap (leBytes w) (sym ev))) in
+      ap₂ (λ (z : List ℕ) (q : ℕ). put z q (leBytes w v)) e here
+      ∙ put-next s at bs (omega arith) (leBytes w v)
+      ∙ ap (put s at) next

@@ -2,8 +2,8 @@
 ghost use mathlib.Core.Path.{_≡_};
 ghost use Prim.Native.Nat.{_+_, _*_, _%_, _^_, _≤_, _<_};
 ghost use lib.ListN.{length};
-ghost use Rattle.lineage.specs.Lists.{cleared};
-ghost use Rattle.lineage.specs.Numbers.{Width, leAt, numAt, leBytes};
+ghost use Rattle.lineage.specs.Lists.{part, cleared};
+ghost use Rattle.lineage.specs.Numbers.{Width, leAt, numAt, leBytes, written};
 ghost use Rattle.numbers.specs.Put.{put};
 ghost use Rattle.numbers.specs.Regions.{Part};
 
@@ -61,13 +61,12 @@ pub fn numbers_from(s: &[u8], w: usize, from: usize, count: usize) -> &[u8]
     &s[start..end]
 }
 
-// Writes v, its lowest w bytes, as number i of a stretch of numbers of w bytes.
-pub fn put_num(out: &mut [u8], w: usize, i: usize, v: usize)
+// Writes v, its lowest w bytes, from position p on.
+pub fn put_at(out: &mut [u8], p: usize, w: usize, v: usize)
     requires { ⌜ Width w ⌝ }
-    requires { ⌜ w * i + w ≤ length (now out) ⌝ }
-    ensures { λ _. ⌜ now (out .exit) ≡ put (now (out .entry)) (w * i) (leBytes w v) ⌝ }
+    requires { ⌜ p + w ≤ length (now out) ⌝ }
+    ensures { λ _. ⌜ now (out .exit) ≡ put (now (out .entry)) p (leBytes w v) ⌝ }
 {
-    let p = w * i;
     let v1 = v / 256;
     out[p] = low(v);
     out[p + 1] = low(v1);
@@ -78,6 +77,30 @@ pub fn put_num(out: &mut [u8], w: usize, i: usize, v: usize)
     let v3 = v2 / 256;
     out[p + 2] = low(v2);
     out[p + 3] = low(v3);
+}
+
+// Writes v as number i of a stretch of numbers of w bytes.
+pub fn put_num(out: &mut [u8], w: usize, i: usize, v: usize)
+    requires { ⌜ Width w ⌝ }
+    requires { ⌜ w * i + w ≤ length (now out) ⌝ }
+    ensures { λ _. ⌜ now (out .exit) ≡ put (now (out .entry)) (w * i) (leBytes w v) ⌝ }
+{
+    put_at(out, w * i, w, v)
+}
+
+// Writes count words, from word `from` on, as numbers of w bytes one after the other, from position at on.
+pub fn write_words(out: &mut [u8], at: usize, w: usize, words: &[u32], from: usize, count: usize)
+    requires { ⌜ Width w ⌝ }
+    requires { ⌜ (at + w * count ≤ length (now out)) × (from + count ≤ length (now words)) ⌝ }
+    ensures { λ _. ⌜ now (out .exit) ≡ put (now (out .entry)) at (written w (part (now (words .entry)) from count)) ⌝ }
+{
+    let mut p = at;
+    let mut i = 0;
+    while i < count {
+        put_at(out, p, w, words[from + i] as usize);
+        p += w;
+        i += 1;
+    }
 }
 
 // Sets the first n words to 0.

@@ -1,6 +1,6 @@
 -- The greatest of a list's values, gone through from the first on: the greatest so far and what is ahead have the greatest of all between them.
-use mathlib.Core.Path.{_≡_, refl, sym, ap, _∙_}
-use mathlib.Core.List.{List, [], _∷_, map}
+use mathlib.Core.Path.{_≡_, sym, ap, _∙_}
+use mathlib.Core.List.{List, _∷_, map}
 use Prim.Native.Nat.{ℕ, suc, _+_, _≤_, _<_, max}
 use native.Mathlib.Omega.{arith}
 use native.Mathlib.Numerals.{add-one}

@@ -1,6 +1,6 @@
 -- The group list beside all names, rising: one passes over the vertices and, at each that is its own name, over one of the list. What is left of
 -- the two is the same exactly where the two are.
-use mathlib.Core.Bool.{Bool, true, false}
+use mathlib.Core.Bool.{Bool, false}
 use mathlib.Core.Path.{_≡_, refl, sym, ap, _∙_}
 use mathlib.Core.List.{List, [], _∷_}
 use Prim.Native.Nat.{ℕ, suc, _+_, _≤_, _<_}

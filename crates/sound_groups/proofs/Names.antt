@@ -1,6 +1,6 @@
 -- The two rules of names at one vertex, from what was read of it and of its name; and the test of names and group list as its two halves.
 use mathlib.Core.Bool.{false, _&&_}
-use mathlib.Core.Path.{_≡_, refl}
+use mathlib.Core.Path.{_≡_}
 use mathlib.Core.List.{List}
 use Prim.Native.Nat.{ℕ, _≤_, _<_}
 use native.Mathlib.Omega.{arith}

@@ -1,20 +1,19 @@
 -- Child starts from what was read of them.
-use mathlib.Core.Bool.{Bool, true, false, _&&_}
-use mathlib.Core.Path.{_≡_, refl, sym, ap, _∙_}
+use mathlib.Core.Bool.{Bool, true, false}
+use mathlib.Core.Path.{_≡_, ap, _∙_}
 use mathlib.Core.List.{List}
-use Prim.Native.Nat.{ℕ, zero, suc, _+_, _-_, _≤_, _<_}
+use Prim.Native.Nat.{ℕ, suc, _+_, _-_, _≤_, _<_}
 use native.Mathlib.Omega.{arith}
 use native.Mathlib.Numerals.{add-one}
 use lib.Dec.{eqb, leb}
 use lib.ListN.{getD}
-use borrow.Author.Tests.{le-leb, lt-leb, eq-eqb, ne-eqb, leb-true, eqb-true}
+use borrow.Author.Tests.{le-leb, lt-leb, eq-eqb, ne-eqb}
 use Rattle.lineage.specs.Lists.{allBelow}
 use Rattle.lineage.specs.Numbers.{numAt, numbers}
 use Rattle.lineage.specs.Sound.{startsPass}
-use Rattle.laws.proofs.Tests.{and-left, and-right}
 use Rattle.numbers.proofs.Numbers.{numbers-at}
+use Rattle.stored.proofs.Starts.{Rising, starts-rise, starts-low}
 use Rattle.sound_groups.specs.Fit.{Starts, Rows, Row}
-use Rattle.sound_groups.proofs.Passed.{all-at}
 use Rattle.sound_groups.proofs.Read.{was-read}
 
 -- the start of p is not above the next
@@ -47,28 +46,17 @@ module _ {w k : ℕ} {starts : List ℕ} (S : Starts w starts k) where
 
 -- Starts that have passed: none falls, and none is above c.
 module _ {w k c : ℕ} {starts : List ℕ} (R : Rows w starts k c) where
-  later : (allBelow k (notFalling (numbers w starts (k + 1))) && eqb (getD (numbers w starts (k + 1)) k 0) c) ≡ true
-  later = and-right (eqb (getD (numbers w starts (k + 1)) 0 0) 0) _ (R .passed)
+  rising : Rising (numbers w starts (k + 1)) k c
+  rising = starts-rise (numbers w starts (k + 1)) k c (R .passed)
 
-  at : (p : ℕ) → p ≤ k → getD (numbers w starts (k + 1)) p 0 ≡ numAt w starts p
-  at p h = numbers-at w starts (k + 1) p (omega arith)
+  start-at : (p : ℕ) → p ≤ k → getD (numbers w starts (k + 1)) p 0 ≡ numAt w starts p
+  start-at p h = numbers-at w starts (k + 1) p (omega arith)
 
   pub row-rises : (p : ℕ) → p < k → numAt w starts p ≤ numAt w starts (p + 1)
-  row-rises p h =
-      let S : List ℕ = numbers w starts (k + 1) in
-      let t : notFalling S p ≡ true = all-at (notFalling S) k p (and-left (allBelow k (notFalling S)) (eqb (getD S k 0) c) later) h in
-      omega (arith, leb-true (getD S p 0) (getD S (suc p) 0) t, at p (omega arith), at (suc p) h, ap (numAt w starts) (add-one p))
-
-  climb : (j p : ℕ) → p + j ≡ k → numAt w starts p ≤ c
-  climb zero p e =
-      let S : List ℕ = numbers w starts (k + 1) in
-      let last : getD S k 0 ≡ c = eqb-true (getD S k 0) c (and-right (allBelow k (notFalling S)) (eqb (getD S k 0) c) later) in
-      let here : p ≡ k = omega arith in
-      omega (arith, last, at k (omega arith), ap (numAt w starts) here)
-  climb (suc j) p e = omega (arith, row-rises p (omega arith), climb j (p + 1) (omega arith))
+  row-rises p h = omega (arith, rising .rise p h, start-at p (omega arith), start-at (suc p) h, ap (numAt w starts) (add-one p))
 
   pub row-within : (p : ℕ) → p ≤ k → numAt w starts p ≤ c
-  row-within p h = climb (k - p) p (omega arith)
+  row-within p h = omega (arith, starts-low rising p h, start-at p h)
 
   -- the row between two starts that were read
   pub row-between : {p a b : ℕ} → p < k → a ≡ numAt w starts p → b ≡ numAt w starts (p + 1) → Row w starts k c p a (b - a)

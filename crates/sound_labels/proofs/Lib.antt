@@ -8,3 +8,5 @@ pub mod Ranked
 pub mod Blocks
 pub mod Marks
 pub mod Labels
+pub mod Labellings
+pub mod Nobody

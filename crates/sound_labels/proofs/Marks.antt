@@ -1,18 +1,27 @@
--- Marks set at each number of a list, one at a time; and what they then tell: the mark of p is 0 exactly where p does not stand in the list.
-use mathlib.Core.Bool.{Bool, true, false, not, _&&_}
+-- Marks cleared, then set at each number of a list, one at a time; and what they then tell: the mark of p is 0 exactly where p does not stand in the list.
+use mathlib.Core.Bool.{true, not, _&&_}
 use mathlib.Core.Path.{_≡_, refl, sym, ap, _∙_}
-use mathlib.Core.List.{List, [], _∷_}
+use mathlib.Core.List.{List, [], _∷_, _++_}
 use Prim.Native.Nat.{ℕ, suc, _+_, _≤_, _<_}
 use native.Mathlib.Omega.{arith}
 use native.Mathlib.Decide.{ℕ-discrete}
 use native.Mathlib.Numerals.{add-one}
-use lib.Dec.{eqb}
-use lib.ListN.{length, getD, drop, set, length-set, drop-of-length-le}
-use lib.Seq.{drop-cons, getD-set-same, getD-set-other}
+use lib.ListN.{length, getD, drop, set, replicate, length-set, length-append, length-drop, length-replicate, getD-replicate, drop-of-length-le, List·getD-append}
+use lib.Seq.{drop-cons, drop-at, drop-set-lt, getD-set-same, getD-set-other}
 use borrow.Author.Tests.{eq-eqb, ne-eqb}
-use Rattle.lineage.specs.Lists.{among}
+use Rattle.lineage.specs.Lists.{among, cleared}
+use Rattle.laws.proofs.Lists.{here, there}
 use Rattle.sound_groups.proofs.Passed.{and-false}
 use Rattle.sound_labels.specs.Marks.{marked, unmarked}
+
+-- marks cleared below n
+pub cleared-long : (n : ℕ) (marks : List ℕ) → n ≤ length marks → length (cleared n marks) ≡ length marks
+unfolding cleared
+cleared-long n marks h = omega (arith, length-append (replicate n 0) (drop n marks), length-replicate {A = ℕ} n 0, length-drop n marks)
+
+pub cleared-at : (n : ℕ) (marks : List ℕ) (p : ℕ) → p < n → getD (cleared n marks) p 0 ≡ 0
+unfolding cleared
+cleared-at n marks p h = List·getD-append (replicate n 0) (drop n marks) 0 p (omega (arith, length-replicate {A = ℕ} n 0)) ∙ getD-replicate n p 0 0 h
 
 -- j of the list are passed
 pub record Marking (qs first : List ℕ) (j : ℕ) (marks : List ℕ) : Type 0 where
@@ -44,3 +53,15 @@ marked-at (q ∷ qs) marks p h = marked-at qs (set marks q 1) p (rw (length-set 
 pub marked-long : (qs marks : List ℕ) → length (marked qs marks) ≡ length marks
 marked-long [] marks = refl
 marked-long (q ∷ qs) marks = marked-long qs (set marks q 1) ∙ length-set marks q 1
+
+-- marks set below n are gone when those below n are cleared again
+marked-past : (qs marks : List ℕ) (n : ℕ) → ((q : ℕ) → among q qs ≡ true → q < n) → drop n (marked qs marks) ≡ drop n marks
+marked-past [] marks n low = refl
+marked-past (q ∷ qs) marks n low =
+    marked-past qs (set marks q 1) n (λ x i. low x (there x q qs i)) ∙ drop-set-lt n marks q 1 (low q (here q qs))
+
+pub marked-cleared : (qs : List ℕ) (n : ℕ) (marks : List ℕ) → ((q : ℕ) → among q qs ≡ true → q < n) → cleared n (marked qs (cleared n marks)) ≡ cleared n marks
+unfolding cleared
+marked-cleared qs n marks low =
+    ap (λ (rest : List ℕ). replicate n 0 ++ rest)
+    (marked-past qs (cleared n marks) n low ∙ drop-at (replicate n 0) (drop n marks) n (length-replicate {A = ℕ} n 0))

@@ -1,8 +1,8 @@
 -- A labelling whose ranks and inner intervals have passed: places are below k, ranks are from 1 to k, m is from 1 to e, and a left walk goes left.
 use mathlib.Core.Bool.{Bool, true, false, not}
-use mathlib.Core.Path.{_≡_, sym, ap, _∙_}
+use mathlib.Core.Path.{_≡_}
 use mathlib.Core.List.{List}
-use Prim.Native.Nat.{ℕ, suc, _+_, _-_, _*_, _≤_, _<_}
+use Prim.Native.Nat.{ℕ, suc, _+_, _*_, _≤_, _<_}
 use native.Mathlib.Omega.{arith}
 use lib.Dec.{eqb, leb, ltb}
 use lib.ListN.{getD}
@@ -12,7 +12,7 @@ use Rattle.lineage.specs.Numbers.{numAt}
 use Rattle.lineage.specs.Labels.{Labelling, nobodysChild}
 use Rattle.lineage.specs.Sound.{walkEnds, rankPasses, innerPasses}
 use Rattle.laws.proofs.Tests.{and-left, and-right}
-use Rattle.laws.proofs.Inverse.{e-high}
+use Rattle.laws.proofs.Inverse.{rank-most}
 use Rattle.sections.specs.Sections.{labellingIn}
 use Rattle.sections.proofs.Sections.{places-long}
 use Rattle.sound_groups.proofs.Passed.{all-at, answered}
@@ -77,7 +77,7 @@ module _ {w k : ℕ} {triples places : List ℕ} (N : Ranked w triples places k)
       omega (
         arith,
         e-was (N .labels) h i,
-        e-high k (l .byRank) (λ q. getD (l .e) q 0) (places-long w triples places k) (λ r j. rank-low l k r (ranked r j)) (λ r j. rank-own l k r (ranked r j)) p h,
+        rank-most k (l .byRank) (λ q. getD (l .e) q 0) (places-long w triples places k) (λ r j. rank-low l k r (ranked r j)) (λ r j. rank-own l k r (ranked r j)) p h,
       )
 
   pub goes-left : Left l k

@@ -2,8 +2,10 @@
 use mathlib.Core.Bool.{true}
 use mathlib.Core.Path.{_≡_}
 use mathlib.Core.List.{List}
-use Prim.Native.Nat.{ℕ, _*_}
+use Prim.Native.Nat.{ℕ, _*_, _≤_}
+use lib.ListN.{length}
 use Rattle.lineage.specs.Lists.{allBelow}
+use Rattle.lineage.specs.Numbers.{Width}
 use Rattle.lineage.specs.Sound.{rankPasses, innerPasses}
 use Rattle.sections.specs.Sections.{labellingIn}
 use Rattle.sound_groups.specs.Fit.{Holds, Places}
@@ -27,3 +29,10 @@ pub record Ranked (w : ℕ) (triples places : List ℕ) (k : ℕ) : Type 0 where
   pub labels : Labels w triples places k
   pub ranks : allBelow k (rankPasses k (labellingIn w triples places k)) ≡ true
   pub inners : allBelow k (innerPasses (labellingIn w triples places k)) ≡ true
+
+-- a stretch holds d labellings of k groups
+pub record Labellings (w : ℕ) (labels : List ℕ) (k d : ℕ) : Type 0 where
+  pub width : Width w
+  pub long : w * (d * (4 * k)) ≤ length labels
+  pub few-groups : k ≤ 200000
+  pub few : d ≤ 5

@@ -2,14 +2,15 @@
 ghost use mathlib.Core.Path.{_≡_};
 ghost use Prim.Native.Nat.{_+_, _*_, _^_, _≤_, _<_, min};
 ghost use lib.ListN.{length};
-ghost use Rattle.lineage.specs.Lists.{allBelow};
+ghost use Rattle.lineage.specs.Lists.{allBelow, allOf, cleared};
 ghost use Rattle.lineage.specs.Numbers.{numAt, numbers};
 ghost use Rattle.lineage.specs.Sound.{childOf, walkEnds, rankPasses, fallPasses, outerPasses, innerPasses, blockPasses, labelsPass};
-ghost use Rattle.sections.specs.Sections.{childrenIn, labellingIn};
+ghost use Rattle.sections.specs.Sections.{childrenIn, labellingIn, labelsIn};
 ghost use Rattle.sound_groups.specs.Fit.{Places};
-ghost use Rattle.sound_labels.specs.Tests.{leastBelow};
+ghost use Rattle.sound_labels.specs.Tests.{leastBelow, labellingPasses};
 ghost use Rattle.sound_labels.specs.Marks.{marked, unmarked, Within, Tells};
-ghost use Rattle.sound_labels.specs.Fit.{Triples, Labels, Labelled, Ranked};
+ghost use Rattle.sound_labels.specs.Fit.{Triples, Labels, Labelled, Ranked, Labellings};
+use numbers::clear_marks;
 use numbers::num;
 use sound_groups::row_span;
 
@@ -265,11 +266,11 @@ fn block_passes(
     let low = label(triples, w, k, p, M) - 1;
     let mut rank = label(triples, w, k, p, E) - 1;
     while low < rank {
-        let q = num(places, w, rank - 1);
-        if !child_in(starts, children, w, k, c, p, q) {
+        let child = num(places, w, rank - 1);
+        if !child_in(starts, children, w, k, c, p, child) {
             return false;
         }
-        rank = label(triples, w, k, q, M) - 1;
+        rank = label(triples, w, k, child, M) - 1;
     }
     rank == low
 }
@@ -299,7 +300,7 @@ fn blocks_pass(
 }
 
 // Marks every child: sets the mark of each of the c child entries to 1.
-pub fn mark_children(children: &[u8], marks: &mut [u8], w: usize, c: usize)
+fn mark_children(children: &[u8], marks: &mut [u8], w: usize, c: usize)
     requires { ⌜ Within w (now children) c (length (now marks)) ⌝ }
     ensures { λ _. ⌜ now (marks .exit) ≡ marked (numbers w (now (children .entry)) c) (now (marks .entry)) ⌝ }
 {
@@ -319,11 +320,11 @@ fn roots_pass(triples: &[u8], places: &[u8], marks: &[u8], w: usize, k: usize) -
 {
     let mut rank = k;
     while 0 < rank {
-        let q = num(places, w, rank - 1);
-        if marks[q] != 0 {
+        let root = num(places, w, rank - 1);
+        if marks[root] != 0 {
             return false;
         }
-        rank = label(triples, w, k, q, M) - 1;
+        rank = label(triples, w, k, root, M) - 1;
     }
     true
 }
@@ -359,4 +360,78 @@ fn labels_pass(
         return false;
     }
     roots_pass(triples, places, marks, w, k)
+}
+
+// Whether labelling j of d is.
+fn labelling_passes(
+    starts: &[u8],
+    children: &[u8],
+    labels: &[u8],
+    marks: &[u8],
+    w: usize,
+    k: usize,
+    c: usize,
+    d: usize,
+    j: usize,
+) -> bool
+    requires { ⌜ Places w (now starts) (now children) k c ⌝ }
+    requires { ⌜ Labellings w (now labels) k d ⌝ }
+    requires { ⌜ Tells (childrenIn w (now starts) (now children) k c) (now marks) k ⌝ }
+    requires { ⌜ j < d ⌝ }
+    ensures { λ a. ⌜ a ≡ labellingPasses w (childrenIn w (now (starts .entry)) (now (children .entry)) k c) (now (labels .entry)) k j ⌝ }
+{
+    let triples = stored::sections::triples(labels, w, k, d, j);
+    let places = stored::sections::by_rank(labels, w, k, d, j);
+    labels_pass(starts, children, triples, places, marks, w, k, c)
+}
+
+// Whether each of d labellings is.
+fn labellings_pass(
+    starts: &[u8],
+    children: &[u8],
+    labels: &[u8],
+    marks: &[u8],
+    w: usize,
+    k: usize,
+    c: usize,
+    d: usize,
+) -> bool
+    requires { ⌜ Places w (now starts) (now children) k c ⌝ }
+    requires { ⌜ Labellings w (now labels) k d ⌝ }
+    requires { ⌜ Tells (childrenIn w (now starts) (now children) k c) (now marks) k ⌝ }
+    ensures { λ a. ⌜ a ≡ allOf (labelsPass (childrenIn w (now (starts .entry)) (now (children .entry)) k c)) (labelsIn w (now (labels .entry)) k d) ⌝ }
+{
+    let mut j = 0;
+    while j < d {
+        if !labelling_passes(starts, children, labels, marks, w, k, c, d, j) {
+            return false;
+        }
+        j += 1;
+    }
+    true
+}
+
+// Whether each of d labellings is by the rules over the children. Marks tell meanwhile who is somebody's child; those below n are 0 afterwards.
+pub fn labels_sound(
+    starts: &[u8],
+    children: &[u8],
+    labels: &[u8],
+    marks: &mut [u8],
+    w: usize,
+    n: usize,
+    k: usize,
+    c: usize,
+    d: usize,
+) -> bool
+    requires { ⌜ Places w (now starts) (now children) k c ⌝ }
+    requires { ⌜ Labellings w (now labels) k d ⌝ }
+    requires { ⌜ (k ≤ n) × (n ≤ length (now marks)) ⌝ }
+    ensures { λ a. ⌜ a ≡ allOf (labelsPass (childrenIn w (now (starts .entry)) (now (children .entry)) k c)) (labelsIn w (now (labels .entry)) k d) ⌝ }
+    ensures { λ _. ⌜ now (marks .exit) ≡ cleared n (now (marks .entry)) ⌝ }
+{
+    clear_marks(marks, n);
+    mark_children(children, marks, w, c);
+    let passed = labellings_pass(starts, children, labels, marks, w, k, c, d);
+    clear_marks(marks, n);
+    passed
 }

@@ -1,17 +1,19 @@
 -- An index that fits a form, written: its header is read again and passes, each section is read again, and so the index is.
 use mathlib.Core.Bool.{true, _&&_}
 use mathlib.Core.Path.{_≡_, sym, ap, ap₂, subst, _∙_}
-use mathlib.Core.List.{List, [], map}
+use mathlib.Core.List.{List, [], _++_, map}
 use Prim.Native.Nat.{ℕ, _+_, _*_, _^_, _≤_, _<_}
 use native.Mathlib.Omega.{arith}
 use native.Mathlib.Nat.{mul-le-mul, mul-le-mul-left}
-use lib.ListN.{length, getD}
+use lib.ListN.{length, getD, drop}
 use borrow.Author.Tests.{eq-eqb}
 use Rattle.lineage.specs.Lists.{upto, joined, part, sameList, Every}
 use Rattle.lineage.specs.Numbers.{numbers, written}
 use Rattle.lineage.specs.Labels.{Labelling}
 use Rattle.lineage.specs.Index.{Index}
 use Rattle.lineage.specs.Stored.{Form, Counts, sizes, offsets, offsetsFrom, totalLength, sections, startsFrom, countsOf, header, encode, headerAt, countsIn, formOf, isForm, countsFit, offsetsFit, stretch, section, rowAt, labellingAt, decode}
+use Rattle.numbers.specs.Put.{put}
+use Rattle.numbers.proofs.Put.{put-start}
 use Rattle.numbers.proofs.Tables.{getD-mapped}
 use Rattle.numbers.proofs.Blocks.{every-at}
 use Rattle.numbers.proofs.Written.{Below, written-long, num-front, written-at, numbers-written}
@@ -23,7 +25,7 @@ use Rattle.stored.proofs.Checked.{all-right}
 use Rattle.stored.proofs.Laid.{same-self, Bounded, fit-bounds}
 use Rattle.stored.proofs.Starts.{starts-long, rows-read}
 use Rattle.stored.proofs.LabelNumbers.{labels-long, labels-read}
-use Rattle.stored.proofs.Offsets.{lengths, offsets-part, offsets-last}
+use Rattle.stored.proofs.Offsets.{lengths, offsets-part, offsets-last, putSections, sections-put}
 
 -- the index of bytes at given counts
 abbrev decodeBy : ℕ → Counts → List ℕ → Index
@@ -44,6 +46,17 @@ index-is : {I : Index} {names groups levels : List ℕ} {children : List (List �
     → record { names = names; groups = groups; levels = levels; children = children; labels = labels } ≡ I
 index-is e f g h i = rw (e, f, g, h, i)
 
+-- every number of a header within the bounds is of 32 bits
+pub header-fits : (F : Form) (a : Counts) → F .number < 2 ^ 32 → Bounded F a → Below (2 ^ 32) (header F a)
+header-fits F a number B =
+    let w = B .width .high in
+    let vertices = mul-le-mul w (B .vertices) in
+    let k : a .k ≤ 200000 = omega arith in
+    let groups = mul-le-mul w k in
+    let entries = mul-le-mul w (B .entries) in
+    let labels = mul-le-mul w (mul-le-mul (B .most) (mul-le-mul-left 4 k)) in
+    (number, (omega arith, (omega arith, (omega arith, (omega arith, (omega arith, (omega arith, (omega arith, (omega arith, (omega arith, (omega arith, (omega arith, tt))))))))))))
+
 module _ {F : Form} {I : Index} (E : Fits F I) where
   abbrev a : Counts
   a = countsOf I
@@ -62,17 +75,8 @@ module _ {F : Form} {I : Index} (E : Fits F I) where
       let labels = labels-long (a .k) (I .labels) (E .labels) in
       rw (levels, starts, labels)
 
-  -- every number of the header is of 32 bits
   header-small : Below (256 ^ 4) (header F a)
-  header-small =
-      let B : Bounded F a = bounded in
-      let w = B .width .high in
-      let vertices = mul-le-mul w (B .vertices) in
-      let k : a .k ≤ 200000 = omega arith in
-      let groups = mul-le-mul w k in
-      let entries = mul-le-mul w (B .entries) in
-      let labels = mul-le-mul w (mul-le-mul (B .most) (mul-le-mul-left 4 k)) in
-      (within .number, (omega arith, (omega arith, (omega arith, (omega arith, (omega arith, (omega arith, (omega arith, (omega arith, (omega arith, (omega arith, (omega arith, tt))))))))))))
+  header-small = header-fits F a (within .number) bounded
 
   -- the header is read again
   pub header-read : (i : ℕ) → i < 12 → headerAt (encode F I) i ≡ getD (header F a) i 0
@@ -148,3 +152,11 @@ module _ {F : Form} {I : Index} (E : Fits F I) where
       (ap isForm (header-read 0 (omega arith)) ∙ eq-eqb (formOf (F .number) .number) (F .number) (ap (λ (G : Form). G .number) (E .known)))
       (ap₂ countsFit form-read counts-read ∙ E .counts)
       (ap₂ (λ (G : Form) (z : Counts). offsetsFit G z (encode F I)) form-read counts-read ∙ offsets-fit)
+
+  -- its header and its sections, each put at its offset
+  pub encode-put : (out : List ℕ)
+      → length (encode F I) ≤ length out
+      → putSections (F .width) (put out 0 (written 4 (header F a))) 48 (sections I) ≡ encode F I ++ drop (length (encode F I)) out
+  unfolding encode
+  encode-put out h =
+      sections-put (F .width) (written 4 (header F a)) (sections I) out 48 (sym (written-long 4 (header F a))) h ∙ put-start out (encode F I)

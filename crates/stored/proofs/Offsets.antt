@@ -8,6 +8,8 @@ use lib.ListN.{length, getD, take, length-append}
 use Rattle.lineage.specs.Lists.{joined, part}
 use Rattle.lineage.specs.Numbers.{written}
 use Rattle.lineage.specs.Stored.{offsetsFrom, totalLength}
+use Rattle.numbers.specs.Put.{put}
+use Rattle.numbers.proofs.Put.{put-next}
 use Rattle.numbers.proofs.Parts.{part-left, part-right, part-whole}
 use Rattle.numbers.proofs.Blocks.{take-block}
 use Rattle.numbers.proofs.Written.{written-long}
@@ -47,6 +49,29 @@ module _ (w : ℕ) where
   offsets-last before (x ∷ X) at e =
       ap length (sym (append-assoc before (written w x) (joined (map (written w) X))))
       ∙ offsets-last (before ++ written w x) X (at + w * length x) (omega (arith, length-append before (written w x), written-long w x))
+
+  -- sections written into lent bytes, each at its offset
+  abbrev pub putSections : List ℕ → ℕ → List (List ℕ) → List ℕ
+  putSections s at [] = s
+  putSections s at (x ∷ X) = putSections (put s at (written w x)) (at + w * length x) X
+
+  -- are written one after the other
+  pub sections-put : (before : List ℕ) (X : List (List ℕ)) (s : List ℕ) (at : ℕ)
+      → at ≡ length before
+      → length (before ++ joined (map (written w) X)) ≤ length s
+      → putSections (put s 0 before) at X ≡ put s 0 (before ++ joined (map (written w) X))
+  sections-put before [] s at e h = ap (put s 0) (sym (append-nil before))
+  sections-put before (x ∷ X) s at e h =
+      let rest : List ℕ = joined (map (written w) X) in
+      let assoc : (before ++ written w x) ++ rest ≡ before ++ (written w x ++ rest) = append-assoc before (written w x) rest in
+      let here : at ≡ 0 + length before = omega arith in
+      let fits : 0 + length before ≤ length s = omega (arith, length-append before (written w x ++ rest)) in
+      ap (λ (z : List ℕ). putSections z (at + w * length x) X)
+      (ap (λ (p : ℕ). put (put s 0 before) p (written w x)) here ∙ put-next s 0 before fits (written w x))
+      ∙ sections-put (before ++ written w x) X s (at + w * length x)
+      (omega (arith, length-append before (written w x), written-long w x))
+      (omega (arith, ap length assoc))
+      ∙ ap (put s 0) assoc
 
 -- Bytes cut at the offsets.
 module _ (w : ℕ) (b : List ℕ) where

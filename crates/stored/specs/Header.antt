@@ -57,7 +57,11 @@ offsetsIn b = map (λ i. headerAt b (5 + i)) (upto 7)
 abbrev pub offsetsOf : Layout → List ℕ
 offsetsOf l = l .names ∷ l .groups ∷ l .levels ∷ l .starts ∷ l .children ∷ l .labels ∷ l .total ∷ []
 
--- they are the same, and the bytes are of that total
+-- the header of a form's number and a layout
+abbrev pub headerOf : ℕ → Layout → List ℕ
+headerOf form l = form ∷ l .n ∷ l .k ∷ l .c ∷ l .d ∷ offsetsOf l
+
+-- the offsets are the same, and the bytes are of that total
 abbrev pub offsetsAgree : List ℕ → Layout → Bool
 offsetsAgree b l = sameList (offsetsIn b) (offsetsOf l) && eqb (length b) (l .total)
 

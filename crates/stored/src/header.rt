@@ -1,12 +1,14 @@
-// The header: twelve 32-bit numbers, checked in the document's order (10, 11, 12) and read.
+// The header: twelve 32-bit numbers, checked in the document's order (10, 11, 12) and read; and written.
 ghost use mathlib.Core.Path.{_≡_};
-ghost use Prim.Native.Nat.{_+_, _*_, _≤_, _<_};
+ghost use Prim.Native.Nat.{_+_, _*_, _^_, _≤_, _<_};
 ghost use lib.Dec.{eqb};
 ghost use lib.ListN.{length};
-ghost use Rattle.lineage.specs.Numbers.{Width};
+ghost use Rattle.lineage.specs.Lists.{Every};
+ghost use Rattle.lineage.specs.Numbers.{Width, written};
 ghost use Rattle.lineage.specs.Stored.{headerAt, formOf, countsFit};
 ghost use Rattle.lineage.specs.Calls.{outcome};
-ghost use Rattle.stored.specs.Header.{rowOf, counts, layoutBy, layoutIn, offsetsAgree, headerChecks, headerOutcome};
+ghost use Rattle.numbers.specs.Put.{put};
+ghost use Rattle.stored.specs.Header.{rowOf, counts, layoutBy, layoutIn, offsetsAgree, headerOf, headerChecks, headerOutcome};
 
 const HEADER_LENGTH: usize = 48;
 
@@ -146,4 +148,27 @@ pub fn read_header(index: &[u8]) -> Header
         return Header::Refused(12, 0);
     }
     Header::Passed(l)
+}
+
+// Writes the header of a form's number and a layout, all of whose numbers are of 32 bits.
+pub fn write_header(out: &mut [u8], form: usize, l: Layout)
+    requires { ⌜ 48 ≤ length (now out) ⌝ }
+    requires { ⌜ Every (λ x. x < 2 ^ 32) (headerOf form l) ⌝ }
+    ensures { λ _. ⌜ now (out .exit) ≡ put (now (out .entry)) 0 (written 4 (headerOf form l)) ⌝ }
+{
+    let header = [
+        form as u32,
+        l.n as u32,
+        l.k as u32,
+        l.c as u32,
+        l.d as u32,
+        l.names as u32,
+        l.groups as u32,
+        l.levels as u32,
+        l.starts as u32,
+        l.children as u32,
+        l.labels as u32,
+        l.total as u32,
+    ];
+    numbers::write_words(out, 0, 4, &header, 0, 12)
 }

@@ -4,7 +4,6 @@ use mathlib.Core.List.{[]}
 use Prim.Native.Nat.{_-_}
 use native.Mathlib.Omega.{arith}
 use lib.ListN.{getD}
-use borrow.Author.Needs.{needs}
 use Rattle.sections.specs.Sections.{childrenIn}
 use Rattle.sound_groups.proofs.Row.{can-read-child, child-was}
 use Rattle.sound_groups.proofs.Rising.{Rising, rising-none, rising-more, rising-high, rising-back, rising-all, row-passes-is}

@@ -1,6 +1,6 @@
 -- `sound_labels::block_passes` meets its contract. The invariant: from `rank` on the walk ends as the whole walk does. The rank falls, since each step
 -- goes left.
-use mathlib.Core.Path.{sym, _∙_}
+use mathlib.Core.Path.{_∙_}
 use native.Mathlib.Omega.{arith}
 use Rattle.lineage.specs.Sound.{childOf}
 use Rattle.sections.specs.Sections.{childrenIn, labellingIn}

@@ -1,7 +1,6 @@
 -- `ask::question::decide` meets its contract: each return is the first rule that holds, and what the code has read by then says so.
 use native.Mathlib.Omega.{arith}
 use mathlib.Core.Path.{refl}
-use lib.ListN.{length}
 use borrow.Author.Needs.{needs}
 use Rattle.lineage.specs.Question.{inside, outside}
 use Rattle.numbers.proofs.Numbers.{room}
@@ -80,7 +79,7 @@ returns-4 c =
     let i = n .before .before .before in
     let s = entry (i .before .before) in
     rule-4 (s .pre .0) (s .args .x) (s .args .marks .now) (c .plain4 .result) (i .before .if1 .left) (i .inner-by .result) (i .inner-by .ensures) (n .before .before .if2 .left) (s .pre .1 .0)
-    (n .before .num .result) (n .num2 .result) (n .before .num .ensures .0) (n .num2 .ensures .0) (o .before .if3 .left) (o .outer-by .result) (o .outer-by .ensures) (c .plain4 .ensures) (c .before .if4 .taken)
+    (n .before .num .result) (n .num2 .result) (n .before .num .ensures .0) (n .num2 .ensures .0) (o .before .if3 .left) (o .outer-by .result) (o .outer-by .ensures) (c .plain4 .ensures) (omega arith)
 
 open-group-requires : tie.Need-open-group-requires
 open-group-requires c κs =
@@ -113,7 +112,7 @@ returns-5 c =
     let i = n .before .before .before in
     let s = entry (i .before .before) in
     rule-5-6 (s .pre .0) (s .args .x) (s .args .marks .now) (c .by-walk .result) (i .before .if1 .left) (i .inner-by .result) (i .inner-by .ensures) (n .before .before .if2 .left) (s .pre .1 .0)
-    (n .before .num .result) (n .num2 .result) (n .before .num .ensures .0) (n .num2 .ensures .0) (o .before .if3 .left) (o .outer-by .result) (o .outer-by .ensures) (a .before .before .if4 .left)
+    (n .before .num .result) (n .num2 .result) (n .before .num .ensures .0) (n .num2 .ensures .0) (o .before .if3 .left) (o .outer-by .result) (o .outer-by .ensures) (omega (arith, a .before .before .if4 .left))
     _ _ _ _ (a .open-group .ensures) (c .by-walk .ensures)
 
 pub decide-spec : {M : Type 1} → statement M

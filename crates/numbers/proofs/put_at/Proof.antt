@@ -1,13 +1,10 @@
--- `numbers::put_num` meets its contract: the stores, one byte each, are the bytes of the number put one after the other.
+-- `numbers::put_at` meets its contract: the stores, one byte each, are the bytes of the number put one after the other.
 use native.Mathlib.Omega.{arith}
 use lib.ListN.{length-set}
 use Rattle.numbers.proofs.Numbers.{put-two, put-four}
 use borrow.Author.Needs.{needs}
-use Rattle.numbers.proofs.put_num.Statement.{statement}
-use Rattle.numbers.proofs.put_num.Tie as tie
-
-mul-p : tie.Need-mul-p
-mul-p c = search needs
+use Rattle.numbers.proofs.put_at.Statement.{statement}
+use Rattle.numbers.proofs.put_at.Tie as tie
 
 low-requires : tie.Need-low-requires
 low-requires c κs = search needs
@@ -52,13 +49,18 @@ same-length-2 : tie.Need-same-length-2
 same-length-2 c = search needs
 
 returns-2 : tie.Need-returns-2
-returns-2 c = put-four _ _ _ _ _ _ _ _ (omega arith) (omega arith) (c .before .before .before .before .low .ensures) (c .before .before .before .low2 .ensures) (c .before .low3 .ensures) (c .low4 .ensures)
+returns-2 c =
+    let s = c .before .before .before .before .before .before in
+    put-four (s .args .w) (s .args .p) (s .args .v) _ _ _ _ (s .args .out .now) (omega arith) (omega arith)
+    (c .before .before .before .before .low .ensures)
+    (c .before .before .before .low2 .ensures)
+    (c .before .low3 .ensures)
+    (c .low4 .ensures)
 
-pub put-num-spec : {M : Type 1} → statement M
-put-num-spec =
+pub put-at-spec : {M : Type 1} → statement M
+put-at-spec =
     tie.close
     (tie.spec
-    mul-p
     low-requires
     slice-write-out
     low-requires-2
