@@ -48,7 +48,7 @@ first-sound children (l ∷ labels) all h = all .0
 
 -- lent marks, cleared below n
 module _ (n : ℕ) (marks : List ℕ) (room : n ≤ length marks) where
-  clear-long : length (cleared n marks) ≡ length marks
+  pub clear-long : length (cleared n marks) ≡ length marks
   unfolding cleared
   clear-long = omega (arith, length-append (replicate n 0) (drop n marks), length-replicate {A = ℕ} n 0, length-drop n marks)
 
@@ -60,6 +60,10 @@ module _ (n : ℕ) (marks : List ℕ) (room : n ≤ length marks) where
   clear-past : drop n (cleared n marks) ≡ drop n marks
   unfolding cleared
   clear-past = drop-at (replicate n 0) (drop n marks) n (length-replicate n 0)
+
+  pub clear-twice : cleared n (cleared n marks) ≡ cleared n marks
+  unfolding cleared
+  clear-twice = ap (replicate n 0 ++_) clear-past
 
 module _
     {I : Index} (S : Sound I) (some : 0 < length (I .labels))

@@ -1,6 +1,6 @@
 -- The list of bytes whose contents are sound, from what the code has at its end: the marks after the sweep, the count, and the written list.
 use mathlib.Core.Bool.{Bool}
-use mathlib.Core.Path.{_≡_, refl, sym, ap, _∙_}
+use mathlib.Core.Path.{_≡_, refl, ap, _∙_}
 use mathlib.Core.List.{List, _++_}
 use Prim.Native.Nat.{ℕ, _≤_, _<_}
 use native.Mathlib.Omega.{arith}
@@ -11,17 +11,16 @@ use Rattle.lineage.specs.Numbers.{numbers}
 use Rattle.lineage.specs.Index.{Index}
 use Rattle.lineage.specs.Question.{inOwnList, downstream}
 use Rattle.lineage.specs.Calls.{refused, answered, indexIn}
-use Rattle.laws.specs.Sound.{Sound}
-use Rattle.numbers.proofs.Numbers.{numbers-long}
-use Rattle.sections.specs.Sections.{indexFrom}
 use Rattle.stored.specs.declared.header.Layout.{Layout}
 use Rattle.stored.specs.Sections.{Section}
 use Rattle.list.specs.Fit.{Names, SoundBytes}
 use Rattle.list.specs.Listing.{listed, namesAlone}
 use Rattle.list.specs.Marks.{reachMarks}
-use Rattle.list.specs.Listed.{soundAnswer, soundOutput}
+use Rattle.list.specs.declared.Listed.the-variants.{Count, Refused}
+use Rattle.list.specs.Listed.{Allowed, Passes}
 use Rattle.list.proofs.Contents.{Sections, stretchOf, names-only}
 use Rattle.list.proofs.Fitted.{index-sound, labels-some, names-are, names-count, names-fit}
+use Rattle.list.proofs.Refusals.{allowed-short, allowed-list}
 use Rattle.list.proofs.Downstream.{listed-downstream, reach-long, reach-cleared}
 
 -- whether a vertex is in its own list depends on the names alone
@@ -61,25 +60,18 @@ module _
       found-is : listed (numbers (l .width) names (l .n)) marks u own ≡ downstream (indexIn b) u
       found-is = rw (rule, names-are O P, own-by-names (indexIn b) u, reached) (listed-downstream (index-sound O P) (labels-some O P) u vertex before there)
 
-      module _ {count : ℕ} (counted : count ≡ length (listed (numbers (l .width) names (l .n)) marks u own)) (out : List ℕ) where
+      module _ (H : Passes b l) {count : ℕ} (counted : count ≡ length (listed (numbers (l .width) names (l .n)) marks u own)) (out : List ℕ) where
         count-is : count ≡ length (downstream (indexIn b) u)
         count-is = counted ∙ ap length found-is
 
-        -- too short an out list: 16, and it is unchanged
+        -- too short an out list, or room for all
         pub list-short :
-            {after : List ℕ} → length out < count → after ≡ cleared (l .n) marks
-            → (refused 16 count ≡ soundAnswer b u (length out)) × ((after ≡ cleared (l .n) before) × (out ≡ soundOutput b u out))
-        unfolding soundAnswer soundOutput
-        list-short h e =
-            let t = lt-ltb (length out) count h in
-            (rw (← count-is, t) refl, (marks-cleared e, rw (← count-is, t) refl))
+            {after : List ℕ} → length out < count → after ≡ cleared (l .n) marks → Allowed b u before out (Refused 16 count) after out
+        list-short h e = allowed-short b u before out H room low (O .contents) count-is (marks-cleared e) h
 
-        -- otherwise the count, and the vertices in front of what was lent
         pub list-found :
             {after written : List ℕ} → count ≤ length out → after ≡ cleared (l .n) marks
             → written ≡ listed (numbers (l .width) names (l .n)) marks u own ++ drop (length (listed (numbers (l .width) names (l .n)) marks u own)) out
-            → (answered count ≡ soundAnswer b u (length out)) × ((after ≡ cleared (l .n) before) × (written ≡ soundOutput b u out))
-        unfolding soundAnswer soundOutput
+            → Allowed b u before out (Count count) after written
         list-found h e f =
-            let t = le-ltb (length out) count h in
-            (rw (← count-is, t) refl, (marks-cleared e, rw (← count-is, t) (f ∙ rw (found-is, ← count-is) refl)))
+            allowed-list b u before out H room low (O .contents) count-is (marks-cleared e) h (f ∙ ap (λ (xs : List ℕ). xs ++ drop (length xs) out) found-is)

@@ -4,7 +4,9 @@ pub mod Swept
 pub mod Downstream
 pub mod Contents
 pub mod Fitted
+pub mod Refusals
 pub mod Found
+pub mod Theorems
 pub mod Marking
 pub mod Sweeping
 pub mod Writing

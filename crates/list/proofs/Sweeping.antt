@@ -1,5 +1,5 @@
 -- The sweep on its way down: sweeping the ranks that are left, over the marks as they are, comes to the whole sweep over the marks as they were.
-use mathlib.Core.Path.{_≡_, refl, sym, _∙_}
+use mathlib.Core.Path.{_≡_, refl, sym, ap, _∙_}
 use mathlib.Core.List.{List, []}
 use Prim.Native.Nat.{ℕ, suc, _≤_}
 use native.Mathlib.Omega.{arith}
@@ -10,13 +10,13 @@ use Rattle.list.proofs.Turn.{turn-marked, turn-passed}
 
 -- the ranks from `rank` down to 1 are left
 pub record Sweeping (groups : List ℕ) (children : List (List ℕ)) (places : List ℕ) (top rank : ℕ) (before marks : List ℕ) : Type 0 where
-  pub high : rank ≤ top
   pub long : length marks ≡ length before
   pub rest : swept groups children places rank marks ≡ swept groups children places top before
 
 pub sweeping-none :
-    (groups : List ℕ) (children : List (List ℕ)) (places : List ℕ) (top : ℕ) (marks : List ℕ) → Sweeping groups children places top top marks marks
-sweeping-none groups children places top marks = record { high = omega arith; long = refl; rest = refl }
+    (groups : List ℕ) (children : List (List ℕ)) (places : List ℕ) (top rank : ℕ) (marks : List ℕ) → rank ≡ top
+    → Sweeping groups children places top rank marks marks
+sweeping-none groups children places top rank marks e = record { long = refl; rest = ap (λ (r : ℕ). swept groups children places r marks) e }
 
 module _
     {groups : List ℕ} {children : List (List ℕ)} {places : List ℕ} {top rank : ℕ} {before marks : List ℕ}
@@ -28,7 +28,6 @@ module _
           {after : List ℕ} → turn groups children p marks ≡ after → length after ≡ length marks → Sweeping groups children places top r before after
       unfolding swept
       sweeping-next e l = record {
-        high = omega (arith, S .high);
         long = l ∙ S .long;
         rest = rw (← e, is) (rw next at (S .rest));
       }

@@ -1,12 +1,11 @@
--- What `list` answers, as the definitions have it, and the part of it that follows sound contents.
-use mathlib.Core.Bool.{cond}
-use mathlib.Core.List.{List, [], _∷_, _++_}
+-- What `list` answers and leaves, as the definitions have it.
+use mathlib.Core.Path.{_≡_}
+use mathlib.Core.List.{List}
 use Prim.Native.Nat.{ℕ}
-use lib.Dec.{ltb}
-use lib.ListN.{length, drop}
-use Rattle.lineage.specs.Question.{downstream}
-use Rattle.lineage.specs.Stored.{decode}
-use Rattle.lineage.specs.Calls.{check, Outcome, refused, answered, outcome, indexIn}
+use lib.ListN.{length}
+use Rattle.lineage.specs.Calls.{Outcome, refused, answered, outcome, listAnswer, listMarks, listOutput}
+use Rattle.stored.specs.declared.header.Layout.{Layout}
+use Rattle.stored.specs.Header.{layoutIn, headerChecks}
 use Rattle.list.specs.declared.Listed.{Listed}
 use Rattle.list.specs.declared.Listed.the-variants.{Count, Refused}
 
@@ -15,16 +14,12 @@ abbrev pub listedOf : Listed → Outcome ℕ
 listedOf (Count count) = answered count
 listedOf (Refused number extra) = refused number extra
 
--- 16 or the count, for an out list of this length
-unfoldable pub soundAnswer : List ℕ → (vertex out : ℕ) → Outcome ℕ
-unfolding downstream decode
-soundAnswer b vertex out =
-    let count : ℕ = length (downstream (indexIn b) vertex) in
-    outcome (check (ltb out count) 16 count ∷ []) count
+-- of bytes, a vertex, marks and an out list: what may be answered, and what marks and out list may hold afterwards
+pub record Allowed (b : List ℕ) (vertex : ℕ) (marks out : List ℕ) (r : Listed) (marks' out' : List ℕ) : Type 0 where
+  pub answers : listedOf r ≡ listAnswer b vertex (length marks) (length out)
+  pub leaves : marks' ≡ listMarks b vertex marks
+  pub writes : out' ≡ listOutput b vertex (length marks) out
 
--- the out list after them
-unfoldable pub soundOutput : List ℕ → ℕ → List ℕ → List ℕ
-unfolding downstream decode
-soundOutput b vertex out =
-    let found : List ℕ = downstream (indexIn b) vertex in
-    cond (ltb (length out) (length found)) out (found ++ drop (length found) out)
+-- the header passes, and gives this layout
+pub record Passes (b : List ℕ) (l : Layout) : Type 0 where
+  pub header : answered l ≡ outcome (headerChecks b) (layoutIn b)

@@ -55,10 +55,10 @@ pub fn sweep(
     requires { ⌜ top ≤ k ⌝ }
     ensures { λ _. ⌜ now (marks .exit) ≡ swept (numbers w (now (groups .entry)) k) (childrenIn w (now (starts .entry)) (now (children .entry)) k c) (numbers w (now (places .entry)) k) top (now (marks .entry)) ⌝ }
 {
-    let mut rank = top;
-    while 0 < rank {
-        rank -= 1;
-        let p = num(places, w, rank);
+    let mut done = 0;
+    while done < top {
+        done += 1;
+        let p = num(places, w, top - done);
         let name = num(groups, w, p);
         if marks[name] == 1 {
             mark_children(groups, starts, children, marks, w, k, c, p);
