@@ -157,13 +157,9 @@ pub record Allowed (b : List ℕ) (u v : ℕ) (marks : List ℕ) (r : Asked) (m 
   pub answers : askedOf r ≡ askAnswer b u v (length marks)
   pub leaves : m ≡ askMarks b u v marks
 
-<<<<<<< HEAD
 answer-one :
     {says says' : Bool} {reason reason' opened opened' : ℕ}
     → says ≡ says' → reason ≡ reason' → opened ≡ opened' → Answer says reason opened ≡ Answer says' reason' opened'
-=======
-answer-one : {says says' : Bool} {reason reason' opened opened' : ℕ} → says ≡ says' → reason ≡ reason' → opened ≡ opened' → Answer says reason opened ≡ Answer says' reason' opened'
->>>>>>> list
 answer-one a b c = cc
 
 asked-one : (r r' : Asked) → askedOf r ≡ askedOf r' → r ≡ r'
