@@ -53,7 +53,7 @@ module _
       made = l .made ∙ ap₂ (λ names below. labelling (groupList names) below order) names-same (children-same (fit .children-there) K);
     }
 
--- a labelling is there: the levels can be found, and leave it
+-- a labelling is there: the levels can be found, and it stays beside them
 module _
     {orders w w' : List ℕ} {at n k c names place parents children base : ℕ} (fit : LabelFit orders w at n k c names place parents children base)
     (l : Labelled (part orders at n) w w' n k c names children base)

@@ -22,6 +22,7 @@ pub rows-within :
     → RowsOutside w at k c base size → RowsOutside w' at k c base' size'
 rows-within same l h o = record { starts = outside-within same l h (o .starts); values = outside-within same l h (o .values) }
 
+-- the rows of a region, and the children that they are
 module _ {w w' : List ℕ} {at k c base size : ℕ} (o : RowsOutside w at k c base size) (K : Kept w w' base size) where
   pub starts-same : part w' at (k + 1) ≡ part w at (k + 1)
   starts-same = kept-apart K (o .starts .apart)

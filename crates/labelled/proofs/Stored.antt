@@ -29,6 +29,7 @@ module _
     unfolding childrenIn
     children-are = rows-are (childrenOf G (namesOf G) (groupList (namesOf G))) (children-long G ends ∙ all) (stored .rows)
 
+    -- the groups can be labelled
     pub stored-fits :
         {names place base : ℕ} → part w names (G .n) ≡ namesOf G → part w place (G .n) ≡ placesOf (namesOf G)
         → names + G .n ≤ base → place + G .n ≤ base → c ≤ e → childrenAt from k e + k + 1 + c ≤ base → base + windowSize (G .n) k c ≤ length w → k < 2 ^ 32 → c < 2 ^ 32
@@ -50,6 +51,7 @@ module _
       few-children = few-children;
     }
 
+    -- and what is labelled is the graph's labelling
     pub labelling-stored :
         {order w' : List ℕ} {names base : ℕ} → part w names (G .n) ≡ namesOf G → Labelled order w w' (G .n) k c names (childrenAt from k e) base
         → windowLabelling w' base (G .n) k c ≡ labelling (groupList (namesOf G)) (childrenOf G (namesOf G) (groupList (namesOf G))) order

@@ -1,10 +1,12 @@
--- The window that the labelling under one order is made in, for n vertices in k groups with c children in all. From base on:
+-- The window in which the labelling under one order is made, for n vertices in k groups with c children in all. From base on:
 --
---   from              words      holds                                                        at the end
---   0                 n          the places, in the order                                     e, m, s and the levels, k words each
---   n                 k          those that are nobody's child, in the order
---   n + k             k + 1 + c  the rows of each place's children, in the order
---   n + 2k + 1 + c    6k         the six regions of the traversal                             in the fifth the places by rank
+--   from              words      holds
+--   0                 n          the places as the order has them
+--   n                 k          those of them that are nobody's child
+--   n + k             k + 1 + c  the rows of each place's children as the order has them
+--   n + 2k + 1 + c    6k         the six regions of the traversal, of which the fifth stays: the places by rank
+--
+-- Once the traversal is done, the first 4k words are e, m, s and, where they are asked for, the levels, k words each.
 use mathlib.Core.Path.{_≡_}
 use mathlib.Core.List.{List, map}
 use Prim.Native.Nat.{ℕ, _+_, _*_, _≤_}
@@ -16,7 +18,7 @@ use Rattle.rows.specs.Rows.{RowsAt, rowsIn, turnedRow}
 use Rattle.orders.specs.Roots.{rowEmpty}
 use Rattle.labels.specs.Labels.{ranksOf, innersOf, childrenIn}
 
--- where those that are nobody's child lie, the rows, the traversal, the places by rank, the levels; and how many words there are in all
+-- where those that are nobody's child lie, the rows, the traversal, the places by rank and the levels, and how many words there are in all
 abbrev pub rootsAt : ℕ → ℕ → ℕ
 rootsAt base n = base + n
 
