@@ -5,12 +5,11 @@ use mathlib.Core.List.{List, _++_}
 use Prim.Native.Nat.{ℕ, _≤_, _<_}
 use native.Mathlib.Omega.{arith}
 use lib.ListN.{length, drop}
-use borrow.Author.Tests.{lt-ltb, le-ltb}
 use Rattle.lineage.specs.Lists.{cleared}
 use Rattle.lineage.specs.Numbers.{numbers}
 use Rattle.lineage.specs.Index.{Index}
 use Rattle.lineage.specs.Question.{inOwnList, downstream}
-use Rattle.lineage.specs.Calls.{refused, answered, indexIn}
+use Rattle.lineage.specs.Calls.{indexIn}
 use Rattle.stored.specs.declared.header.Layout.{Layout}
 use Rattle.stored.specs.Sections.{Section}
 use Rattle.list.specs.Fit.{Names, SoundBytes}
