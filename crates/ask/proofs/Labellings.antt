@@ -6,11 +6,10 @@ use mathlib.Core.List.{List, _∷_}
 use Prim.Native.Nat.{ℕ, zero, suc, _+_, _*_, _≤_, _<_}
 use native.Mathlib.Omega.{arith}
 use native.Mathlib.Numerals.{add-one}
-use native.Mathlib.Nat.{mul-le-mul-left, mul-le-mul-right}
+use native.Mathlib.Nat.{mul-le-mul-left}
 use borrow.Author.Count.{below-more}
 use lib.ListN.{length, drop, drop-of-length-le}
 use lib.Seq.{drop-cons}
-use Rattle.lineage.specs.Numbers.{Width}
 use Rattle.lineage.specs.Labels.{Labelling}
 use Rattle.lineage.specs.Question.{inside, outside, firstFrom, firstLabelling}
 use Rattle.numbers.specs.Regions.{Part}
@@ -18,10 +17,6 @@ use Rattle.numbers.proofs.Tables.{table-at}
 use Rattle.sections.specs.Sections.{labellingIn, triplesOf, placesOf, labelsIn}
 use Rattle.sections.proofs.Sections.{s-at, m-at, e-at, labels-long}
 use Rattle.ask.specs.Intervals.{innerBound, outerBound}
-
--- how many numbers there are is not above how many bytes they take
-pub count-low : (w n : ℕ) → Width w → n ≤ w * n
-count-low w n W = omega (arith, mul-le-mul-right n (W .low))
 
 -- number i of the triple of x lies within l bytes
 pub in-triple : (w x i l : ℕ) → (i < 3) × (w * (3 * x + 3) ≤ l) → w * (3 * x + i) + w ≤ l

@@ -23,9 +23,9 @@ use Rattle.ask.proofs.Counting.{Within, Gains, try-gains, open-gains, o
 use Rattle.ask.proofs.Trying.{open-is}
 
 -- a property of each element by its position
-every-at : (P : ℕ → Type 0) (xs : List ℕ) → ((i : ℕ) → i < length xs → P (getD xs i 0)) → Every P xs
-every-at P [] h = tt
-every-at P (x ∷ xs) h = (h 0 (omega arith), every-at P xs (λ i l. h (suc i) (omega arith)))
+every-by : (P : ℕ → Type 0) (xs : List ℕ) → ((i : ℕ) → i < length xs → P (getD xs i 0)) → Every P xs
+every-by P [] h = tt
+every-by P (x ∷ xs) h = (h 0 (omega arith), every-by P xs (λ i l. h (suc i) (omega arith)))
 
 module _ {w k d t : ℕ} {groups levels starts children labels : List ℕ} {marks : ℕ} (F : Fit w k d t groups levels starts children labels marks) where
   abbrev N : Net
@@ -61,11 +61,13 @@ module _ {w k d t : ℕ} {groups levels starts children labels : List ℕ} {mark
 
   -- the walk stays among the groups and their marks
   children-low : (p : ℕ) → p < k → Every (λ h. h < k) (getD (childrenIn w starts children k (count w children)) p [])
-  children-low p h = every-at (λ q. q < k) (getD (childrenIn w starts children k (count w children)) p []) at
+  children-low p h = every-by (λ q. q < k) (getD (childrenIn w starts children k (count w children)) p []) at
     where
-      at : (i : ℕ) → i < length (getD (childrenIn w starts children k (count w children)) p []) → getD (getD (childrenIn w starts children k (count w children)) p []) i 0 < k
+      at : (i : ℕ) → i < length (getD (childrenIn w starts children k (count w children)) p [])
+          → getD (getD (childrenIn w starts children k (count w children)) p []) i 0 < k
       at i l =
-          let j : i < numAt w starts (p + 1) - numAt w starts p = omega (arith, row-long w starts children k (count w children) p h (F .start-rises p h) (F .end-low p h)) in
+          let j : i < numAt w starts (p + 1) - numAt w starts p =
+          omega (arith, row-long w starts children k (count w children) p h (F .start-rises p h) (F .end-low p h)) in
           rw (row-at w starts children k (count w children) p h (F .start-rises p h) (F .end-low p h) i j)
           (F .child-low p (numAt w starts p + i) h (omega arith) (omega arith))
 
@@ -76,7 +78,8 @@ module _ {w k d t : ℕ} {groups levels starts children labels : List ℕ} {mark
   }
 
   -- opening g: its name and its row were read, and its row was tried
-  module _ (g name L : ℕ) (row m : List ℕ) (f : Bool) (l n : ℕ) (m' : List ℕ) (low : g < k) (named : name ≡ numAt w groups g) (P : ChildrenOf starts children w g row) (e : walked f l n m' ≡ tryAt N L (all w row) (set m name 1)) where
+  module _ (g name L : ℕ) (row m : List ℕ) (f : Bool) (l n : ℕ) (m' : List ℕ) (low : g < k) (named : name ≡ numAt w groups g) (P : ChildrenOf starts children w g row)
+      (e : walked f l n m' ≡ tryAt N L (all w row) (set m name 1)) where
     pub open-done : walked f l (1 + n) m' ≡ openAt N (L + 1) g m
     open-done = open-is N L g name (all w row) m f l n m' (named ∙ net-spot g low) (row-all F g low row P ∙ net-children g) e
 
@@ -84,8 +87,8 @@ module _ {w k d t : ℕ} {groups levels starts children labels : List ℕ} {mark
     open-count long free =
         let G : Gains (set m name 1) (walked f l n m') =
         rw e
-        (try-gains N net-within (openAt N L) (open-gains N net-within L) (all w row) (rw (row-all F g low row P, net-children g) (net-within .children g low)) (set m name 1)
-        (length-set m name 1 ∙ long)) in
+        (try-gains N net-within (openAt N L) (open-gains N net-within L) (all w row) (rw (row-all F g low row P, net-children g) (net-within .children g low))
+        (set m name 1) (length-set m name 1 ∙ long)) in
         omega (
           arith,
           G .long,

@@ -31,4 +31,14 @@ module _ (w k d t : ℕ) (groups levels labels marks : List ℕ) (h name : ℕ) 
     pub over-outer : b < a → (l : ℕ) → l ≡ firstLabelling (outside h t) (labelsIn w labels k d) → ltb 0 l ≡ passedOver w k d t groups levels labels marks h
     unfolding passedOver
     over-outer e l i =
-        rw (← spot, ne-eqb _ _ free, numbers-at w levels k h h-low, numbers-at w levels k t t-low, ← level, ← above, lt-leb _ _ e, first-given (outside h t) (labelsIn w labels k d), ← i) refl
+        rw (
+          ← spot,
+          ne-eqb _ _ free,
+          numbers-at w levels k h h-low,
+          numbers-at w levels k t t-low,
+          ← level,
+          ← above,
+          lt-leb _ _ e,
+          first-given (outside h t) (labelsIn w labels k d),
+          ← i,
+        ) refl

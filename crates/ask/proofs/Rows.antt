@@ -25,10 +25,13 @@ module _ (w i : ℕ) (s : List ℕ) (W : Width w) (whole : length s ≡ w * coun
   no-more h = le-of-mul-le-mul-left (rw whole at h) (omega (arith, W .low))
 
 -- a row ends within the children
-pub end-low : {w k d t : ℕ} {groups levels starts children labels : List ℕ} {marks : ℕ} (F : Fit w k d t groups levels starts children labels marks) (g : ℕ) → g < k → w * numAt w starts (g + 1) ≤ length children
+pub end-low :
+    {w k d t : ℕ} {groups levels starts children labels : List ℕ} {marks : ℕ} (F : Fit w k d t groups levels starts children labels marks) (g : ℕ)
+    → g < k → w * numAt w starts (g + 1) ≤ length children
 end-low {w} {children = children} F g h = omega (arith, mul-le-mul-left w (F .end-low g h), mul-div-le (length children) w)
 
-module _ {w k d t : ℕ} {groups levels starts children labels : List ℕ} {marks : ℕ} (F : Fit w k d t groups levels starts children labels marks) (g : ℕ) (g-low : g < k) (row : List ℕ) (P : ChildrenOf starts children w g row) where
+module _ {w k d t : ℕ} {groups levels starts children labels : List ℕ} {marks : ℕ} (F : Fit w k d t groups levels starts children labels marks)
+    (g : ℕ) (g-low : g < k) (row : List ℕ) (P : ChildrenOf starts children w g row) where
   abbrev from : ℕ
   from = numAt w starts g
 

@@ -36,7 +36,8 @@ first-from p n (l ∷ ls) = at (p l) (first-from p (suc n) ls)
 pub first-low : (p : Labelling → Bool) (w k d : ℕ) (labels : List ℕ) → firstLabelling p (labelsIn w labels k d) ≤ d
 first-low p w k d labels = omega (arith, first-from p 0 (labelsIn w labels k d), labels-long w labels k d)
 
-module _ {w k d t : ℕ} {groups levels starts children labels : List ℕ} {marks : ℕ} (F : Fit w k d t groups levels starts children labels marks) (x : ℕ) (m : List ℕ) (r : Reply) where
+module _ {w k d t : ℕ} {groups levels starts children labels : List ℕ} {marks : ℕ} (F : Fit w k d t groups levels starts children labels marks)
+    (x : ℕ) (m : List ℕ) (r : Reply) where
   abbrev I : Index
   I = groupsIn w k d groups levels starts children labels
 
@@ -69,7 +70,8 @@ module _ {w k d t : ℕ} {groups levels starts children labels : List ℕ} {mark
             ap (λ (q : Reply). answerBy q m) s
             ∙ rw (ne-eqb x t apart, two, le-ltb 0 i none, three, lt-leb a b lower, four, lt-ltb 0 o h, ← outer) refl
 
-        module _ (neither : o ≤ 0) (f : Bool) (l n : ℕ) (m' : List ℕ) (e : walked f l n m' ≡ openAt (netIn w k d t groups levels starts children labels) (a + 1) x m) where
+        module _ (neither : o ≤ 0) (f : Bool) (l n : ℕ) (m' : List ℕ)
+            (e : walked f l n m' ≡ openAt (netIn w k d t groups levels starts children labels) (a + 1) x m) where
           walked-is : walked f l n m' ≡ walk I t x m
           unfolding walk netIn
           walked-is = e ∙ ap (λ (L : ℕ). openAt (netOf I t) L x m) (add-one a ∙ ap suc (level ∙ sym (numbers-at w levels k x x-low)))
@@ -80,7 +82,8 @@ module _ {w k d t : ℕ} {groups levels starts children labels : List ℕ} {mark
               ∙ rw (ne-eqb x t apart, two, le-ltb 0 i none, three, lt-leb a b lower, four, le-ltb 0 o neither) (ap byWalk walked-is)
 
 -- the walk opens no more groups than there are marks, and is ended by one of the labellings
-module _ {w k d t : ℕ} {groups levels starts children labels : List ℕ} {marks : ℕ} (F : Fit w k d t groups levels starts children labels marks) (L x : ℕ) (m : List ℕ) (f : Bool) (l n : ℕ) (m' : List ℕ) (e : walked f l n m' ≡ openAt (netIn w k d t groups levels starts children labels) L x m) where
+module _ {w k d t : ℕ} {groups levels starts children labels : List ℕ} {marks : ℕ} (F : Fit w k d t groups levels starts children labels marks)
+    (L x : ℕ) (m : List ℕ) (f : Bool) (l n : ℕ) (m' : List ℕ) (e : walked f l n m' ≡ openAt (netIn w k d t groups levels starts children labels) L x m) where
   pub walk-deciding : l ≤ 5
   unfolding netIn
   walk-deciding =

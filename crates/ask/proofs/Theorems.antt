@@ -138,10 +138,12 @@ module _ (G : Graph) (ends : Ends G) (orders₁ orders₂ : List (List ℕ)) (up
       let sized₂ : countsIn b₂ .n ≡ G .n =
       sym (names-long b₂) ∙ made-long (record { graph = G; ends = ends; orders = orders₂; permuted = permuted; yields = y₂ }) in
       let sized₁ : countsIn b₁ .n ≡ G .n =
-      sym (names-long b₁) ∙ ap (λ (J : Index). length (J .names)) (sym y₁) ∙ names-same G orders₁ orders₂ ∙ ap (λ (J : Index). length (J .names)) y₂ ∙ names-long b₂ ∙ sized₂ in
+      sym (names-long b₁) ∙ ap (λ (J : Index). length (J .names)) (sym y₁) ∙ names-same G orders₁ orders₂
+      ∙ ap (λ (J : Index). length (J .names)) y₂ ∙ names-long b₂ ∙ sized₂ in
       let ordered : 0 < length orders₁ = omega (arith, orders-long G orders₁, ap (λ (J : Index). length (J .labels)) y₁, labels-long b₁, A₁ .some) in
       let D : NoMore (answer (indexIn b₁) u v) (answer (indexIn b₂) u v) =
-      rw (y₁, y₂) at (more-orders G ends orders₁ orders₂ up permuted ordered u v (omega (arith, sized₁, A₁ .source-low)) (omega (arith, sized₁, A₁ .target-low))) in (
+      rw (y₁, y₂) at
+      (more-orders G ends orders₁ orders₂ up permuted ordered u v (omega (arith, sized₁, A₁ .source-low)) (omega (arith, sized₁, A₁ .target-low))) in (
         sym (ap (λ (z : Said). z .says) (A₂ .said)) ∙ D .says ∙ ap (λ (z : Said). z .says) (A₁ .said),
         (
           omega (arith, D .count, ap (λ (z : Said). z .opened) (A₁ .said), ap (λ (z : Said). z .opened) (A₂ .said)),
@@ -155,7 +157,9 @@ pub record Allowed (b : List ℕ) (u v : ℕ) (marks : List ℕ) (r : Asked) (m 
   pub answers : askedOf r ≡ askAnswer b u v (length marks)
   pub leaves : m ≡ askMarks b u v marks
 
-answer-one : {says says' : Bool} {reason reason' opened opened' : ℕ} → says ≡ says' → reason ≡ reason' → opened ≡ opened' → Answer says reason opened ≡ Answer says' reason' opened'
+answer-one :
+    {says says' : Bool} {reason reason' opened opened' : ℕ}
+    → says ≡ says' → reason ≡ reason' → opened ≡ opened' → Answer says reason opened ≡ Answer says' reason' opened'
 answer-one a b c = cc
 
 asked-one : (r r' : Asked) → askedOf r ≡ askedOf r' → r ≡ r'

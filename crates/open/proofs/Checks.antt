@@ -3,12 +3,11 @@ use mathlib.Core.Bool.{Bool, true, false, not, cond, _||_, or-false}
 use mathlib.Core.Path.{_≡_, refl, sym, ap, ap₂, _∙_}
 use mathlib.Core.List.{List}
 use Prim.Native.Nat.{ℕ, _≤_, _<_}
-use native.Mathlib.Omega.{arith}
 use lib.Dec.{ltb}
 use lib.ListN.{length}
 use borrow.Author.Tests.{lt-ltb, le-ltb, not-true, not-false}
 use Rattle.lineage.specs.Lists.{cleared}
-use Rattle.lineage.specs.Stored.{Counts, headerAt, countsIn, formOf, isForm, countsFit, offsetsFit}
+use Rattle.lineage.specs.Stored.{headerAt, countsIn, formOf, isForm, countsFit, offsetsFit}
 use Rattle.lineage.specs.Sound.{contentsSound}
 use Rattle.lineage.specs.Calls.{Outcome, refused, answered, refuse, outcome, openAnswer, openMarks}
 use Rattle.stored.specs.declared.header.Layout.{Layout}

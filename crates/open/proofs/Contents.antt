@@ -1,13 +1,13 @@
 -- The contents of bytes as the parts that hold them: what `decode` reads is what the six sections hold, so the tests of the sections are the test of the
 -- contents.
-use mathlib.Core.Bool.{true, _&&_, and-assoc}
-use mathlib.Core.Path.{_≡_, refl, sym, ap, _∙_}
+use mathlib.Core.Bool.{_&&_, and-assoc}
+use mathlib.Core.Path.{_≡_, sym, ap}
 use mathlib.Core.List.{List}
 use Prim.Native.Nat.{ℕ, _+_}
 use Rattle.lineage.specs.Lists.{allOf}
 use Rattle.lineage.specs.Numbers.{numbers}
 use Rattle.lineage.specs.Index.{Index}
-use Rattle.lineage.specs.Stored.{countsIn, section, decode}
+use Rattle.lineage.specs.Stored.{countsIn, section}
 use Rattle.lineage.specs.Sound.{startsPass, groupsPass, labelsPass, sound, contentsSound}
 use Rattle.stored.specs.declared.header.Layout.{Layout}
 use Rattle.stored.specs.Header.{Laid}

@@ -1,2 +1,7 @@
 pub mod Contents
 pub mod Checks
+pub mod Every
+pub mod Starts
+pub mod Small
+pub mod Fits
+pub mod Theorem

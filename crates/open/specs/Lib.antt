@@ -1,3 +1,4 @@
--- What opening asks of the sections, and what it answers.
+-- What opening asks of the sections, what it answers, and what it decides.
 pub mod Parts
 pub mod Opened
+pub mod Yielded

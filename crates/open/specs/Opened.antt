@@ -6,7 +6,7 @@ use lib.Dec.{ltb}
 use lib.ListN.{length}
 use Rattle.lineage.specs.Lists.{cleared}
 use Rattle.lineage.specs.Stored.{Counts, countsIn}
-use Rattle.lineage.specs.Calls.{Check, check, Outcome, refused, answered, outcome, contentsCheck}
+use Rattle.lineage.specs.Calls.{check, Outcome, refused, answered, outcome, contentsCheck}
 use Rattle.open.specs.declared.Opened.{Opened}
 use Rattle.open.specs.declared.Opened.the-variants.{Index, Refused}
 

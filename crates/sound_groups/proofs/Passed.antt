@@ -8,7 +8,7 @@ use native.Mathlib.Nat.{not-suc-le-zero}
 use native.Mathlib.Numerals.{add-one}
 use borrow.Author.Tests.{not-true, not-false}
 use Rattle.lineage.specs.Lists.{allBelow}
-use Rattle.laws.proofs.Tests.{and-both, and-left, and-right}
+use Rattle.laws.proofs.Tests.{and-both}
 
 -- i of n numbers are gone through
 pub record Passed (p : ℕ → Bool) (n i : ℕ) : Type 0 where
@@ -19,7 +19,7 @@ pub and-false : (a : Bool) → (a && false) ≡ false
 and-false true = refl
 and-false false = refl
 
--- one number breaks the test of all, and a test of all is one of each
+-- one number breaks the test of all
 pub all-broken : (p : ℕ → Bool) (n i : ℕ) → i < n → p i ≡ false → allBelow n p ≡ false
 all-broken p zero i h f = absurd (not-suc-le-zero h)
 all-broken p (suc n) i h f = at (ℕ-discrete i n) (all-broken p n i)
@@ -27,14 +27,6 @@ all-broken p (suc n) i h f = at (ℕ-discrete i n) (all-broken p n i)
     at : Dec (i ≡ n) → (i < n → p i ≡ false → allBelow n p ≡ false) → (allBelow n p && p n) ≡ false
     at (yes e) ih = rw (← e, f) (and-false (allBelow i p))
     at (no g) ih = rw (ih (omega arith) f)
-
-pub all-at : (p : ℕ → Bool) (n i : ℕ) → allBelow n p ≡ true → i < n → p i ≡ true
-all-at p zero i h l = absurd (not-suc-le-zero l)
-all-at p (suc n) i h l = at (ℕ-discrete i n) (all-at p n i (and-left (allBelow n p) (p n) h))
-  where
-    at : Dec (i ≡ n) → (i < n → p i ≡ true) → p i ≡ true
-    at (yes e) ih = rw e (and-right (allBelow n p) (p n) h)
-    at (no g) ih = ih (omega arith)
 
 pub passed-none : (p : ℕ → Bool) (n : ℕ) → Passed p n 0
 passed-none p n = record { within = omega arith; all = refl }

@@ -1,19 +1,20 @@
 -- The children of one group as its row of the children's list.
-use mathlib.Core.Bool.{true}
+use mathlib.Core.Bool.{Bool, true, _&&_}
 use mathlib.Core.Path.{_≡_, sym, ap, _∙_}
 use mathlib.Core.List.{List, []}
-use Prim.Native.Nat.{ℕ, _+_, _-_, _*_, _≤_, _<_}
+use Prim.Native.Nat.{ℕ, suc, _+_, _-_, _*_, _≤_, _<_}
 use native.Mathlib.Omega.{arith}
 use lib.Dec.{ltb}
 use lib.ListN.{length, getD}
 use borrow.Author.Tests.{ltb-true}
+use Rattle.lineage.specs.Lists.{allBelow}
 use Rattle.lineage.specs.Numbers.{Width, numAt}
 use Rattle.lineage.specs.Sound.{rowPasses}
-use Rattle.laws.proofs.Tests.{and-left}
+use Rattle.laws.proofs.Tests.{and-left, and-right}
+use Rattle.stored.proofs.Tests.{all-below}
 use Rattle.sections.specs.Sections.{childrenIn}
 use Rattle.sections.proofs.Sections.{children-long, row-long, row-at}
 use Rattle.sound_groups.specs.Fit.{Row, Children, Places}
-use Rattle.sound_groups.proofs.Passed.{all-at}
 use Rattle.sound_groups.proofs.Read.{can-read}
 use Rattle.sound_groups.proofs.Starts.{row-rises, row-within}
 
@@ -35,13 +36,38 @@ module _ {w k c p from len : ℕ} {starts children : List ℕ} (K : Children w s
       e ∙ ap (λ (n : ℕ). numAt w children (n + i)) (R .begins)
       ∙ sym (row-at w starts children k c p (R .low) (row-rises (K .rows) p (R .low)) (row-within (K .rows) (p + 1) (omega (arith, R .low))) i l)
 
--- a child is a place
+-- children that have passed: each is a place, and below the next
+module _ {w k c : ℕ} {starts children : List ℕ} (P : Places w starts children k c) {p : ℕ} (low : p < k) where
+  abbrev rows : List (List ℕ)
+  rows = childrenIn w starts children k c
+
+  abbrev row : List ℕ
+  row = getD rows p []
+
+  abbrev lows : Bool
+  lows = allBelow (length row) (λ i. ltb (getD row i 0) (length rows))
+
+  abbrev ups : Bool
+  ups = allBelow (length row - 1) (λ i. ltb (getD row i 0) (getD row (suc i) 0))
+
+  passes : (lows && ups) ≡ true
+  passes = all-below k (rowPasses rows) p (P .passed) low
+
+  pub row-low : (i : ℕ) → i < length row → getD row i 0 < k
+  row-low i h =
+      omega (
+        arith,
+        children-long w starts children k c,
+        ltb-true (getD row i 0) (length rows) (all-below (length row) (λ j. ltb (getD row j 0) (length rows)) i (and-left lows ups passes) h),
+      )
+
+  pub row-up : (i : ℕ) → suc i < length row → getD row i 0 < getD row (suc i) 0
+  row-up i h =
+      ltb-true (getD row i 0) (getD row (suc i) 0)
+      (all-below (length row - 1) (λ j. ltb (getD row j 0) (getD row (suc j) 0)) i (and-right lows ups passes) (omega arith))
+
 pub child-low : {w k c p from len i q : ℕ} {starts children : List ℕ} → Places w starts children k c → Row w starts k c p from len
-    → i < len → q ≡ numAt w children (from + i) → q < k
-child-low {w} {k} {c} {p} {from} {len} {i} {q} {starts} {children} P R h e =
-    let C : List (List ℕ) = childrenIn w starts children k c in
-    let row : List ℕ = getD C p [] in
-    let t : rowPasses C p ≡ true = all-at (rowPasses C) k p (P .passed) (R .low) in
-    let low : ltb (getD row i 0) (length C) ≡ true =
-    all-at (λ j. ltb (getD row j 0) (length C)) (length row) i (and-left _ _ t) (omega (arith, row-has (P .entries) R)) in
-    omega (arith, ltb-true (getD row i 0) (length C) low, child-was (P .entries) R h e, children-long w starts children k c)
+    → i < len
+    → q ≡ numAt w children (from + i)
+    → q < k
+child-low {i = i} P R h e = omega (arith, row-low P (R .low) i (omega (arith, row-has (P .entries) R)), child-was (P .entries) R h e)

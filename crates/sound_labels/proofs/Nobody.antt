@@ -6,26 +6,23 @@ use mathlib.Core.Path.{_≡_, sym, ap, ap₂, _∙_}
 use mathlib.Core.List.{List, [], _∷_}
 use Prim.Native.Nat.{ℕ, suc, _+_, _≤_, _<_}
 use native.Mathlib.Omega.{arith}
-use lib.Dec.{ltb}
 use lib.ListN.{length, getD}
-use borrow.Author.Tests.{ltb-true, eq-eqb}
+use borrow.Author.Tests.{eq-eqb}
 use Rattle.lineage.specs.Lists.{among, position, joined, cleared}
 use Rattle.lineage.specs.Labels.{nobodysChild}
 use Rattle.lineage.specs.Numbers.{numAt, numbers}
-use Rattle.lineage.specs.Sound.{rowPasses}
-use Rattle.laws.proofs.Tests.{and-left}
 use Rattle.laws.proofs.Lists.{in-append, in-getD, position-low, at-position}
 use Rattle.numbers.proofs.Numbers.{numbers-long, numbers-at}
 use Rattle.sections.specs.Sections.{childrenIn}
 use Rattle.sections.proofs.Sections.{children-long}
 use Rattle.stored.proofs.Starts.{starts-rise, rows-joined}
 use Rattle.sound_groups.specs.Fit.{Places}
-use Rattle.sound_groups.proofs.Passed.{all-at}
+use Rattle.sound_groups.proofs.Row.{row-low}
 use Rattle.sound_labels.specs.Marks.{marked, unmarked, Tells}
 use Rattle.sound_labels.proofs.Marks.{cleared-long, cleared-at, marked-at, marked-long, marked-cleared}
 
 -- what holds of each row's members holds of those of the rows joined
-joined-all : (Q : ℕ → Type 0) (rows : List (List ℕ))
+pub joined-all : (Q : ℕ → Type 0) (rows : List (List ℕ))
     → ((p : ℕ) → p < length rows → (x : ℕ) → among x (getD rows p []) ≡ true → Q x)
     → (x : ℕ)
     → among x (joined rows) ≡ true
@@ -49,16 +46,13 @@ module _ {w k c : ℕ} {starts children : List ℕ} (P : Places w starts childre
   unfolding childrenIn
   joined-is = rows-joined (starts-rise (numbers w starts (k + 1)) k c (P .entries .rows .passed)) entries (numbers-long w children c)
 
-  row-low : (p : ℕ) → p < length rows → (x : ℕ) → among x (getD rows p []) ≡ true → x < k
-  row-low p h x i =
-      let row : List ℕ = getD rows p [] in
-      let t : rowPasses rows p ≡ true = all-at (rowPasses rows) k p (P .passed) (omega (arith, children-long w starts children k c)) in
-      let low : ltb (getD row (position x row) 0) (length rows) ≡ true =
-      all-at (λ j. ltb (getD row j 0) (length rows)) (length row) (position x row) (and-left _ _ t) (position-low x row i) in
-      omega (arith, ltb-true (getD row (position x row) 0) (length rows) low, at-position x row i, children-long w starts children k c)
-
   member-low : (x : ℕ) → among x entries ≡ true → x < k
-  member-low x i = joined-all (λ y. y < k) rows row-low x (rw joined-is i)
+  member-low x i =
+      joined-all (λ y. y < k) rows
+      (λ p h y j.
+      let low : p < k = omega (arith, children-long w starts children k c) in
+      rw (at-position y (getD rows p []) j) at (row-low P low (position y (getD rows p [])) (position-low y (getD rows p []) j)))
+      x (rw joined-is i)
 
   pub entry-low : (j : ℕ) → j < c → numAt w children j < k
   entry-low j h =

@@ -13,9 +13,10 @@ use Rattle.lineage.specs.Labels.{Labelling, nobodysChild}
 use Rattle.lineage.specs.Sound.{walkEnds, rankPasses, innerPasses}
 use Rattle.laws.proofs.Tests.{and-left, and-right}
 use Rattle.laws.proofs.Inverse.{rank-most}
+use Rattle.stored.proofs.Tests.{all-below}
 use Rattle.sections.specs.Sections.{labellingIn}
 use Rattle.sections.proofs.Sections.{places-long}
-use Rattle.sound_groups.proofs.Passed.{all-at, answered}
+use Rattle.sound_groups.proofs.Passed.{answered}
 use Rattle.sound_labels.specs.Fit.{Labels, Ranked}
 use Rattle.sound_labels.specs.Marks.{unmarked, Tells}
 use Rattle.sound_labels.proofs.Read.{m-was, e-was, place-was}
@@ -57,10 +58,10 @@ module _ {w k : ℕ} {triples places : List ℕ} (N : Ranked w triples places k)
   l = labellingIn w triples places k
 
   ranked : (r : ℕ) → r < k → rankPasses k l r ≡ true
-  ranked r h = all-at (rankPasses k l) k r (N .ranks) h
+  ranked r h = all-below k (rankPasses k l) r (N .ranks) h
 
   inner : (p : ℕ) → p < k → innerPasses l p ≡ true
-  inner p h = all-at (innerPasses l) k p (N .inners) h
+  inner p h = all-below k (innerPasses l) p (N .inners) h
 
   -- the place at a rank that was read
   pub place-low : {r p : ℕ} → r < k → p ≡ numAt w places r → p < k

@@ -6,16 +6,13 @@ use Prim.Native.Nat.{ℕ, zero, suc, _+_, _-_, _≤_, _<_}
 use native.Mathlib.Omega.{arith}
 use native.Mathlib.Decide.{decLt}
 use native.Mathlib.Nat.{add-suc}
-use lib.Dec.{ltb}
 use lib.ListN.{length, getD}
-use borrow.Author.Tests.{ltb-true}
-use Rattle.lineage.specs.Lists.{allBelow, among, position}
-use Rattle.lineage.specs.Sound.{rowPasses}
-use Rattle.laws.proofs.Tests.{is-false, and-right}
+use Rattle.lineage.specs.Lists.{among, position}
+use Rattle.laws.proofs.Tests.{is-false}
 use Rattle.laws.proofs.Lists.{in-getD, position-low, at-position}
 use Rattle.sections.specs.Sections.{childrenIn}
 use Rattle.sound_groups.specs.Fit.{Places}
-use Rattle.sound_groups.proofs.Passed.{all-at}
+use Rattle.sound_groups.proofs.Row.{row-up}
 
 -- each number is below the next
 pub record Climbs (xs : List ℕ) : Type 0 where
@@ -71,12 +68,4 @@ between-none {xs} {q} {low} {high} B l = sym (is-false (among q xs) (λ t. at t 
 
 -- a row that has passed its test climbs
 pub row-climbs : {w k c p : ℕ} {starts children : List ℕ} → Places w starts children k c → p < k → Climbs (getD (childrenIn w starts children k c) p [])
-row-climbs {w} {k} {c} {p} {starts} {children} P h =
-    let C : List (List ℕ) = childrenIn w starts children k c in
-    let row : List ℕ = getD C p [] in
-    let t : rowPasses C p ≡ true = all-at (rowPasses C) k p (P .passed) h in
-    record {
-      next = λ i l.
-          ltb-true (getD row i 0) (getD row (suc i) 0)
-          (all-at (λ j. ltb (getD row j 0) (getD row (suc j) 0)) (length row - 1) i (and-right (allBelow (length row) (λ j. ltb (getD row j 0) (length C))) _ t) (omega arith));
-    }
+row-climbs P h = record { next = row-up P h }

@@ -78,7 +78,8 @@ returns-2 c =
     let s = c .before .before .before .before .before .before .before .before in
     let l = c .before .before .before .loop in
     let hold = one-more _ _ _ (l .inv .1 .1) (c .before .before .inner-bound .ensures) (c .before .if1 .taken) in
-    passed-here _ _ _ _ _ _ (c .before .before .before .before .before .before .labellings .inv .1) (c .before .before .before .before .before .labellings-test .taken)
+    passed-here _ _ _ _ _ _ (c .before .before .before .before .before .before .labellings .inv .1)
+    (c .before .before .before .before .before .labellings-test .taken)
     (is-inside _ _ _ _ _ _ _ (s .pre .1 .0) (s .pre .1 .1) (c .before .before .before .before .triples .ensures) (λ b h. hold b (omega arith)))
 
 pub inner-by-spec : {M : Type 1} → statement M

@@ -76,7 +76,8 @@ returns c = c .before .labellings .inv .0 ∙ passed-all _ _ _ _ _ _ (c .before 
 returns-2 : tie.Need-returns-2 Inv-loop μ-loop Inv-labellings μ-labellings
 returns-2 c =
     let s = c .before .before .before .before .before .before .before .before in
-    passed-here _ _ _ _ _ _ (c .before .before .before .before .before .before .labellings .inv .1) (c .before .before .before .before .before .labellings-test .taken)
+    passed-here _ _ _ _ _ _ (c .before .before .before .before .before .before .labellings .inv .1)
+    (c .before .before .before .before .before .labellings-test .taken)
     (is-outside _ _ _ _ _ _ _ (s .pre .1 .0) (s .pre .1 .1) (c .before .before .before .before .triples .ensures) _ _ (c .before .before .loop-test .taken)
     (c .before .outer-bound .ensures) (not-true _ (c .if1 .taken)))
 

@@ -36,7 +36,8 @@ returns-2 : tie.Need-returns-2
 returns-2 c =
     let i = c .before .before in
     let s = entry (i .before .before) in
-    rule-2 (s .pre .0) (s .args .x) (s .args .marks .now) (c .plain2 .result) (i .before .if1 .left) (i .inner-by .result) (i .inner-by .ensures) (c .plain2 .ensures) (c .before .if2 .taken)
+    rule-2 (s .pre .0) (s .args .x) (s .args .marks .now) (c .plain2 .result) (i .before .if1 .left) (i .inner-by .result) (i .inner-by .ensures)
+    (c .plain2 .ensures) (c .before .if2 .taken)
 
 num-requires : tie.Need-num-requires
 num-requires c κs =
@@ -56,8 +57,8 @@ returns-3 c =
     let n = c .before .before in
     let i = n .before .before .before in
     let s = entry (i .before .before) in
-    rule-3 (s .pre .0) (s .args .x) (s .args .marks .now) (c .plain3 .result) (i .before .if1 .left) (i .inner-by .result) (i .inner-by .ensures) (n .before .before .if2 .left) (s .pre .1 .0)
-    (n .before .num .result) (n .num2 .result) (n .before .num .ensures .0) (n .num2 .ensures .0) (c .plain3 .ensures) (c .before .if3 .taken)
+    rule-3 (s .pre .0) (s .args .x) (s .args .marks .now) (c .plain3 .result) (i .before .if1 .left) (i .inner-by .result) (i .inner-by .ensures)
+    (n .before .before .if2 .left) (s .pre .1 .0) (n .before .num .result) (n .num2 .result) (n .before .num .ensures .0) (n .num2 .ensures .0) (c .plain3 .ensures) (c .before .if3 .taken)
 
 outer-by-requires : tie.Need-outer-by-requires
 outer-by-requires c κs = search needs
@@ -78,8 +79,9 @@ returns-4 c =
     let n = o .before .before in
     let i = n .before .before .before in
     let s = entry (i .before .before) in
-    rule-4 (s .pre .0) (s .args .x) (s .args .marks .now) (c .plain4 .result) (i .before .if1 .left) (i .inner-by .result) (i .inner-by .ensures) (n .before .before .if2 .left) (s .pre .1 .0)
-    (n .before .num .result) (n .num2 .result) (n .before .num .ensures .0) (n .num2 .ensures .0) (o .before .if3 .left) (o .outer-by .result) (o .outer-by .ensures) (c .plain4 .ensures) (omega arith)
+    rule-4 (s .pre .0) (s .args .x) (s .args .marks .now) (c .plain4 .result) (i .before .if1 .left) (i .inner-by .result) (i .inner-by .ensures)
+    (n .before .before .if2 .left) (s .pre .1 .0) (n .before .num .result) (n .num2 .result) (n .before .num .ensures .0) (n .num2 .ensures .0)
+    (o .before .if3 .left) (o .outer-by .result) (o .outer-by .ensures) (c .plain4 .ensures) (omega arith)
 
 open-group-requires : tie.Need-open-group-requires
 open-group-requires c κs =
@@ -96,7 +98,8 @@ by-walk-requires c κs =
       walk-deciding (s .pre .0) _ _ (s .args .marks .now) (r .result .found) (r .result .deciding) (r .result .opened) _ (r .ensures),
       omega (
         arith,
-        walk-opened (s .pre .0) _ (s .args .x) (s .args .marks .now) (r .result .found) (r .result .deciding) (r .result .opened) _ (r .ensures) (s .pre .1 .0) refl (s .pre .1 .1 .0),
+        walk-opened (s .pre .0) _ (s .args .x) (s .args .marks .now) (r .result .found) (r .result .deciding) (r .result .opened) _ (r .ensures)
+            (s .pre .1 .0) refl (s .pre .1 .1 .0),
         s .pre .1 .1 .1,
       ),
     )
@@ -111,8 +114,9 @@ returns-5 c =
     let n = o .before .before in
     let i = n .before .before .before in
     let s = entry (i .before .before) in
-    rule-5-6 (s .pre .0) (s .args .x) (s .args .marks .now) (c .by-walk .result) (i .before .if1 .left) (i .inner-by .result) (i .inner-by .ensures) (n .before .before .if2 .left) (s .pre .1 .0)
-    (n .before .num .result) (n .num2 .result) (n .before .num .ensures .0) (n .num2 .ensures .0) (o .before .if3 .left) (o .outer-by .result) (o .outer-by .ensures) (omega (arith, a .before .before .if4 .left))
+    rule-5-6 (s .pre .0) (s .args .x) (s .args .marks .now) (c .by-walk .result) (i .before .if1 .left) (i .inner-by .result) (i .inner-by .ensures)
+    (n .before .before .if2 .left) (s .pre .1 .0) (n .before .num .result) (n .num2 .result) (n .before .num .ensures .0) (n .num2 .ensures .0)
+    (o .before .if3 .left) (o .outer-by .result) (o .outer-by .ensures) (omega (arith, a .before .before .if4 .left))
     _ _ _ _ (a .open-group .ensures) (c .by-walk .ensures)
 
 pub decide-spec : {M : Type 1} → statement M

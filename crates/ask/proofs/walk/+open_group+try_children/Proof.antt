@@ -5,13 +5,13 @@ use mathlib.Core.Path.{refl, _∙_}
 use native.Mathlib.Omega.{arith}
 use lib.ListN.{length, length-set}
 use borrow.Author.Tests.{not-true, not-false}
-use Rattle.lineage.specs.Numbers.{numAt}
 use Rattle.numbers.proofs.Numbers.{room}
 use Rattle.ask.specs.Fit.{all, netIn}
 use Rattle.ask.proofs.Rows.{end-low, row-below}
 use Rattle.ask.proofs.Trying.{Tried, tried-none}
 use Rattle.ask.proofs.Nets.{open-done, open-count}
-use Rattle.ask.proofs.Turns.{turns-over, turns-within, turn-within, turn-room, turn-step, turn-low, turn-level, turn-hit, turn-over, turn-free, turn-count, turn-found, turn-next}
+use Rattle.ask.proofs.Turns.{turns-over, turns-within, child-room, child-low, Turn, turn-within, turn-step, turn-low, turn-named, turn-level, turn-hit, turn-over}
+use Rattle.ask.proofs.Turns.{turn-free, turn-count, turn-found, turn-next}
 use borrow.Fn.Kinds.{In}
 use borrow.Fn.PlainCycle.{Measures, is, falls, and}
 use Rattle.ask.proofs.walk.open_group.Reads as open-group
@@ -116,110 +116,109 @@ module _ (u : ℕ) where
   abbrev lent : try-children-lts.At-loop (try-calls u) (try-children-at u) try-children.Post Inv-loop μ-loop → try-children-lts.Start (try-calls u) (try-children-at u) try-children.Post Inv-loop μ-loop
   lent c = c .before .before .before .before .before .before .before .before
 
+  -- a child's turn, once the inner test of it is made
+  turn :
+      (c : try-children-lts.After-inner-by (try-calls u) (try-children-at u) try-children.Post Inv-loop μ-loop)
+      → let l = c .before .before .before in
+      let s = (lent l) .args in
+      Turn (s .w) (s .k) (s .d) (s .t) (s .groups .now) (s .levels .now) (s .starts .now) (s .children .now) (s .labels .now) (length (s .marks .now)) (s .lev) (s .row .now)
+      (s .marks .now) (l .loop .marks) (l .loop .i) (l .loop .opened) (c .before .num .result) (c .inner-by .result)
+  turn c =
+      let l = c .before .before .before in
+      record {
+        fit = lent l .pre .1 .0;
+        below = lent l .pre .1 .1;
+        tried = l .loop .inv;
+        long = refl;
+        within = c .before .before .loop-test .taken;
+        child = c .before .num .ensures .0;
+        first = c .inner-by .ensures;
+      }
+
   try-loop-holds : try-children-lts.Need-loop-holds (try-calls u) (try-children-at u) try-children.Post Inv-loop μ-loop
   try-loop-holds c = tried-none _ _ _ _
 
   try-mul-loop : try-children-lts.Need-mul-loop (try-calls u) (try-children-at u) try-children.Post Inv-loop μ-loop
-  try-mul-loop c = let s = lent c in omega (arith, turns-within (s .pre .1 .0) (s .pre .1 .1) (c .loop .inv), s .good .1 .1 .1 .1 .1 .1 .1 .1 .1 .0 .0)
+  try-mul-loop c =
+      let s = lent c in
+      omega (arith, turns-within (s .pre .1 .0) (s .pre .1 .1) (c .loop .inv), s .good .1 .1 .1 .1 .1 .1 .1 .1 .1 .0 .0)
 
   try-num-requires : try-children-lts.Need-num-requires (try-calls u) (try-children-at u) try-children.Post Inv-loop μ-loop
-  try-num-requires c κs = let s = lent (c .before) in (s .pre .1 .0 .labelled .width, turn-room (s .pre .1 .0) (s .pre .1 .1) (c .before .loop .inv) (c .loop-test .taken))
+  try-num-requires c κs =
+      let s = lent (c .before) in
+      (s .pre .1 .0 .labelled .width, child-room (s .pre .1 .0) (s .pre .1 .1) (c .before .loop .inv) (c .loop-test .taken))
 
   try-inner-by-requires : try-children-lts.Need-inner-by-requires (try-calls u) (try-children-at u) try-children.Post Inv-loop μ-loop
   try-inner-by-requires c κs =
       let s = lent (c .before .before) in
-      let low = turn-low (s .pre .1 .0) (s .pre .1 .1) (c .before .before .loop .inv) (c .before .loop-test .taken) (c .num .ensures .0) in
+      let low = child-low (s .pre .1 .0) (s .pre .1 .1) (c .before .before .loop .inv) (c .before .loop-test .taken) (c .num .ensures .0) in
       (s .pre .1 .0 .labelled, (low, s .pre .1 .0 .target-low))
 
   try-same-length : try-children-lts.Need-same-length (try-calls u) (try-children-at u) try-children.Post Inv-loop μ-loop
   try-same-length c = c .before .before .before .before .loop .inv .long
 
   try-returns : try-children-lts.Need-returns (try-calls u) (try-children-at u) try-children.Post Inv-loop μ-loop
-  try-returns c =
-      let b = c .before in
-      let s = lent (b .before .before .before) in
-      turn-hit (s .pre .1 .0) (s .pre .1 .1) (b .before .before .before .loop .inv) (b .before .before .loop-test .taken) (b .before .num .ensures .0) (b .inner-by .ensures) (c .if1 .taken)
+  try-returns c = turn-hit (turn (c .before)) (c .if1 .taken)
 
   try-add-i : try-children-lts.Need-add-i (try-calls u) (try-children-at u) try-children.Post Inv-loop μ-loop
   try-add-i c =
-      let b = c .before in
-      let s = lent (b .before .before .before) in
-      omega (arith, turn-step (s .pre .1 .0) (s .pre .1 .1) (b .before .before .before .loop .inv) (b .before .before .loop-test .taken), s .good .1 .1 .1 .1 .1 .1 .1 .1 .1 .0 .0)
+      omega (arith, turn-step (turn (c .before)), lent (c .before .before .before .before) .good .1 .1 .1 .1 .1 .1 .1 .1 .1 .0 .0)
 
   try-passed-over-requires : try-children-lts.Need-passed-over-requires (try-calls u) (try-children-at u) try-children.Post Inv-loop μ-loop
   try-passed-over-requires c κs =
-      let b = c .before .before in
-      let s = lent (b .before .before .before) in
-      let F = s .pre .1 .0 in
-      let low = turn-low (s .pre .1 .0) (s .pre .1 .1) (b .before .before .before .loop .inv) (b .before .before .loop-test .taken) (b .before .num .ensures .0) in
-      let named : numAt (s .args .w) (s .args .groups .now) (b .before .num .result) < length (b .before .before .before .loop .marks) =
-      omega (arith, F .name-low (b .before .num .result) low, b .before .before .before .loop .inv .long) in
-      (F .labelled, ((F .groups-long, F .levels-long), (low, (F .target-low, named))))
+      let C = turn (c .before .before) in
+      (C .fit .labelled, ((C .fit .groups-long, C .fit .levels-long), (turn-low C, (C .fit .target-low, turn-named C))))
 
   try-sub-open-group : try-children-lts.Need-sub-open-group (try-calls u) (try-children-at u) try-children.Post Inv-loop μ-loop
-  try-sub-open-group c =
-      let b = c .before .before .before .before .before in
-      let s = lent (b .before .before .before) in
-      omega (arith, turn-level (s .pre .1 .0) (s .pre .1 .1) (b .before .before .before .loop .inv) (b .before .before .loop-test .taken) (b .before .num .ensures .0))
+  try-sub-open-group c = omega (arith, turn-level (turn (c .before .before .before .before .before)))
 
   try-open-group-requires : try-children-lts.Need-open-group-requires (try-calls u) (try-children-at u) try-children.Post Inv-loop μ-loop
   try-open-group-requires c κs =
       let b = c .before .before .before .before .before in
-      let s = lent (b .before .before .before) in
-      let level = turn-level (s .pre .1 .0) (s .pre .1 .1) (b .before .before .before .loop .inv) (b .before .before .loop-test .taken) (b .before .num .ensures .0) in
-      let free = turn-free (s .pre .1 .0) (s .pre .1 .1) (b .before .before .before .loop .inv) (b .before .before .loop-test .taken) (b .before .num .ensures .0) (b .inner-by .ensures) (c .before .before .before .before .if1 .left) (c .before .before .passed-over .ensures) (not-true _ (c .before .if2 .taken)) in
-      (omega (arith, s .pre .0, level), (rw (b .before .before .before .loop .inv .long) (s .pre .1 .0), (turn-low (s .pre .1 .0) (s .pre .1 .1) (b .before .before .before .loop .inv) (b .before .before .loop-test .taken) (b .before .num .ensures .0), (omega (arith, level), free))))
+      let C = turn b in
+      let free = turn-free C (c .before .before .before .before .if1 .left) (c .before .before .passed-over .ensures) (not-true _ (c .before .if2 .taken)) in
+      let falls = lent (b .before .before .before) .pre .0 in
+      (omega (arith, falls, turn-level C), (rw (C .tried .long) (C .fit), (turn-low C, (omega (arith, turn-level C), free))))
 
   try-add-opened : try-children-lts.Need-add-opened (try-calls u) (try-children-at u) try-children.Post Inv-loop μ-loop
   try-add-opened c =
       let o = c .before .before .before in
-      let b = o .before .before .before .before .before .before in
-      let s = lent (b .before .before .before) in
-      let fits = turn-count (s .pre .1 .0) (s .pre .1 .1) (b .before .before .before .loop .inv) (b .before .before .loop-test .taken) (b .before .num .ensures .0) (b .inner-by .ensures)
-      (o .before .before .before .before .before .if1 .left) (o .before .before .before .passed-over .ensures) (not-true _ (o .before .before .if2 .taken)) refl (o .open-group .ensures) in
-      omega (arith, fits, s .good .1 .1 .1 .1 .1 .1 .1 .1 .1 .1 .0 .0)
+      let C = turn (o .before .before .before .before .before .before) in
+      let fits = turn-count C (o .before .before .before .before .before .if1 .left) (o .before .before .before .passed-over .ensures) (not-true _ (o .before .before .if2 .taken))
+      (o .open-group .ensures) in
+      omega (arith, fits, lent (o .before .before .before .before .before .before .before .before .before) .good .1 .1 .1 .1 .1 .1 .1 .1 .1 .1 .0 .0)
 
   try-same-length-2 : try-children-lts.Need-same-length-2 (try-calls u) (try-children-at u) try-children.Post Inv-loop μ-loop
   try-same-length-2 c =
       let o = c .before .before .before .before in
-      let b = o .before .before .before .before .before .before in
-      let s = lent (b .before .before .before) in
-      o .open-group .kept .1 .1 .1 .1 .1 .1 .1 .1 .1 .0 ∙ b .before .before .before .loop .inv .long
+      let C = turn (o .before .before .before .before .before .before) in
+      o .open-group .kept .1 .1 .1 .1 .1 .1 .1 .1 .1 .0 ∙ C .tried .long
 
   try-returns-2 : try-children-lts.Need-returns-2 (try-calls u) (try-children-at u) try-children.Post Inv-loop μ-loop
   try-returns-2 c =
       let o = c .before .before .before .before in
-      let b = o .before .before .before .before .before .before in
-      let s = lent (b .before .before .before) in
-      turn-found (s .pre .1 .0) (s .pre .1 .1) (b .before .before .before .loop .inv) (b .before .before .loop-test .taken) (b .before .num .ensures .0) (b .inner-by .ensures)
-      (o .before .before .before .before .before .if1 .left) (o .before .before .before .passed-over .ensures) (not-true _ (o .before .before .if2 .taken)) refl (o .open-group .ensures) (c .if3 .taken)
+      let C = turn (o .before .before .before .before .before .before) in
+      turn-found C (o .before .before .before .before .before .if1 .left) (o .before .before .before .passed-over .ensures) (not-true _ (o .before .before .if2 .taken))
+      (o .open-group .ensures) (c .if3 .taken)
 
   try-loop-less : try-children-lts.Need-loop-less (try-calls u) (try-children-at u) try-children.Post Inv-loop μ-loop
   try-loop-less c =
       let o = c .before .before .before .before in
-      let b = o .before .before .before .before .before .before in
-      let s = lent (b .before .before .before) in
-      omega (arith, turn-within (s .pre .1 .0) (s .pre .1 .1) (b .before .before .before .loop .inv) (b .before .before .loop-test .taken))
+      let C = turn (o .before .before .before .before .before .before) in
+      omega (arith, turn-within C)
 
   try-loop-again : try-children-lts.Need-loop-again (try-calls u) (try-children-at u) try-children.Post Inv-loop μ-loop
   try-loop-again c =
       let o = c .before .before .before .before in
-      let b = o .before .before .before .before .before .before in
-      let s = lent (b .before .before .before) in
-      turn-next (s .pre .1 .0) (s .pre .1 .1) (b .before .before .before .loop .inv) (b .before .before .loop-test .taken) (b .before .num .ensures .0) (b .inner-by .ensures)
-      (o .before .before .before .before .before .if1 .left) (o .before .before .before .passed-over .ensures) (not-true _ (o .before .before .if2 .taken)) refl (o .open-group .ensures) (c .if3 .left)
+      let C = turn (o .before .before .before .before .before .before) in
+      turn-next C (o .before .before .before .before .before .if1 .left) (o .before .before .before .passed-over .ensures) (not-true _ (o .before .before .if2 .taken))
+      (o .open-group .ensures) (c .if3 .left)
 
   try-loop-less-2 : try-children-lts.Need-loop-less-2 (try-calls u) (try-children-at u) try-children.Post Inv-loop μ-loop
-  try-loop-less-2 c =
-      let b = c .before .before .before .before in
-      let s = lent (b .before .before .before) in
-      omega (arith, turn-within (s .pre .1 .0) (s .pre .1 .1) (b .before .before .before .loop .inv) (b .before .before .loop-test .taken))
+  try-loop-less-2 c = omega (arith, turn-within (turn (c .before .before .before .before)))
 
   try-loop-again-2 : try-children-lts.Need-loop-again-2 (try-calls u) (try-children-at u) try-children.Post Inv-loop μ-loop
-  try-loop-again-2 c =
-      let b = c .before .before .before .before in
-      let s = lent (b .before .before .before) in
-      turn-over (s .pre .1 .0) (s .pre .1 .1) (b .before .before .before .loop .inv) (b .before .before .loop-test .taken) (b .before .num .ensures .0) (b .inner-by .ensures) (c .before .before .before .if1 .left) (c .before .passed-over .ensures) (not-false _ (c .if2 .left))
+  try-loop-again-2 c = turn-over (turn (c .before .before .before .before)) (c .before .before .before .if1 .left) (c .before .passed-over .ensures) (not-false _ (c .if2 .left))
 
   try-same-length-3 : try-children-lts.Need-same-length-3 (try-calls u) (try-children-at u) try-children.Post Inv-loop μ-loop
   try-same-length-3 c = c .before .loop .inv .long
