@@ -17,6 +17,7 @@ use Rattle.stored.specs.declared.header.Layout.{Layout}
 use Rattle.stored.specs.Header.{headerChecks, layoutIn, Laid}
 use Rattle.stored.proofs.Checks.{refused-first, passed-first, refused-applies, passed-applies}
 use Rattle.stored.proofs.Laid.{header-laid}
+use Rattle.open.proofs.Contents.{n-is}
 use Rattle.list.specs.declared.Listed.{Listed}
 use Rattle.list.specs.declared.Listed.the-variants.{Count, Refused}
 use Rattle.list.specs.Listed.{listedOf, Allowed, Passes}
@@ -90,7 +91,7 @@ module _ (b : List ℕ) (u : ℕ) (marks out : List ℕ) where
     L = header-laid b l (H .header)
 
     size : l .n ≡ n
-    size = ap (λ (z : Layout). z .n) (L .is)
+    size = n-is L
 
     wide : l .width ≡ formOf (headerAt b 0) .width
     wide = ap (λ (z : Layout). z .width) (L .is)
