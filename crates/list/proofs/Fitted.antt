@@ -78,16 +78,16 @@ module _
 
     -- the index that the bytes hold is sound, and has a labelling
     pub index-sound : Sound (indexIn b)
-    index-sound = rw (index-is) sound-index
+    index-sound = rw index-is sound-index
 
     pub labels-some : 0 < length (indexIn b .labels)
     unfolding indexFrom
-    labels-some = rw (index-is) (omega (arith, labels-long w labels k d, O .laid .least))
+    labels-some = rw index-is (omega (arith, labels-long w labels k d, O .laid .least))
 
     -- its names are those of the section
     pub names-are : numbers w names n ≡ indexIn b .names
     unfolding indexFrom
-    names-are = rw (index-is) refl
+    names-are = rw index-is refl
 
     pub names-count : length (indexIn b .names) ≡ n
     names-count = ap length (sym names-are) ∙ numbers-long w names n
@@ -174,7 +174,7 @@ module _
           ∙ sym (e-at w (triplesOf w labels k 0) (placesOf w labels k 0) k p low)
           ∙ ap (λ (z : Labelling). getD (z .e) p 0) (sym first-is)
           ∙ ap (λ (x : ℕ). getD (firstLabels (labelsIn w labels k d) .e) x 0) placed
-          ∙ ap (λ (J : Index). rankIn J u) (sym (index-is))
+          ∙ ap (λ (J : Index). rankIn J u) (sym index-is)
 
     -- the names are fit for the list
     pub names-fit : (marks : ℕ) → n ≤ marks → Names w n names marks
@@ -191,7 +191,7 @@ module _
 
       pub rank-low : rankIn (indexIn b) u ≤ k
       unfolding rankIn indexFrom
-      rank-low = rw (index-is) (omega (arith, children-long w starts children k c, e-most first-labelled (placeIn I u) (place-low sound-groups u vertex)))
+      rank-low = rw index-is (omega (arith, children-long w starts children k c, e-most first-labelled (placeIn I u) (place-low sound-groups u vertex)))
 
       -- its name was read
       module _ {name : ℕ} (named : name ≡ numAt w names u) where

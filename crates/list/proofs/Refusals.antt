@@ -21,7 +21,7 @@ use Rattle.open.proofs.Contents.{n-is}
 use Rattle.list.specs.declared.Listed.{Listed}
 use Rattle.list.specs.declared.Listed.the-variants.{Count, Refused}
 use Rattle.list.specs.Listed.{listedOf, Allowed, Passes}
-use Rattle.list.proofs.Downstream.{clear-long, clear-twice}
+use Rattle.list.proofs.Clearing.{clear-long, clear-twice}
 
 -- 13, 14, 15 and 16
 abbrev late : Bool → Bool → Bool → Bool → ℕ → ℕ → List Check
