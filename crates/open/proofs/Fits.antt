@@ -5,25 +5,26 @@ use mathlib.Core.List.{List, [], _∷_}
 use Prim.Native.Nat.{ℕ, _^_, _≤_, _<_}
 use native.Mathlib.Omega.{arith}
 use lib.Dec.{leb}
-use lib.ListN.{length}
-use borrow.Author.Tests.{leb-true}
-use Rattle.lineage.specs.Lists.{joined, Every}
-use Rattle.lineage.specs.Graph.{Graph, Ends, levelsOf, condense}
-use Rattle.lineage.specs.Labels.{Order, Labelling}
+use lib.ListN.{length, length-map}
+use borrow.Author.Tests.{leb-true, le-leb}
+use Rattle.lineage.specs.Lists.{Every}
+use Rattle.lineage.specs.Graph.{Graph, Ends, namesOf, condense, levelsOf}
+use Rattle.lineage.specs.Labels.{Order, Labelling, labelling}
 use Rattle.lineage.specs.Index.{Index, indexBy, indexOf}
-use Rattle.lineage.specs.Stored.{Form, form1, Counts, countsOf, countsFit, encode, headerAt, countsIn, formOf, section, decode}
+use Rattle.lineage.specs.Stored.{Form, form1, Counts, countsOf, countsFit, encode, headerAt, countsIn, formOf, section}
 use Rattle.lineage.specs.Sound.{startsPass, sound, contentsSound}
 use Rattle.lineage.specs.Calls.{answered, openAnswer}
 use Rattle.laws.specs.Sound.{SoundLabelling, Sound}
+use Rattle.laws.proofs.Tests.{and-both}
+use Rattle.laws.proofs.Names.{names-long}
 use Rattle.laws.proofs.Sound.{made-sound}
-use Rattle.laws.proofs.Decides.{sound-decides}
-use Rattle.stored.specs.Header.{layoutIn, Laid}
 use Rattle.stored.specs.Fits.{Full, Fits}
 use Rattle.stored.proofs.Tests.{both}
 use Rattle.stored.proofs.Encoded.{header-read, counts-read, decode-encode, encode-passes, encode-laid}
 use Rattle.open.proofs.Checks.{header-passed, opened}
 use Rattle.open.proofs.Starts.{starts-pass, starts-read}
-use Rattle.open.proofs.Small.{sections-small}
+use Rattle.open.proofs.Small.{groups-few, sections-small}
+use Rattle.open.proofs.Entries.{entries-few}
 
 -- a form of the table, whose width holds its bounds
 pub record Wide (F : Form) : Type 0 where
@@ -34,7 +35,25 @@ pub record Wide (F : Form) : Type 0 where
 pub form1-wide : Wide form1
 form1-wide = record { known = refl; vertices = omega arith; entries = omega arith }
 
-full : (children : List (List ℕ)) (k : ℕ) → length children ≡ k → (ls : List Labelling) → Every (SoundLabelling children) ls → Every (Full k) ls
+-- accepted input keeps the bounds: there are no more groups than vertices, and no more child entries than edges
+pub bounds-kept : (F : Form) (G : Graph) → Ends G → (orders : List (List ℕ)) → Every (Order (G .n)) orders
+    → G .n ≤ F .vertices
+    → length (G .sources) ≤ F .entries
+    → 1 ≤ length orders
+    → length orders ≤ 5
+    → countsFit F (countsOf (indexOf G orders)) ≡ true
+unfolding indexOf indexBy condense
+bounds-kept F G ends orders permuted vertices edges least most =
+    let a : Counts = countsOf (indexOf G orders) in
+    let n : a .n ≡ G .n = names-long G ends in
+    let d : a .d ≡ length orders = length-map orders (labelling (indexOf G orders .groups) (indexOf G orders .children)) in
+    and-both (le-leb (a .n) (F .vertices) (omega arith))
+    (and-both (le-leb (a .k) (a .n) (groups-few (made-sound G ends orders permuted)))
+    (and-both (le-leb (a .c) (F .entries) (omega (arith, entries-few G (namesOf G))))
+    (and-both (le-leb 1 (a .d) (omega arith)) (le-leb (a .d) 5 (omega arith)))))
+
+-- each labelling has its k entries
+pub full : (children : List (List ℕ)) (k : ℕ) → length children ≡ k → (ls : List Labelling) → Every (SoundLabelling children) ls → Every (Full k) ls
 full children k e [] h = tt
 full children k e (l ∷ ls) h =
     (record { s = h .0 .s-long ∙ e; m = h .0 .m-long ∙ e; e = h .0 .e-long ∙ e; byRank = h .0 .at-long ∙ e }, full children k e ls (h .1))

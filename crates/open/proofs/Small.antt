@@ -1,13 +1,13 @@
 -- The numbers of an index that some edge list and orders yield are small: vertices and names below n, places, levels and ranks at most k, starts at most c. So a
 -- form's width holds them.
-use mathlib.Core.Bool.{Bool, true}
-use mathlib.Core.Path.{_≡_, refl, sym, ap, _∙_, subst}
-use mathlib.Core.List.{List, [], _∷_, _++_, map}
-use Prim.Native.Nat.{ℕ, zero, suc, _≤_, _<_, max}
+use mathlib.Core.Bool.{true}
+use mathlib.Core.Path.{_≡_, subst}
+use mathlib.Core.List.{List, [], _∷_, map}
+use Prim.Native.Nat.{ℕ, zero, suc, _≤_, _<_}
 use native.Mathlib.Omega.{arith}
 use lib.Dec.{eqb}
 use lib.ListN.{length, getD}
-use Rattle.lineage.specs.Lists.{upto, among, those, position, greatest, least, joined, Every}
+use Rattle.lineage.specs.Lists.{upto, among, position, greatest, joined, Every}
 use Rattle.lineage.specs.Graph.{groupList, level, levelsOf}
 use Rattle.lineage.specs.Labels.{Labelling}
 use Rattle.lineage.specs.Index.{Index}
@@ -16,7 +16,6 @@ use Rattle.laws.specs.Sound.{SoundLabelling, SoundGroups, Sound}
 use Rattle.laws.proofs.Lists.{in-getD, those-pass, upto-low, length-upto, position-low, at-position, least-below}
 use Rattle.laws.proofs.Rising.{those-short}
 use Rattle.laws.proofs.Inverse.{e-most}
-use Rattle.numbers.proofs.Tables.{table-long, table-at}
 use Rattle.stored.proofs.Starts.{starts-long, starts-rise, starts-low}
 use Rattle.sound_labels.proofs.Nobody.{joined-all}
 use Rattle.open.proofs.Every.{every-getD, every-append, every-joined, every-table}
@@ -49,7 +48,7 @@ module _ {children : List (List ℕ)} {l : Labelling} (L : SoundLabelling childr
       (every-getD (λ x. x < N) 0 (l .byRank) (λ r h. omega (arith, L .at-low r (omega (arith, L .at-long)))))
 
 -- the whole index
-module _ {I : Index} (S : Sound I) (levels-are : I .levels ≡ levelsOf (I .children)) where
+module _ {I : Index} (S : Sound I) where
   G : SoundGroups (I .names) (I .groups) (I .levels) (I .children)
   G = S .condensed
 
@@ -59,10 +58,10 @@ module _ {I : Index} (S : Sound I) (levels-are : I .levels ≡ levelsOf (I .chil
       rw (G .groups-are)
       (omega (arith, those-short (λ v. eqb (getD (I .names) v 0) v) (upto (length (I .names))), length-upto (length (I .names))))
 
-  pub places-few : length (I .children) ≤ length (I .names)
+  places-few : length (I .children) ≤ length (I .names)
   places-few = omega (arith, groups-few, G .children-long)
 
-  module _ (N : ℕ) (few : length (I .names) < N) (few-entries : length (joined (I .children)) < N) where
+  module _ (levels-are : I .levels ≡ levelsOf (I .children)) (N : ℕ) (few : length (I .names) < N) (few-entries : length (joined (I .children)) < N) where
     abbrev Low : List ℕ → Type 0
     Low xs = Every (λ x. x < N) xs
 

@@ -1,1 +1,157 @@
--- the theorem
+-- Opening decides exactly what it should: bytes open where some edge list, of any length, and some orders yield exactly these bytes. What opens passes the local
+-- tests, so some graph and orders make the index that it holds, and that index, written, is the bytes again. What a graph and orders yield fits the form, and its
+-- bytes are read again as the index, which passes the tests.
+use mathlib.Core.Bool.{true}
+use mathlib.Core.Logic.{_↔_}
+use mathlib.Core.Path.{_≡_, refl, sym, ap, ap₂, subst, _∙_}
+use mathlib.Core.List.{List}
+use Prim.Native.Nat.{ℕ, _^_, _≤_, _<_}
+use native.Mathlib.Omega.{arith}
+use lib.ListN.{length, length-map}
+use Rattle.lineage.specs.Lists.{joined, Every}
+use Rattle.lineage.specs.Graph.{Graph, Ends}
+use Rattle.lineage.specs.Labels.{Order, labelling}
+use Rattle.lineage.specs.Index.{Index, indexBy, indexOf, Made}
+use Rattle.lineage.specs.Stored.{Form, form1, Counts, countsOf, countsFit, encode, headerAt, countsIn, formOf, stretch, section, labellingAt, decode}
+use Rattle.lineage.specs.Sound.{startsPass, sound, contentsSound}
+use Rattle.lineage.specs.Calls.{answered, openAnswer, indexIn}
+use Rattle.laws.proofs.Sound.{made-sound, sound-is-made, made-long}
+use Rattle.laws.proofs.Decides.{sound-decides}
+use Rattle.numbers.proofs.Numbers.{numbers-long}
+use Rattle.numbers.proofs.Tables.{table-long}
+use Rattle.numbers.proofs.Written.{Bytes}
+use Rattle.stored.specs.Header.{layoutIn}
+use Rattle.stored.specs.Fits.{Fits}
+use Rattle.stored.proofs.Tests.{both}
+use Rattle.stored.proofs.Starts.{starts-rise, rows-joined}
+use Rattle.stored.proofs.Laid.{header-laid}
+use Rattle.stored.proofs.Encoded.{counts-read}
+use Rattle.stored.proofs.Decoded.{encode-decode}
+use Rattle.open.specs.Yields.{Yields, HeaderRight}
+use Rattle.open.proofs.Checks.{form-is, opened-right, opened-contents, right-passes}
+use Rattle.open.specs.declared.Opened.{Opened}
+use Rattle.open.specs.declared.Opened.the-variants.{Index as IndexOf, Refused}
+use Rattle.open.specs.Opened.{openedOf}
+use Rattle.open.proofs.Bounds.{counts-again, laid-short}
+use Rattle.open.proofs.Fits.{form1-wide, bounds-kept, yielded-fits, fits-opens}
+
+-- the counts of the index that bytes hold are the header's, where the child starts pass
+counts-are : (w : ℕ) (b : List ℕ) → startsPass (section w (countsIn b) b 3) (countsIn b .k) (countsIn b .c) ≡ true → countsOf (decode w b) ≡ countsIn b
+unfolding decode section
+counts-are w b t =
+    let a : Counts = countsIn b in
+    let c : length (joined (decode w b .children)) ≡ a .c =
+    ap length (rows-joined (starts-rise (section w a b 3) (a .k) (a .c) t) (section w a b 4) (numbers-long w (stretch w a b 4) (a .c)))
+    ∙ numbers-long w (stretch w a b 4) (a .c) in
+    let d : length (decode w b .labels) ≡ a .d = table-long (labellingAt (a .k) (section w a b 5)) (a .d) in
+    rw (numbers-long w (stretch w a b 0) (a .n), numbers-long w (stretch w a b 1) (a .k), c, d)
+
+-- What opens.
+module _ (b : List ℕ) (marks : ℕ) {a : Counts} (e : answered a ≡ openAnswer b marks) where
+  abbrev F : Form
+  F = formOf (headerAt b 0)
+
+  tests : (startsPass (section (F .width) (countsIn b) b 3) (countsIn b .k) (countsIn b .c) ≡ true) × (sound (indexIn b) ≡ true)
+  unfolding contentsSound
+  tests = both _ _ (opened-contents b marks e)
+
+  -- it holds the names, group list, levels, children and labels of some graph under some orders
+  pub opened-made : Made (indexIn b)
+  opened-made = sound-is-made (indexIn b) .0 (tests .1)
+
+  opened-counts : countsOf (indexOf (opened-made .graph) (opened-made .orders)) ≡ countsIn b
+  opened-counts = ap countsOf (opened-made .yields) ∙ counts-are (F .width) b (tests .0)
+
+  opened-yields : Bytes b → Yields form1 b
+  opened-yields small =
+      let M : Made (indexIn b) = opened-made in
+      let laid = header-laid b (layoutIn b) (right-passes b (opened-right b marks e)) in
+      record {
+        graph = M .graph;
+        ends = M .ends;
+        orders = M .orders;
+        permuted = M .permuted;
+        bytes = ap₂ encode (sym (form-is (headerAt b 0))) (M .yields) ∙ encode-decode laid small (tests .0);
+      }
+
+-- What is yielded.
+module _ {b : List ℕ} (Y : Yields form1 b) where
+  abbrev I : Index
+  I = indexOf (Y .graph) (Y .orders)
+
+  passes : sound I ≡ true
+  passes = sound-decides I .1 (made-sound (Y .graph) (Y .ends) (Y .orders) (Y .permuted))
+
+  -- as many labellings as orders
+  labellings : length (I .labels) ≡ length (Y .orders)
+  unfolding indexOf indexBy
+  labellings = length-map (Y .orders) (labelling (I .groups) (I .children))
+
+  yields-open : countsFit form1 (countsOf I) ≡ true → (marks : ℕ) → countsIn b .n ≤ marks → answered (countsIn b) ≡ openAnswer b marks
+  yields-open bounds marks room =
+      let E : Fits form1 I = yielded-fits form1-wide (Y .graph) (Y .ends) (Y .orders) (Y .permuted) bounds in
+      let n : countsIn b .n ≡ length (I .names) = ap (λ (z : List ℕ). countsIn z .n) (sym (Y .bytes)) ∙ ap (λ (z : Counts). z .n) (counts-read E) in
+      ap (λ (z : List ℕ). answered (countsIn z)) (sym (Y .bytes))
+      ∙ ap answered (counts-read E)
+      ∙ fits-opens E passes marks (omega arith)
+      ∙ ap (λ (z : List ℕ). openAnswer z marks) (Y .bytes)
+
+  -- the header's counts are the index's
+  counts-right : HeaderRight b → length (Y .orders) ≡ countsIn b .d → countsFit form1 (countsOf I) ≡ true
+  counts-right R d =
+      let L = header-laid b (layoutIn b) (right-passes b R) in
+      let short : length (encode form1 I) < 2 ^ 31 = subst (λ (z : List ℕ). length z < 2 ^ 31) (sym (Y .bytes)) (laid-short L) in
+      let counts = counts-again (made-sound (Y .graph) (Y .ends) (Y .orders) (Y .permuted)) short (omega (arith, labellings, L .most)) in
+      ap (countsFit form1) (sym counts ∙ ap countsIn (Y .bytes)) ∙ R .counts
+
+-- bytes open exactly where their header is right for form 1 and some edge list, of any length, and d orders yield exactly these bytes
+pub opens-exactly : (b : List ℕ) (marks : ℕ) → Bytes b → countsIn b .n ≤ marks
+    → (openAnswer b marks ≡ answered (countsIn b)) ↔ (HeaderRight b × ((Y : Yields form1 b) × (length (Y .orders) ≡ countsIn b .d)))
+unfolding opened-yields
+opens-exactly b marks small room = (
+  (λ e.
+      (opened-right b marks (sym e), (opened-yields b marks (sym e) small, sym (labellings (opened-yields b marks (sym e) small)) ∙ ap (λ (a : Counts). a .d) (opened-counts b marks (sym e))))),
+  λ (R, (Y, d)). sym (yields-open Y (counts-right Y R d) marks room),
+)
+
+-- the same by the counts of what is yielded: n, c and d are within form 1's bounds
+pub opens-within : (b : List ℕ) (marks : ℕ) → Bytes b → countsIn b .n ≤ marks
+    → (openAnswer b marks ≡ answered (countsIn b)) ↔ ((Y : Yields form1 b) × (countsFit form1 (countsOf (indexOf (Y .graph) (Y .orders))) ≡ true))
+unfolding opened-yields
+opens-within b marks small room = (
+  (λ e. (opened-yields b marks (sym e) small, ap (countsFit form1) (opened-counts b marks (sym e)) ∙ opened-right b marks (sym e) .counts)),
+  λ (Y, bounds). sym (yields-open Y bounds marks room),
+)
+
+-- and so of the code: whatever answer its contract allows
+pub accepts-exactly : (b : List ℕ) (marks : ℕ) → Bytes b → countsIn b .n ≤ marks → (r : Opened) → openedOf r ≡ openAnswer b marks
+    → (openedOf r ≡ answered (countsIn b)) ↔ (HeaderRight b × ((Y : Yields form1 b) × (length (Y .orders) ≡ countsIn b .d)))
+accepts-exactly b marks small room r e = rw e (opens-exactly b marks small room)
+
+-- what a build of accepted input stores opens
+pub built-opens : (G : Graph) → Ends G → (orders : List (List ℕ)) → Every (Order (G .n)) orders
+    → G .n ≤ 4096
+    → length (G .sources) ≤ 16384
+    → 1 ≤ length orders
+    → length orders ≤ 5
+    → (marks : ℕ)
+    → G .n ≤ marks
+    → openAnswer (encode form1 (indexOf G orders)) marks ≡ answered (countsOf (indexOf G orders))
+built-opens G ends orders permuted vertices edges least most marks room =
+    let bounds = bounds-kept form1 G ends orders permuted vertices edges least most in
+    let passes = sound-decides (indexOf G orders) .1 (made-sound G ends orders permuted) in
+    let n = made-long (record { graph = G; ends = ends; orders = orders; permuted = permuted; yields = refl }) in
+    sym (fits-opens (yielded-fits form1-wide G ends orders permuted bounds) passes marks (omega arith))
+
+-- two answers allowed by open's contract are equal
+pub opened-once : (r r' : Opened) → openedOf r ≡ openedOf r' → r ≡ r'
+opened-once (IndexOf n k c d) (IndexOf n' k' c' d') e =
+    let same : _≡_ {A = Counts} (record { n = n; k = k; c = c; d = d }) (record { n = n'; k = k'; c = c'; d = d' }) = cc in
+    let en : n ≡ n' = ap (λ (a : Counts). a .n) same in
+    let ek : k ≡ k' = ap (λ (a : Counts). a .k) same in
+    let ec : c ≡ c' = ap (λ (a : Counts). a .c) same in
+    let ed : d ≡ d' = ap (λ (a : Counts). a .d) same in
+    cc
+opened-once (IndexOf n k c d) (Refused number extra) e = cc
+opened-once (Refused number extra) (IndexOf n k c d) e = cc
+opened-once (Refused number extra) (Refused number' extra') e = cc
