@@ -9,8 +9,8 @@ use native.Mathlib.Decide.{ℕ-discrete}
 use native.Mathlib.Nat.{not-suc-le-zero}
 use native.Mathlib.Omega.{arith}
 use lib.Dec.{eqb}
-use lib.ListN.{length, getD, drop, replicate, length-append, length-replicate, length-drop, length-set, getD-replicate, List·getD-append}
-use lib.Seq.{getD-set-same, getD-set-other, drop-set-lt, drop-at}
+use lib.ListN.{length, getD, replicate, length-set}
+use lib.Seq.{getD-set-same, getD-set-other, drop-set-lt}
 use borrow.Author.Tests.{eqb-true, eq-eqb}
 use Rattle.lineage.specs.Lists.{upto, among, those, Every, cleared}
 use Rattle.lineage.specs.Graph.{placeOf, leads}
@@ -23,9 +23,10 @@ use Rattle.laws.proofs.Tests.{is-false, clash}
 use Rattle.laws.proofs.Lists.{here, there, those-yes, those-no, upto-low}
 use Rattle.laws.proofs.Grouped.{name-in, group-name, place-low, name-of-place, place-of-name, leads-exactly}
 use Rattle.laws.proofs.Inverse.{e-most}
-use Rattle.list.specs.Sweep.{marked}
+use Rattle.list.specs.Sweep.{marked, Reached}
 use Rattle.list.specs.Listing.{isListed, listed}
 use Rattle.list.specs.Marks.{firstLabels, rankIn, sweptIn, startMarks, reachMarks}
+use Rattle.list.proofs.Clearing.{clear-long, clear-at, clear-past}
 use Rattle.list.proofs.Swept.{swept-long, swept-exactly, swept-past}
 
 -- two tests that hold of the same are one
@@ -46,32 +47,23 @@ pub first-sound : (children : List (List ℕ)) (labels : List Labelling) → Eve
 first-sound children [] all h = absurd (not-suc-le-zero h)
 first-sound children (l ∷ labels) all h = all .0
 
--- lent marks, cleared below n
-module _ (n : ℕ) (marks : List ℕ) (room : n ≤ length marks) where
-  pub clear-long : length (cleared n marks) ≡ length marks
-  unfolding cleared
-  clear-long = omega (arith, length-append (replicate n 0) (drop n marks), length-replicate {A = ℕ} n 0, length-drop n marks)
+-- the sweep over a sound index, by its first labelling: where no group of a rank above `top` is marked, it marks what is reached from a marked group
+module _ {I : Index} (S : Sound I) (some : 0 < length (I .labels)) where
+  first : SoundLabelling (I .children) (firstLabels (I .labels))
+  first = first-sound (I .children) (I .labels) (S .labelled) some
 
-  clear-at : (j : ℕ) → j < n → getD (cleared n marks) j 0 ≡ 0
-  unfolding cleared
-  clear-at j h =
-      List·getD-append (replicate n 0) (drop n marks) 0 j (omega (arith, length-replicate {A = ℕ} n 0)) ∙ getD-replicate n j 0 0 h
+  pub sweep-exactly :
+      (top : ℕ) (marks : List ℕ) → length (I .names) ≤ length marks → top ≤ length (I .children)
+      → ((p : ℕ) → p < length (I .children) → marked (I .groups) marks p ≡ true → getD (firstLabels (I .labels) .e) p 0 ≤ top)
+      → (q : ℕ) → q < length (I .children) → (marked (I .groups) (sweptIn I top marks) q ≡ true) ↔ Reached (I .groups) (I .children) marks q
+  unfolding sweptIn
+  sweep-exactly = swept-exactly (S .condensed) first
 
-  clear-past : drop n (cleared n marks) ≡ drop n marks
-  unfolding cleared
-  clear-past = drop-at (replicate n 0) (drop n marks) n (length-replicate n 0)
-
-  pub clear-twice : cleared n (cleared n marks) ≡ cleared n marks
-  unfolding cleared
-  clear-twice = ap (replicate n 0 ++_) clear-past
-
+-- the sweep from u's group
 module _
     {I : Index} (S : Sound I) (some : 0 < length (I .labels))
     (u : ℕ) (hu : u < length (I .names)) (marks : List ℕ) (room : length (I .names) ≤ length marks)
   where
-    abbrev L : SoundLabelling (I .children) (firstLabels (I .labels))
-    L = first-sound (I .children) (I .labels) (S .labelled) some
-
     abbrev name : ℕ
     name = getD (I .names) u 0
 
@@ -106,14 +98,20 @@ module _
               ))
         ]
 
+    rank-most : rankIn I u ≤ length (I .children)
+    unfolding rankIn
+    rank-most = e-most (first S some) (placeIn I u) place-in
+
+    start-under : (p : ℕ) → p < length (I .children) → marked (I .groups) (startMarks I u marks) p ≡ true → getD (firstLabels (I .labels) .e) p 0 ≤ rankIn I u
+    unfolding rankIn
+    start-under p h m = omega (arith, ap (λ (x : ℕ). getD (firstLabels (I .labels) .e) x 0) (start-only p h m))
+
     -- after it a group is marked exactly where it is below u's group
-    pub reach-exactly :
+    reach-exactly :
         (q : ℕ) → q < length (I .children) → (marked (I .groups) (reachMarks I u marks) q ≡ true) ↔ Down (I .children) (placeIn I u) q
-    unfolding reachMarks sweptIn rankIn
+    unfolding reachMarks
     reach-exactly q h =
-        let (to, from) = swept-exactly (S .condensed) L (getD (firstLabels (I .labels) .e) (placeIn I u) 0) (startMarks I u marks)
-        (omega (arith, start-long)) (e-most L (placeIn I u) place-in)
-        (λ p hp m. omega (arith, ap (λ (x : ℕ). getD (firstLabels (I .labels) .e) x 0) (start-only p hp m))) q h in (
+        let (to, from) = sweep-exactly S some (rankIn I u) (startMarks I u marks) (omega (arith, start-long)) rank-most start-under q h in (
           (λ m. let R = to m in rw (start-only (R .from) (R .low) (R .was)) at (R .path)),
           λ d. from (record { from = placeIn I u; low = place-in; was = start-own; path = d }),
         )
@@ -145,9 +143,9 @@ module _
     reach-long = swept-long (I .groups) (I .children) (firstLabels (I .labels) .byRank) (rankIn I u) (startMarks I u marks) ∙ start-long
 
     pub reach-cleared : cleared (length (I .names)) (reachMarks I u marks) ≡ cleared (length (I .names)) marks
-    unfolding reachMarks sweptIn rankIn startMarks cleared
+    unfolding reachMarks sweptIn startMarks cleared
     reach-cleared =
         ap (replicate (length (I .names)) 0 ++_)
-        (swept-past (S .condensed) L (rankIn I u) (startMarks I u marks) (e-most L (placeIn I u) place-in)
+        (swept-past (S .condensed) (first S some) (rankIn I u) (startMarks I u marks) rank-most
         ∙ drop-set-lt (length (I .names)) (cleared (length (I .names)) marks) name 1 name-low
         ∙ clear-past (length (I .names)) marks room)

@@ -26,11 +26,11 @@ use Rattle.sections.proofs.Sections.{children-long, e-at, labels-long}
 use Rattle.stored.specs.declared.header.Layout.{Layout}
 use Rattle.sound_groups.specs.Fit.{Holds}
 use Rattle.ask.specs.Lent.{indexAt, Lent}
+use Rattle.ask.proofs.Asking.{Six, index-at, lent}
 use Rattle.list.specs.Fit.{Spots, Ranked, Names, SoundBytes}
 use Rattle.list.specs.Sweep.{swept}
 use Rattle.list.specs.Marks.{firstLabels, rankIn, sweptIn, startMarks, reachMarks}
 use Rattle.list.proofs.Downstream.{first-sound}
-use Rattle.list.proofs.Contents.{Sections, index-is, lent}
 
 -- what the test of an index says of its rows
 rows-tested : (I : Index) → sound I ≡ true → allBelow (length (I .children)) (rowPasses (I .children)) ≡ true
@@ -47,7 +47,7 @@ rows-tested I h =
 
 module _
     {b : List ℕ} {l : Layout} {names groups levels starts children labels : List ℕ}
-    (O : SoundBytes b l) (P : Sections b l names groups levels starts children labels)
+    (O : SoundBytes b l) (P : Six b l names groups levels starts children labels)
   where
     abbrev w : ℕ
     w = l .width
@@ -67,24 +67,27 @@ module _
     abbrev I : Index
     I = indexAt l names groups levels starts children labels
 
+    index-is : indexIn b ≡ I
+    index-is = sym (index-at (O .laid) P)
+
     S : Lent l names groups levels starts children labels
-    S = lent O P
+    S = lent (O .laid) P (O .contents)
 
     sound-index : Sound I
     sound-index = sound-decides I .0 (S .index-sound)
 
     -- the index that the bytes hold is sound, and has a labelling
     pub index-sound : Sound (indexIn b)
-    index-sound = rw (index-is O P) sound-index
+    index-sound = rw index-is sound-index
 
     pub labels-some : 0 < length (indexIn b .labels)
     unfolding indexFrom
-    labels-some = rw (index-is O P) (omega (arith, labels-long w labels k d, O .laid .least))
+    labels-some = rw index-is (omega (arith, labels-long w labels k d, O .laid .least))
 
     -- its names are those of the section
     pub names-are : numbers w names n ≡ indexIn b .names
     unfolding indexFrom
-    names-are = rw (index-is O P) refl
+    names-are = rw index-is refl
 
     pub names-count : length (indexIn b .names) ≡ n
     names-count = ap length (sym names-are) ∙ numbers-long w names n
@@ -156,7 +159,7 @@ module _
           (top : ℕ) (before : List ℕ) {after : List ℕ} → after ≡ swept (numbers w groups k) (childrenIn w starts children k c) (numbers w places k) top before
           → after ≡ sweptIn (indexIn b) top before
       unfolding sweptIn indexFrom
-      swept-is top before e = rw (index-is O P, places-are) e
+      swept-is top before e = rw (index-is, places-are) e
 
     module _ (triples : List ℕ) (T : Part labels (w * (0 * (4 * k))) (w * (3 * k)) triples) {p : ℕ} (low : p < k) where
       -- the rank of group p
@@ -171,7 +174,7 @@ module _
           ∙ sym (e-at w (triplesOf w labels k 0) (placesOf w labels k 0) k p low)
           ∙ ap (λ (z : Labelling). getD (z .e) p 0) (sym first-is)
           ∙ ap (λ (x : ℕ). getD (firstLabels (labelsIn w labels k d) .e) x 0) placed
-          ∙ ap (λ (J : Index). rankIn J u) (sym (index-is O P))
+          ∙ ap (λ (J : Index). rankIn J u) (sym index-is)
 
     -- the names are fit for the list
     pub names-fit : (marks : ℕ) → n ≤ marks → Names w n names marks
@@ -188,7 +191,7 @@ module _
 
       pub rank-low : rankIn (indexIn b) u ≤ k
       unfolding rankIn indexFrom
-      rank-low = rw (index-is O P) (omega (arith, children-long w starts children k c, e-most first-labelled (placeIn I u) (place-low sound-groups u vertex)))
+      rank-low = rw index-is (omega (arith, children-long w starts children k c, e-most first-labelled (placeIn I u) (place-low sound-groups u vertex)))
 
       -- its name was read
       module _ {name : ℕ} (named : name ≡ numAt w names u) where
@@ -197,7 +200,7 @@ module _
 
         start-is : (marks : List ℕ) → set (cleared n marks) name 1 ≡ startMarks (indexIn b) u marks
         unfolding startMarks indexFrom
-        start-is marks = rw (index-is O P, numbers-long w names n, named, ← numbers-at w names n u h)
+        start-is marks = rw (index-is, numbers-long w names n, named, ← numbers-at w names n u h)
 
         -- the sweep from its group
         pub reach-is :

@@ -5,20 +5,20 @@ use mathlib.Core.List.{List, _++_}
 use Prim.Native.Nat.{ℕ, _≤_, _<_}
 use native.Mathlib.Omega.{arith}
 use lib.ListN.{length, drop}
-use borrow.Author.Tests.{lt-ltb, le-ltb}
 use Rattle.lineage.specs.Lists.{cleared}
 use Rattle.lineage.specs.Numbers.{numbers}
 use Rattle.lineage.specs.Index.{Index}
 use Rattle.lineage.specs.Question.{inOwnList, downstream}
-use Rattle.lineage.specs.Calls.{refused, answered, indexIn}
+use Rattle.lineage.specs.Calls.{indexIn}
 use Rattle.stored.specs.declared.header.Layout.{Layout}
 use Rattle.stored.specs.Sections.{Section}
+use Rattle.ask.proofs.Asking.{Six}
 use Rattle.list.specs.Fit.{Names, SoundBytes}
 use Rattle.list.specs.Listing.{listed, namesAlone}
 use Rattle.list.specs.Marks.{reachMarks}
 use Rattle.list.specs.declared.Listed.the-variants.{Count, Refused}
 use Rattle.list.specs.Listed.{Allowed, Passes}
-use Rattle.list.proofs.Contents.{Sections, stretchOf, names-only}
+use Rattle.list.proofs.Contents.{stretchOf, names-only}
 use Rattle.list.proofs.Fitted.{index-sound, labels-some, names-are, names-count, names-fit}
 use Rattle.list.proofs.Refusals.{allowed-short, allowed-list}
 use Rattle.list.proofs.Downstream.{listed-downstream, reach-long, reach-cleared}
@@ -32,8 +32,8 @@ module _
     {u : ℕ} (low : u < l .n) (before : List ℕ) (room : l .n ≤ length before)
     {marks : List ℕ} (reached : marks ≡ reachMarks (indexIn b) u before)
   where
-    abbrev P : Sections b l names (stretchOf O 1) (stretchOf O 2) (stretchOf O 3) (stretchOf O 4) (stretchOf O 5)
-    P = names-only O N
+    abbrev P : let L = O .laid in Six b l names (stretchOf L 1) (stretchOf L 2) (stretchOf L 3) (stretchOf L 4) (stretchOf L 5)
+    P = names-only (O .laid) N
 
     vertex : u < length (indexIn b .names)
     vertex = omega (arith, names-count O P)

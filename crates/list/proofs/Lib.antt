@@ -1,12 +1,15 @@
--- The laws that the proofs of this crate cite.
+-- The sweep, and the vertices that it lists.
 pub mod Turn
 pub mod Swept
+pub mod Clearing
 pub mod Downstream
+-- The stored bytes: their sections, their refusals, their list.
 pub mod Contents
 pub mod Fitted
 pub mod Refusals
 pub mod Found
 pub mod Theorems
+-- The loops.
 pub mod Marking
 pub mod Sweeping
 pub mod Writing

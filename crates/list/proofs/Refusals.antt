@@ -1,7 +1,7 @@
 -- The refusals of `list`, in order, each from the tests that led to it; and the list where none applies. The header's three come first; what
 -- follows a header that passes is told by four more.
 use mathlib.Core.Bool.{Bool, true, false, not, cond}
-use mathlib.Core.Path.{_≡_, refl, sym, ap, subst, _∙_}
+use mathlib.Core.Path.{_≡_, refl, sym, ap, _∙_}
 use mathlib.Core.List.{List, [], _∷_, _++_}
 use Prim.Native.Nat.{ℕ, _≤_, _<_}
 use native.Mathlib.Omega.{arith}
@@ -12,15 +12,16 @@ use Rattle.lineage.specs.Lists.{cleared}
 use Rattle.lineage.specs.Stored.{countsIn, headerAt, formOf}
 use Rattle.lineage.specs.Sound.{contentsSound}
 use Rattle.lineage.specs.Question.{downstream}
-use Rattle.lineage.specs.Calls.{Check, check, Outcome, refused, answered, outcome, anyApplies, contentsCheck, indexIn, listAnswer, listMarks, listOutput}
+use Rattle.lineage.specs.Calls.{Check, check, Outcome, refused, answered, outcome, anyApplies, indexIn, listAnswer, listMarks, listOutput}
 use Rattle.stored.specs.declared.header.Layout.{Layout}
 use Rattle.stored.specs.Header.{headerChecks, layoutIn, Laid}
 use Rattle.stored.proofs.Checks.{refused-first, passed-first, refused-applies, passed-applies}
 use Rattle.stored.proofs.Laid.{header-laid}
+use Rattle.open.proofs.Contents.{n-is}
 use Rattle.list.specs.declared.Listed.{Listed}
 use Rattle.list.specs.declared.Listed.the-variants.{Count, Refused}
 use Rattle.list.specs.Listed.{listedOf, Allowed, Passes}
-use Rattle.list.proofs.Downstream.{clear-long, clear-twice}
+use Rattle.list.proofs.Clearing.{clear-long, clear-twice}
 
 -- 13, 14, 15 and 16
 abbrev late : Bool → Bool → Bool → Bool → ℕ → ℕ → List Check
@@ -90,7 +91,7 @@ module _ (b : List ℕ) (u : ℕ) (marks out : List ℕ) where
     L = header-laid b l (H .header)
 
     size : l .n ≡ n
-    size = ap (λ (z : Layout). z .n) (L .is)
+    size = n-is L
 
     wide : l .width ≡ formOf (headerAt b 0) .width
     wide = ap (λ (z : Layout). z .width) (L .is)

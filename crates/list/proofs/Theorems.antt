@@ -1,10 +1,10 @@
 -- What a list of stored bytes says, wherever one is given, and whatever edge list and orders yield the bytes: it holds the vertices to which a path of zero or
 -- more edges leads from the vertex, rising, and nothing behind them is touched. `list` gives this, by its contract; and its contract allows one result.
-use mathlib.Core.Bool.{Bool, true, false, not, _||_}
+use mathlib.Core.Bool.{true, false}
 use mathlib.Core.Logic.{_↔_}
-use mathlib.Core.Path.{_≡_, refl, sym, ap, subst, _∙_}
+use mathlib.Core.Path.{_≡_, refl, sym, ap, _∙_}
 use mathlib.Core.List.{List, [], _∷_, _++_}
-use Prim.Native.Nat.{ℕ, zero, suc, _+_, _≤_, _<_}
+use Prim.Native.Nat.{ℕ, zero, suc, _<_}
 use native.Mathlib.Nat.{not-suc-le-zero}
 use native.Mathlib.Omega.{arith}
 use lib.ListN.{length, getD, take, drop}
@@ -12,11 +12,11 @@ use lib.Seq.{take-at, drop-at}
 use borrow.Author.Tests.{leb-false, not-false}
 use Rattle.lineage.specs.Lists.{among}
 use Rattle.lineage.specs.Graph.{Reaches}
-use Rattle.lineage.specs.Index.{Index, Made}
+use Rattle.lineage.specs.Index.{Made}
 use Rattle.lineage.specs.Stored.{countsIn, headerAt, formOf, stretch, section, decode}
 use Rattle.lineage.specs.Sound.{startsPass, sound, contentsSound}
 use Rattle.lineage.specs.Question.{downstream}
-use Rattle.lineage.specs.Calls.{Check, check, answered, outcome, anyApplies, indexIn, listEarly, listLate, listAnswer, listOutput}
+use Rattle.lineage.specs.Calls.{Check, check, answered, anyApplies, indexIn, listEarly, listLate, listAnswer, listOutput}
 use Rattle.laws.specs.Sound.{Sound}
 use Rattle.laws.proofs.Tests.{or-false-left, or-false-right, and-right}
 use Rattle.laws.proofs.Rising.{Rises}

@@ -12,7 +12,7 @@ use numbers::num;
 use stored::header::Layout;
 use stored::sections as parts;
 
-// The rank of vertex u's group in the first labelling.
+// The rank of vertex u's group in the first labelling: e stands last in the triple of its place.
 fn rank_of(index: &[u8], l: Layout, u: usize) -> usize
     requires { ⌜ SoundBytes (now index) l ⌝ }
     requires { ⌜ u < l .n ⌝ }

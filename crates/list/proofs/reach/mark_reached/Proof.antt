@@ -4,7 +4,8 @@ use native.Mathlib.Omega.{arith}
 use lib.ListN.{length-set}
 use borrow.Author.Needs.{needs}
 use Rattle.sound_groups.proofs.Read.{can-read}
-use Rattle.list.proofs.Contents.{Sections, stretchOf, names-only}
+use Rattle.ask.proofs.Asking.{Six}
+use Rattle.list.proofs.Contents.{stretchOf, names-only}
 use Rattle.list.proofs.Fitted.{names-fit, rank-low, named-low, reach-is}
 use Rattle.list.proofs.reach.mark_reached.Statement.{statement}
 use Rattle.list.proofs.reach.mark_reached.Tie as tie
@@ -14,9 +15,9 @@ abbrev entry : tie.After-names → tie.Start
 entry c = c .before .before .before
 
 given : (c : tie.After-names) → let s = entry c in
-    Sections (s .args .index .now) (s .args .l) (c .names .result .now) (stretchOf (s .pre .0) 1) (stretchOf (s .pre .0) 2) (stretchOf (s .pre .0) 3)
-    (stretchOf (s .pre .0) 4) (stretchOf (s .pre .0) 5)
-given c = names-only (entry c .pre .0) (c .names .ensures)
+    Six (s .args .index .now) (s .args .l) (c .names .result .now) (stretchOf (s .pre .0 .laid) 1) (stretchOf (s .pre .0 .laid) 2) (stretchOf (s .pre .0 .laid) 3)
+    (stretchOf (s .pre .0 .laid) 4) (stretchOf (s .pre .0 .laid) 5)
+given c = names-only (entry c .pre .0 .laid) (c .names .ensures)
 
 names-requires : tie.Need-names-requires
 names-requires c κs = search needs

@@ -1,6 +1,7 @@
 -- `list::reach::sweep_down` meets its contract: the sections of sound contents are fit for the sweep, and hold what the index has.
 use borrow.Author.Needs.{needs}
-use Rattle.list.proofs.Contents.{Sections, stretchOf, with-rows}
+use Rattle.ask.proofs.Asking.{Six}
+use Rattle.list.proofs.Contents.{stretchOf, with-rows}
 use Rattle.list.proofs.Fitted.{spots, ranked, swept-is}
 use Rattle.list.proofs.reach.sweep_down.Statement.{statement}
 use Rattle.list.proofs.reach.sweep_down.Tie as tie
@@ -11,10 +12,10 @@ entry c = c .before .before .before .before .before .before .before
 
 -- the sections that were read, among the six
 given : (c : tie.After-by-rank) → let s = entry c in
-    Sections (s .args .index .now) (s .args .l) (stretchOf (s .pre .0) 0) (c .before .before .before .before .groups .result .now) (stretchOf (s .pre .0) 2)
+    Six (s .args .index .now) (s .args .l) (stretchOf (s .pre .0 .laid) 0) (c .before .before .before .before .groups .result .now) (stretchOf (s .pre .0 .laid) 2)
     (c .before .before .before .starts .result .now) (c .before .before .children .result .now) (c .before .labels .result .now)
 given c =
-    with-rows (entry c .pre .0) (c .before .before .before .before .groups .ensures) (c .before .labels .ensures) (c .before .before .before .starts .ensures)
+    with-rows (entry c .pre .0 .laid) (c .before .before .before .before .groups .ensures) (c .before .labels .ensures) (c .before .before .before .starts .ensures)
     (c .before .before .children .ensures)
 
 groups-requires : tie.Need-groups-requires
