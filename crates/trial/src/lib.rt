@@ -1,0 +1,32 @@
+// Calls that only Rattle code makes, exported for the outside tests alone: plain numbers and buffers, a refusal of 0 where there is none. No contract is stated
+// here; what is compared outside is the call itself.
+use list::Listed;
+
+// A count, or a refusal with its number and its extra number.
+#[repr(C)]
+pub struct Counted {
+    pub refusal: u32,
+    pub extra: u32,
+    pub count: u32,
+}
+
+// The lowest 32 bits.
+fn low(x: usize) -> u32 {
+    (x % 4294967296) as u32
+}
+
+#[no_mangle]
+pub extern "C" fn trial_list(index: &[u8], marks: &mut [u8], out: &mut [u32], vertex: u32) -> Counted {
+    match list::list(index, vertex, marks, out) {
+        Listed::Count(count) => Counted {
+            refusal: 0,
+            extra: 0,
+            count: low(count),
+        },
+        Listed::Refused { number, extra } => Counted {
+            refusal: low(number),
+            extra: low(extra),
+            count: 0,
+        },
+    }
+}
