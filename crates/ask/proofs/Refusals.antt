@@ -11,8 +11,8 @@ use borrow.Author.Tests.{lt-ltb, le-ltb, le-leb, lt-leb}
 use Rattle.lineage.specs.Lists.{cleared}
 use Rattle.lineage.specs.Stored.{countsIn}
 use Rattle.lineage.specs.Sound.{contentsSound}
-use Rattle.lineage.specs.Question.{Answer, answer}
-use Rattle.lineage.specs.Calls.{Check, check, Outcome, refused, answered, outcome, anyApplies, contentsCheck, indexIn, Said, saidOf, askAnswer, askMarks}
+use Rattle.lineage.specs.Question.{answer}
+use Rattle.lineage.specs.Calls.{Check, check, Outcome, refused, answered, outcome, anyApplies, indexIn, Said, saidOf, askAnswer, askMarks}
 use Rattle.stored.specs.declared.header.Layout.{Layout}
 use Rattle.stored.specs.Header.{headerChecks, layoutIn, Laid}
 use Rattle.stored.proofs.Checks.{refused-first, passed-first, refused-applies, passed-applies}

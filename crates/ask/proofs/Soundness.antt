@@ -1,22 +1,18 @@
 -- What sound contents give a question: the sections are fit for the walk, the group list rises, and every vertex's group has a place.
-use mathlib.Core.Bool.{Bool, true}
+use mathlib.Core.Bool.{true}
 use mathlib.Core.Logic.{_≢_}
 use mathlib.Core.Path.{_≡_, refl, sym, ap, _∙_}
 use mathlib.Core.List.{List, []}
-use Prim.Native.Nat.{ℕ, zero, suc, _+_, _-_, _≤_, _<_}
+use Prim.Native.Nat.{ℕ, suc, _+_, _-_, _≤_, _<_}
 use native.Mathlib.Omega.{arith}
 use native.Mathlib.Numerals.{add-one}
-use native.Mathlib.Decide.{ℕ-discrete}
 use lib.ListN.{length, getD, replicate, length-replicate, getD-replicate}
-use borrow.Author.Tests.{eqb-true, leb-true}
-use lib.Dec.{eqb, leb}
-use Rattle.lineage.specs.Lists.{among, allBelow}
+use Rattle.lineage.specs.Lists.{among}
 use Rattle.lineage.specs.Graph.{placeOf}
 use Rattle.lineage.specs.Numbers.{numAt, numbers}
 use Rattle.lineage.specs.Sound.{childOf}
 use Rattle.lineage.specs.Question.{between, placeIn, walk, answer}
 use Rattle.laws.specs.Sound.{SoundGroups}
-use Rattle.laws.proofs.Tests.{and-left, and-right}
 use Rattle.laws.proofs.Lists.{in-getD}
 use Rattle.laws.proofs.Rising.{Rises}
 use Rattle.laws.proofs.Grouped.{groups-rise, name-group, group-name, place-low, levels-fall}
@@ -25,17 +21,10 @@ use Rattle.numbers.proofs.Numbers.{numbers-long, numbers-at}
 use Rattle.sections.specs.Sections.{childrenIn, indexFrom}
 use Rattle.sections.proofs.Sections.{children-long, row-long, row-at}
 use Rattle.stored.specs.declared.header.Layout.{Layout}
+use Rattle.stored.proofs.Starts.{Rising, starts-rise, starts-low}
 use Rattle.ask.specs.Fit.{count, groupsIn, Fit}
 use Rattle.ask.specs.Lent.{indexAt, Lent}
 use Rattle.ask.proofs.Rows.{count-is}
-
-all-below : (n : ℕ) (p : ℕ → Bool) → allBelow n p ≡ true → (i : ℕ) → i < n → p i ≡ true
-all-below zero p h i l = absurd (omega arith)
-all-below (suc n) p h i l =
-    elim (ℕ-discrete i n) [
-      | yes e ↦ rw e (and-right (allBelow n p) (p n) h)
-      | no f ↦ all-below n p (and-left (allBelow n p) (p n) h) i (omega arith)
-    ]
 
 module _ {l : Layout} {names groups levels starts children labels : List ℕ} (S : Lent l names groups levels starts children labels) where
   abbrev w : ℕ
@@ -62,38 +51,17 @@ module _ {l : Layout} {names groups levels starts children labels : List ℕ} (S
   rows-long = children-long w starts children k c
 
   -- child starts rise to c
-  start : ℕ → ℕ
-  start p = getD (numbers w starts (k + 1)) p 0
+  starts-rising : Rising (numbers w starts (k + 1)) k c
+  starts-rising = starts-rise (numbers w starts (k + 1)) k c (S .starts-sound)
 
-  start-at : (p : ℕ) → p ≤ k → start p ≡ numAt w starts p
-  unfolding start
-  start-at p h = numbers-at w starts (k + 1) p (omega arith)
-
-  next-at : (p : ℕ) → p < k → start (suc p) ≡ numAt w starts (p + 1)
-  unfolding start
+  next-at : (p : ℕ) → p < k → getD (numbers w starts (k + 1)) (suc p) 0 ≡ numAt w starts (p + 1)
   next-at p h = rw (add-one p) (numbers-at w starts (k + 1) (suc p) (omega arith))
 
-  start-rises : (p : ℕ) → p < k → start p ≤ start (suc p)
-  unfolding start
-  start-rises p h =
-      let later = and-right (eqb (start 0) 0) _ (S .starts-sound) in
-      leb-true (start p) (start (suc p)) (all-below k (λ q. leb (start q) (start (suc q))) (and-left (allBelow k (λ q. leb (start q) (start (suc q)))) _ later) p h)
-
-  start-last : start k ≡ c
-  unfolding start
-  start-last =
-      let later = and-right (eqb (start 0) 0) _ (S .starts-sound) in
-      eqb-true (start k) c (and-right (allBelow k (λ q. leb (start q) (start (suc q)))) _ later)
-
-  start-low : (j p : ℕ) → p + j ≡ k → start p ≤ c
-  start-low zero p e = let same : p ≡ k = omega arith in rw (same, start-last) (omega arith)
-  start-low (suc j) p e = omega (arith, start-rises p (omega arith), start-low j (suc p) (omega arith))
-
   rises : (p : ℕ) → p < k → numAt w starts p ≤ numAt w starts (p + 1)
-  rises p h = omega (arith, start-rises p h, start-at p (omega arith), next-at p h)
+  rises p h = omega (arith, starts-rising .rise p h, numbers-at w starts (k + 1) p (omega arith), next-at p h)
 
   ends : (p : ℕ) → p < k → numAt w starts (p + 1) ≤ c
-  ends p h = omega (arith, next-at p h, start-low (k - suc p) (suc p) (omega arith))
+  ends p h = omega (arith, starts-low starts-rising (suc p) h, next-at p h)
 
   -- number i of the children, in the row of p
   module _ (p i : ℕ) (h : p < k) (from : numAt w starts p ≤ i) (to : i < numAt w starts (p + 1)) where

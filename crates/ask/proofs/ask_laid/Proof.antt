@@ -1,6 +1,5 @@
 -- `ask::ask_laid` meets its contract: each return is the first of the late checks that applies, or the answer where none does; the check of the contents
 -- leaves the marks 0 below n, and the question is lent those.
-use native.Mathlib.Omega.{arith}
 use mathlib.Core.Path.{sym, ap, _∙_}
 use borrow.Author.Needs.{needs}
 use borrow.Author.Tests.{not-true, not-false}
@@ -14,9 +13,9 @@ use Rattle.ask.proofs.ask_laid.Tie as tie
 -- the six parts are the sections of the bytes
 six :
     (c : tie.After-question-arg) → let s = c .before .before .before .before .before .before .before .before .before .before .before .before .before .before .before .before .before in
-    Six (s .args .index .now) (c .before .before .before .before .before .before .names .result .now) (c .before .before .before .before .before .groups .result .now)
+    Six (s .args .index .now) (s .args .l) (c .before .before .before .before .before .before .names .result .now) (c .before .before .before .before .before .groups .result .now)
     (c .before .before .before .before .levels .result .now) (c .before .before .before .starts .result .now) (c .before .before .children .result .now)
-    (c .before .labels .result .now) (s .args .l)
+    (c .before .labels .result .now)
 six c = record {
   names-in = c .before .before .before .before .before .before .names .ensures;
   groups-in = c .before .before .before .before .before .groups .ensures;
@@ -97,7 +96,7 @@ question-requires c κs =
     let sound = t .contents-sound .ensures .0 in
     let front =
     front-cleared L _ _ _ (f .before .before .if1 .left) (f .before .if2 .left) (f .if3 .left) sound (t .contents-sound .ensures .1) in
-    (lent _ _ _ _ _ _ _ L (six c) (sym sound ∙ not-false _ (c .before .before .before .before .before .before .before .if4 .left)), (f .before .if2 .left, (f .if3 .left, front)))
+    (lent L (six c) (sym sound ∙ not-false _ (c .before .before .before .before .before .before .before .if4 .left)), (f .before .if2 .left, (f .if3 .left, front)))
 
 same-length-2 : tie.Need-same-length-2
 same-length-2 c = search needs
@@ -113,7 +112,7 @@ returns-5 c =
     let e =
     late-answer L _ _ _ (f .before .before .if1 .left) (f .before .if2 .left) (f .if3 .left) (t .contents-sound .ensures .0) (t .contents-sound .ensures .1)
     (not-false _ (a .before .before .before .before .before .before .before .if4 .left)) (q .result) _
-    (q .ensures ∙ ap (λ (I : Index). answer I (s .args .source) (s .args .target)) (index-at _ _ _ _ _ _ _ L (six a))) in
+    (q .ensures ∙ ap (λ (I : Index). answer I (s .args .source) (s .args .target)) (index-at L (six a))) in
     (e .answers, e .leaves)
 
 pub ask-laid-spec : {M : Type 1} → statement M
