@@ -1,7 +1,7 @@
 // Little-endian numbers of w bytes in lent bytes, w being 2 or 4, and lent memory set to 0.
 ghost use mathlib.Core.Path.{_≡_};
 ghost use Prim.Native.Nat.{_+_, _*_, _%_, _^_, _≤_, _<_};
-ghost use lib.ListN.{length};
+ghost use lib.ListN.{length, replicate};
 ghost use Rattle.lineage.specs.Lists.{part, cleared};
 ghost use Rattle.lineage.specs.Numbers.{Width, leAt, numAt, leBytes, written};
 ghost use Rattle.numbers.specs.Put.{put};
@@ -103,16 +103,24 @@ pub fn write_words(out: &mut [u8], at: usize, w: usize, words: &[u32], from: usi
     }
 }
 
+// Sets n words to 0, from word at on.
+pub fn clear_part(words: &mut [u32], at: usize, n: usize)
+    requires { ⌜ at + n ≤ length (now words) ⌝ }
+    ensures { λ _. ⌜ now (words .exit) ≡ put (now (words .entry)) at (replicate n 0) ⌝ }
+{
+    let mut i = 0;
+    while i < n {
+        words[at + i] = 0;
+        i += 1;
+    }
+}
+
 // Sets the first n words to 0.
 pub fn clear_words(words: &mut [u32], n: usize)
     requires { ⌜ n ≤ length (now words) ⌝ }
     ensures { λ _. ⌜ now (words .exit) ≡ cleared n (now (words .entry)) ⌝ }
 {
-    let mut i = 0;
-    while i < n {
-        words[i] = 0;
-        i += 1;
-    }
+    clear_part(words, 0, n)
 }
 
 // Sets the marks below n to 0.

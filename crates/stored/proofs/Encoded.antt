@@ -12,17 +12,18 @@ use Rattle.lineage.specs.Numbers.{numbers, written}
 use Rattle.lineage.specs.Labels.{Labelling}
 use Rattle.lineage.specs.Index.{Index}
 use Rattle.lineage.specs.Stored.{Form, Counts, sizes, offsets, offsetsFrom, totalLength, sections, startsFrom, countsOf, header, encode, headerAt, countsIn, formOf, isForm, countsFit, offsetsFit, stretch, section, rowAt, labellingAt, decode}
+use Rattle.lineage.specs.Calls.{answered, outcome, indexIn}
 use Rattle.numbers.specs.Put.{put}
 use Rattle.numbers.proofs.Put.{put-start}
 use Rattle.numbers.proofs.Tables.{getD-mapped}
 use Rattle.numbers.proofs.Blocks.{every-at}
 use Rattle.numbers.proofs.Written.{Below, written-long, num-front, written-at, numbers-written}
-use Rattle.lineage.specs.Calls.{answered, outcome}
-use Rattle.stored.specs.Header.{layoutIn, offsetsIn, headerChecks}
+use Rattle.stored.specs.Header.{layoutIn, offsetsIn, headerChecks, Laid}
 use Rattle.stored.specs.Fits.{Fits}
+use Rattle.stored.proofs.Tests.{same-self}
 use Rattle.stored.proofs.Forms.{Within, form-within}
 use Rattle.stored.proofs.Checked.{all-right}
-use Rattle.stored.proofs.Laid.{same-self, Bounded, fit-bounds}
+use Rattle.stored.proofs.Laid.{Bounded, fit-bounds, header-laid}
 use Rattle.stored.proofs.Starts.{starts-long, rows-read}
 use Rattle.stored.proofs.LabelNumbers.{labels-long, labels-read}
 use Rattle.stored.proofs.Offsets.{lengths, offsets-part, offsets-last, putSections, sections-put}
@@ -75,7 +76,8 @@ module _ {F : Form} {I : Index} (E : Fits F I) where
       let labels = labels-long (a .k) (I .labels) (E .labels) in
       rw (levels, starts, labels)
 
-  header-small : Below (256 ^ 4) (header F a)
+  -- the numbers of its header are of 32 bits
+  pub header-small : Below (256 ^ 4) (header F a)
   header-small = header-fits F a (within .number) bounded
 
   -- the header is read again
@@ -152,6 +154,13 @@ module _ {F : Form} {I : Index} (E : Fits F I) where
       (ap isForm (header-read 0 (omega arith)) ∙ eq-eqb (formOf (F .number) .number) (F .number) (ap (λ (G : Form). G .number) (E .known)))
       (ap₂ countsFit form-read counts-read ∙ E .counts)
       (ap₂ (λ (G : Form) (z : Counts). offsetsFit G z (encode F I)) form-read counts-read ∙ offsets-fit)
+
+  pub encode-laid : Laid (encode F I) (layoutIn (encode F I))
+  encode-laid = header-laid (encode F I) (layoutIn (encode F I)) encode-passes
+
+  -- the bytes hold the index
+  pub index-encode : indexIn (encode F I) ≡ I
+  index-encode = ap (λ (G : Form). decode (G .width) (encode F I)) form-read ∙ decode-encode
 
   -- its header and its sections, each put at its offset
   pub encode-put : (out : List ℕ)

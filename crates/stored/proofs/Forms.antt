@@ -11,6 +11,7 @@ use Rattle.lineage.specs.Stored.{Form, form1, forms, formFrom, formOf}
 use Rattle.stored.specs.declared.header.Row.{Row}
 use Rattle.stored.specs.Header.{rowOf}
 
+-- a form within the bounds of every form
 pub record Within (F : Form) : Type 0 where
   pub number : F .number < 2 ^ 32
   pub width : Width (F .width)

@@ -15,9 +15,10 @@ use Rattle.numbers.proofs.Parts.{part-part}
 use Rattle.numbers.proofs.Regions.{part-length, part-at}
 use Rattle.numbers.proofs.Numbers.{num-part, numbers-long, numbers-at, numbers-part}
 use Rattle.stored.specs.Sections.{ChildrenOf}
+use Rattle.stored.specs.Fits.{Full}
 
 -- labelling j lies within the d of them
-labelling-within : (k d j : ℕ) → j < d → j * (4 * k) + 4 * k ≤ d * (4 * k)
+pub labelling-within : (k d j : ℕ) → j < d → j * (4 * k) + 4 * k ≤ d * (4 * k)
 labelling-within k d j h = omega (arith, mul-le-mul-right (4 * k) h, suc-mul j (4 * k))
 
 -- some of its numbers
@@ -92,22 +93,16 @@ module _ (w k d j : ℕ) (labels : List ℕ) (h : j < d) where
       ∙ numbers-part w labels (d * (4 * k)) (j * (4 * k) + 3 * k) k (omega (arith, within))
       ∙ sym (part-part all (j * (4 * k)) (4 * k) (3 * k) k (omega arith))
 
-  -- each of the four lists has an entry for each group
-  pub labelling-s-long : length (labellingAt k all j .s) ≡ k
+  -- each of its four lists has an entry for each group
+  pub labelling-full : Full k (labellingAt k all j)
   unfolding labellingAt
-  labelling-s-long = table-long (λ q. getD (part all (j * (4 * k)) (4 * k)) (3 * q) 0) k
-
-  pub labelling-m-long : length (labellingAt k all j .m) ≡ k
-  unfolding labellingAt
-  labelling-m-long = table-long (λ q. getD (part all (j * (4 * k)) (4 * k)) (3 * q + 1) 0) k
-
-  pub labelling-e-long : length (labellingAt k all j .e) ≡ k
-  unfolding labellingAt
-  labelling-e-long = table-long (λ q. getD (part all (j * (4 * k)) (4 * k)) (3 * q + 2) 0) k
-
-  pub labelling-by-rank-long : length (labellingAt k all j .byRank) ≡ k
-  unfolding labellingAt
-  labelling-by-rank-long =
-      let own : length (part all (j * (4 * k)) (4 * k)) ≡ 4 * k =
+  labelling-full =
+      let own : List ℕ = part all (j * (4 * k)) (4 * k) in
+      let long : length own ≡ 4 * k =
       part-length all (j * (4 * k)) (4 * k) (omega (arith, within, numbers-long w labels (d * (4 * k)))) in
-      part-length (part all (j * (4 * k)) (4 * k)) (3 * k) k (omega (arith, own))
+      record {
+        s = table-long (λ q. getD own (3 * q) 0) k;
+        m = table-long (λ q. getD own (3 * q + 1) 0) k;
+        e = table-long (λ q. getD own (3 * q + 2) 0) k;
+        byRank = part-length own (3 * k) k (omega arith);
+      }

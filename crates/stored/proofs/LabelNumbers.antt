@@ -4,7 +4,7 @@ use mathlib.Core.Path.{_≡_, refl, sym, ap, _∙_}
 use mathlib.Core.List.{List, [], _∷_, _++_, map, map-map}
 use Prim.Native.Nat.{ℕ, suc, _+_, _*_, _-_, _≤_, _<_}
 use native.Mathlib.Omega.{arith}
-use native.Mathlib.Nat.{mul-comm, mul-le-mul-right, suc-mul, add-zero}
+use native.Mathlib.Nat.{mul-comm, add-zero}
 use native.Mathlib.Numerals.{add-one}
 use lib.ListN.{length, getD, take, length-append, length-map, List·getD-append}
 use lib.Seq.{take-all, drop-cons}
@@ -16,6 +16,7 @@ use Rattle.numbers.proofs.Parts.{part-right, part-whole}
 use Rattle.numbers.proofs.Regions.{part-length, part-at}
 use Rattle.numbers.proofs.Blocks.{every-of, every-at, every-from, Sized, sized-map, blocks-long, block-at, blocks-of, take-block}
 use Rattle.stored.specs.Fits.{Full}
+use Rattle.stored.proofs.Held.{labelling-within}
 
 module _ (k : ℕ) (l : Labelling) where
   abbrev triples : List ℕ
@@ -130,6 +131,6 @@ labels-written k d N e =
     ap joined (map-map (labelNumbers k) (labellingAt k N) (upto d))
     ∙ blocks-of (λ j. labelNumbers k (labellingAt k N j)) (4 * k) N d
     (λ j h.
-    numbers-again k N j (omega (arith, mul-le-mul-right (4 * k) h, suc-mul j (4 * k)))
+    numbers-again k N j (omega (arith, labelling-within k d j h))
     ∙ ap (λ (at : ℕ). part N at (4 * k)) (mul-comm j (4 * k)))
     ∙ take-all (4 * k * d) N (omega (arith, mul-comm (4 * k) d))

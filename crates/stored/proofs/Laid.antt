@@ -1,40 +1,20 @@
 -- What bytes have whose header passes: a known form, counts within the bounds of every form, and sections one after the other that fill the bytes.
-use mathlib.Core.Bool.{Bool, true, false, not, _&&_, _||_, false≢true, true≢false}
-use mathlib.Core.Path.{_≡_, refl, ap₂, subst⁻¹}
-use mathlib.Core.List.{List, [], _∷_}
+use mathlib.Core.Bool.{Bool, true, false, not, _||_}
+use mathlib.Core.Path.{_≡_, refl, subst⁻¹}
+use mathlib.Core.List.{List}
 use Prim.Native.Nat.{ℕ, _≤_}
 use native.Mathlib.Omega.{arith}
 use lib.Dec.{eqb, leb, ltb}
 use lib.ListN.{length}
-use borrow.Author.Tests.{leb-true, eqb-true, eq-eqb, not-false}
+use borrow.Author.Tests.{leb-true, eqb-true, not-false}
 use Rattle.lineage.specs.Lists.{sameList}
 use Rattle.lineage.specs.Numbers.{Width}
 use Rattle.lineage.specs.Stored.{Form, Counts, headerAt, countsIn, formOf, isForm, countsFit, offsetsFit}
 use Rattle.lineage.specs.Calls.{answered, refuse, outcome}
 use Rattle.stored.specs.declared.header.Layout.{Layout}
 use Rattle.stored.specs.Header.{layoutIn, offsetsIn, offsetsOf, offsetsAgree, headerChecks, Laid}
+use Rattle.stored.proofs.Tests.{neither, both, same-list}
 use Rattle.stored.proofs.Forms.{Within, form-within}
-
-neither : (p q : Bool) → (not p || not q) ≡ false → (p ≡ true) × (q ≡ true)
-neither true true e = (refl, refl)
-neither true false e = absurd (true≢false e)
-neither false q e = absurd (true≢false e)
-
-pub both : (p q : Bool) → (p && q) ≡ true → (p ≡ true) × (q ≡ true)
-both true q e = (refl, e)
-both false q e = absurd (false≢true e)
-
-same-list : (xs ys : List ℕ) → sameList xs ys ≡ true → xs ≡ ys
-same-list [] [] e = refl
-same-list [] (y ∷ ys) e = absurd (false≢true e)
-same-list (x ∷ xs) [] e = absurd (false≢true e)
-same-list (x ∷ xs) (y ∷ ys) e =
-    let b = both (eqb x y) (sameList xs ys) e in
-    ap₂ (λ (z : ℕ) (zs : List ℕ). z ∷ zs) (eqb-true x y (b .0)) (same-list xs ys (b .1))
-
-pub same-self : (xs : List ℕ) → sameList xs xs ≡ true
-same-self [] = refl
-same-self (x ∷ xs) = ap₂ _&&_ (eq-eqb x x refl) (same-self xs)
 
 -- counts that fit a form
 pub record Bounded (F : Form) (a : Counts) : Type 0 where

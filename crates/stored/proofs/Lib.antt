@@ -1,4 +1,5 @@
 -- The laws of the stored form.
+pub mod Tests
 pub mod Checks
 pub mod Forms
 pub mod Checked

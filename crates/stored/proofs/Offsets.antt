@@ -1,5 +1,5 @@
 -- Sections written one after the other behind a header: each stands at its offset, and the last offset is the length of it all.
-use mathlib.Core.Path.{_≡_, refl, sym, ap, _∙_}
+use mathlib.Core.Path.{_≡_, sym, ap, _∙_}
 use mathlib.Core.List.{List, [], _∷_, _++_, map, append-assoc, append-nil}
 use Prim.Native.Nat.{ℕ, zero, suc, _+_, _*_, _-_, _≤_, _<_}
 use native.Mathlib.Omega.{arith}
@@ -18,10 +18,6 @@ abbrev pub lengths : List (List ℕ) → List ℕ
 lengths X = map length X
 
 module _ (w : ℕ) where
-  offsets-first : (at : ℕ) (sizes : List ℕ) → getD (offsetsFrom w at sizes) 0 0 ≡ at
-  offsets-first at [] = refl
-  offsets-first at (size ∷ sizes) = refl
-
   -- section i stands at offset i
   pub offsets-part : (before : List ℕ) (X : List (List ℕ)) (at i : ℕ)
       → at ≡ length before

@@ -1,11 +1,10 @@
 -- Child starts and rows of children. Rows written one after the other are found again between their starts; and starts that pass, first 0, never falling, last c,
 -- cut the children into rows that joined are the children again.
-use mathlib.Core.Bool.{Bool, true}
+use mathlib.Core.Bool.{true}
 use mathlib.Core.Path.{_≡_, refl, sym, ap, ap₂, _∙_}
 use mathlib.Core.List.{List, [], _∷_, _++_, map, map-append, append-assoc}
 use Prim.Native.Nat.{ℕ, zero, suc, _+_, _-_, _≤_, _<_}
 use native.Mathlib.Omega.{arith}
-use native.Mathlib.Decide.{decLt}
 use native.Mathlib.Nat.{not-suc-le-zero}
 use lib.Dec.{eqb, leb}
 use lib.ListN.{length, getD, take, length-append}
@@ -18,7 +17,7 @@ use Rattle.numbers.proofs.Tables.{table-is}
 use Rattle.numbers.proofs.Parts.{part-left, part-right, part-whole}
 use Rattle.numbers.proofs.Regions.{part-length}
 use Rattle.numbers.proofs.Blocks.{joined-more, take-block}
-use Rattle.stored.proofs.Laid.{both}
+use Rattle.stored.proofs.Tests.{both, all-below}
 
 -- Rows, their starts, and the rows again.
 starts-first : (at : ℕ) (rows : List (List ℕ)) → getD (startsFrom at rows) 0 0 ≡ at
@@ -64,15 +63,6 @@ pub record Rising (starts : List ℕ) (k c : ℕ) : Type 0 where
   pub first : getD starts 0 0 ≡ 0
   pub rise : (p : ℕ) → p < k → getD starts p 0 ≤ getD starts (suc p) 0
   pub last : getD starts k 0 ≡ c
-
-all-below : (n : ℕ) (test : ℕ → Bool) (i : ℕ) → allBelow n test ≡ true → i < n → test i ≡ true
-all-below zero test i e h = absurd (not-suc-le-zero h)
-all-below (suc n) test i e h =
-    let b = both (allBelow n test) (test n) e in
-    elim (decLt i n) [ yes l ↦ all-below n test i (b .0) l | no l ↦ at i (b .1) (omega arith) ]
-  where
-    at : (j : ℕ) → test n ≡ true → j ≡ n → test j ≡ true
-    at j t q = rw q t
 
 pub starts-rise : (starts : List ℕ) (k c : ℕ) → startsPass starts k c ≡ true → Rising starts k c
 starts-rise starts k c e =

@@ -24,6 +24,7 @@ rowOf number = record {
   entries = formOf number .entries;
 }
 
+-- n, k, c and d together
 abbrev pub counts : ℕ → ℕ → ℕ → ℕ → Counts
 counts n k c d = record { n = n; k = k; c = c; d = d }
 

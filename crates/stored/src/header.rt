@@ -58,6 +58,7 @@ pub fn form_row(number: usize) -> Row
     }
 }
 
+// Every count is within the form's bounds, and k is not over n.
 fn counts_fit(form: usize, n: usize, k: usize, c: usize, d: usize) -> bool
     ensures { λ r. ⌜ r ≡ countsFit (formOf form) (counts n k c d) ⌝ }
 {

@@ -1,0 +1,38 @@
+-- A traversal told by two lists: the vertices as they are finished, and for each of them 1 + how many were finished before it was entered. Its trees stand side by
+-- side in the first list, each with its root last, and the root's number in the second list tells where its tree begins.
+use mathlib.Core.Bool.{true, false}
+use mathlib.Core.Path.{_≡_}
+use mathlib.Core.List.{List, [], _∷_, map}
+use Prim.Native.Nat.{ℕ, zero, suc, _-_, _<_}
+use lib.ListN.{length, getD}
+use Rattle.lineage.specs.Lists.{upto, among, least, part}
+use Rattle.lineage.specs.Labels.{Forest, finished}
+use Rattle.laws.proofs.Ranks.{before}
+
+-- the list is the second list of a traversal
+abbrev pub Lows : Forest → List ℕ → Type 0
+Lows f low = (r : ℕ) → r < length (finished f) → getD low r 0 ≡ suc (length (before (getD (finished f) r 0) f))
+
+-- going left from q, past one tree after another; f bounds the steps, ts are the trees to the right of q
+abbrev pub treesFrom : List ℕ → List ℕ → ℕ → ℕ → List (List ℕ) → List (List ℕ)
+treesFrom out low zero q ts = ts
+treesFrom out low (suc f) zero ts = ts
+treesFrom out low (suc f) (suc q) ts = treesFrom out low f (getD low q 0 - 1) (part out (getD low q 0 - 1) (suc q - (getD low q 0 - 1)) ∷ ts)
+
+-- the trees
+unfoldable pub treesOf : List ℕ → List ℕ → List (List ℕ)
+treesOf out low = treesFrom out low (length out) (length out) []
+
+-- the least number of a list that is not empty
+abbrev pub leastOf : List ℕ → ℕ
+leastOf xs = least (getD xs 0 0) xs
+
+-- the least vertex of the tree that holds v
+abbrev pub nameIn : List (List ℕ) → ℕ → ℕ
+nameIn [] v = v
+nameIn (t ∷ ts) v = elim (among v t) [ true ↦ leastOf t | false ↦ nameIn ts v ]
+
+-- for each vertex the least vertex of its tree
+unfoldable pub treeNames : List ℕ → List ℕ → List ℕ
+unfolding treesOf
+treeNames out low = map (nameIn (treesOf out low)) (upto (length out))

@@ -1,0 +1,26 @@
+-- What is lent to each pass fits together: the regions that it reads lie outside its window, and the window lies in the buffer.
+use mathlib.Core.Path.{_≡_}
+use mathlib.Core.List.{List}
+use Prim.Native.Nat.{ℕ, _+_, _≤_, _<_}
+use lib.ListN.{length, getD}
+use Rattle.lineage.specs.Lists.{part}
+use Rattle.lineage.specs.Graph.{groupList, placeOf}
+use Rattle.lineage.specs.Labels.{Order}
+use Rattle.rows.specs.Regions.{Outside}
+use Rattle.rows.specs.Rows.{Below}
+
+-- an order of the n vertices at `at`; of each vertex the name and the place of its group
+pub record RankedFit (orders w : List ℕ) (at n names place base : ℕ) : Type 0 where
+  pub inside : at + n ≤ length orders
+  pub order : Order n (part orders at n)
+  pub names-there : Outside w names n base n
+  pub place-there : Outside w place n base n
+  pub places : (v : ℕ) → v < n → getD (part w place n) v 0 ≡ placeOf (groupList (part w names n)) (getD (part w names n) v 0)
+  pub room : base + n ≤ length w
+
+-- where the rows of k places start, and a sequence of places
+pub record RootsFit (w : List ℕ) (starts k sequence base : ℕ) : Type 0 where
+  pub starts-there : Outside w starts (k + 1) base k
+  pub sequence-there : Outside w sequence k base k
+  pub places : Below k (part w sequence k)
+  pub room : base + k ≤ length w

@@ -1,0 +1,14 @@
+-- The laws of rows.
+pub mod Regions
+pub mod Counts
+pub mod Filling
+pub mod Passes
+pub mod Pairs
+pub mod Orders
+pub mod Laid
+pub mod Turned
+pub mod Turning
+pub mod Contents
+pub mod Singles
+pub mod Stripping
+pub mod Stripped
