@@ -14,7 +14,7 @@ use Rattle.lineage.specs.Stored.{Counts, headerAt, countsIn}
 use Rattle.lineage.specs.Question.{answer}
 use Rattle.lineage.specs.Calls.{Check, check, Outcome, refused, answered, refuse, outcome, formChecks, contentsCheck, openAnswer, indexIn, askEarly, Said, saidOf, askAnswer}
 
--- of a refusal the one, of an answer the other
+-- a property of a refusal's numbers, and one of an answer
 module _ {A : Type 0} (R : ℕ → ℕ → Type 0) (P : A → Type 0) where
   abbrev pub Told : Outcome A → Type 0
   Told (refused number extra) = R number extra
@@ -40,6 +40,7 @@ pub record Small (a : Counts) : Type 0 where
   pub d : a .d < 2 ^ 32
 
 module _ (b : List ℕ) (bytes : (i : ℕ) → getD b i 0 < 256) where
+  -- a number of w bytes, and so each of a header
   le-small : (w p : ℕ) → leAt w b p < 256 ^ w
   unfolding leAt
   le-small zero p = omega arith
@@ -52,6 +53,7 @@ module _ (b : List ℕ) (bytes : (i : ℕ) → getD b i 0 < 256) where
   each : (m : ℕ) (cs : List Check) → Every (λ c. Words (c .number) (c .extra)) cs → Every (λ c. Words (c .number) (c .extra)) (formChecks b m ++ cs)
   each m cs more = ((omega arith, omega arith), ((omega arith, header-small 0), ((omega arith, omega arith), ((omega arith, header-small 1), more))))
 
+  -- what open and ask answer
   open-words : (m : ℕ) → Told Words Small (openAnswer b m)
   unfolding openAnswer
   open-words m =
@@ -66,7 +68,7 @@ module _ (b : List ℕ) (bytes : (i : ℕ) → getD b i 0 < 256) where
       (each m (check (leb (countsIn b .n) u) 14 0 ∷ check (leb (countsIn b .n) v) 14 1 ∷ contentsCheck b ∷ []) ((omega arith, omega arith), ((omega arith, omega arith), ((omega arith, omega arith), tt))))
       tt
 
-  -- what the calls return
+  -- the same of a refusal, and of counts, that are known to be the answer
   pub open-refused : (m number extra : ℕ) → refused number extra ≡ openAnswer b m → Words number extra
   open-refused m number extra e = subst (Told Words Small) (sym e) (open-words m)
 
