@@ -2,22 +2,21 @@
  * returned and what every writable buffer holds afterwards. Each buffer is lent flush against a page that nothing may touch, so a read or a write one
  * element past its length ends this process, and with it the test. The library is x86-64 code; the program that asks may run on any machine. */
 #define _DEFAULT_SOURCE
-#include <stdint.h>
+#include <drobisten.h>
 #include <stdio.h>
 #include <stdlib.h>
 #include <string.h>
 #include <sys/mman.h>
 #include <unistd.h>
 
-typedef struct { uint32_t refusal, extra, n, k, c, d; } opened;
-typedef struct { uint32_t refusal, extra, yes, reason, opened, deciding; } asked;
+/* list and build are exported for these tests alone (crate trial); where one is not linked, a request for it ends this process */
 typedef struct { uint32_t refusal, extra, count; } counted;
 
-opened trial_open(const uint8_t *index, size_t index_len, uint8_t *marks, size_t marks_len);
-asked trial_ask(const uint8_t *index, size_t index_len, uint8_t *marks, size_t marks_len, uint32_t source, uint32_t target);
-counted trial_list(const uint8_t *index, size_t index_len, uint8_t *marks, size_t marks_len, uint32_t *out, size_t out_len, uint32_t vertex);
-counted trial_build(const uint32_t *sources, size_t sources_len, const uint32_t *targets, size_t targets_len, const uint32_t *orders,
-                    size_t orders_len, uint32_t *work, size_t work_len, uint8_t *out, size_t out_len, uint32_t n, uint32_t d);
+__attribute__((weak)) counted trial_list(const uint8_t *index, size_t index_len, uint8_t *marks, size_t marks_len, uint32_t *out, size_t out_len,
+                                         uint32_t vertex);
+__attribute__((weak)) counted trial_build(const uint32_t *sources, size_t sources_len, const uint32_t *targets, size_t targets_len,
+                                          const uint32_t *orders, size_t orders_len, uint32_t *work, size_t work_len, uint8_t *out, size_t out_len,
+                                          uint32_t n, uint32_t d);
 
 enum { OPEN = 1, ASK = 2, LIST = 3, BUILD = 4, ASK_ALL = 5 };
 
@@ -60,7 +59,7 @@ static void give_back(lent b) {
 
 static void serve_open(void) {
     lent index = buffer(1), marks = buffer(1);
-    opened r = trial_open(index.at, index.length, marks.at, marks.length);
+    drobisten_opened r = drobisten_open(index.at, index.length, marks.at, marks.length);
     give(&r, sizeof r);
     done(index);
     give_back(marks);
@@ -69,7 +68,7 @@ static void serve_open(void) {
 static void serve_ask(void) {
     uint32_t source = number(), target = number();
     lent index = buffer(1), marks = buffer(1);
-    asked r = trial_ask(index.at, index.length, marks.at, marks.length, source, target);
+    drobisten_asked r = drobisten_ask(index.at, index.length, marks.at, marks.length, source, target);
     give(&r, sizeof r);
     done(index);
     give_back(marks);
@@ -83,7 +82,7 @@ static void serve_ask_all(void) {
     memcpy(before, marks.at, marks.size);
     for (size_t i = 0; i + 1 < pairs.length; i += 2) {
         memcpy(marks.at, before, marks.size);
-        asked r = trial_ask(index.at, index.length, marks.at, marks.length, pair[i], pair[i + 1]);
+        drobisten_asked r = drobisten_ask(index.at, index.length, marks.at, marks.length, pair[i], pair[i + 1]);
         give(&r, sizeof r);
         give(marks.at, marks.size);
     }
@@ -122,8 +121,8 @@ int main(void) {
         switch (call) {
         case OPEN: serve_open(); break;
         case ASK: serve_ask(); break;
-        case LIST: serve_list(); break;
-        case BUILD: serve_build(); break;
+        case LIST: if (!trial_list) return 5; serve_list(); break;
+        case BUILD: if (!trial_build) return 5; serve_build(); break;
         case ASK_ALL: serve_ask_all(); break;
         default: return 4;
         }

@@ -1,0 +1,3 @@
+-- The laws that the proofs of this crate cite, and what a host may rely on.
+pub mod Words
+pub mod Theorems

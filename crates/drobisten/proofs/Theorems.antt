@@ -1,0 +1,82 @@
+-- What a host may rely on. Its numbers are a function of what was lent, so two results that the contracts allow are equal. No refusal has the number 0, so the
+-- refusal's number tells a refusal from an answer, and the outcome of the definitions is read off the numbers; yes is then 1 exactly where a path exists.
+use mathlib.Core.Bool.{Bool, true, false, cond}
+use mathlib.Core.Logic.{_↔_, Iff·trans}
+use mathlib.Core.Path.{_≡_, refl, sym, ap, _∙_}
+use mathlib.Core.List.{List, [], _∷_, _++_}
+use Prim.Native.Nat.{ℕ, _<_}
+use native.Mathlib.Omega.{arith}
+use lib.Dec.{eqb}
+use lib.ListN.{length}
+use borrow.Author.Tests.{eqb-true, eq-eqb, ne-eqb}
+use Rattle.lineage.specs.Graph.{Reaches}
+use Rattle.lineage.specs.Index.{Made}
+use Rattle.lineage.specs.Stored.{Counts, countsIn}
+use Rattle.lineage.specs.Question.{answer}
+use Rattle.lineage.specs.Calls.{Outcome, refused, answered, formChecks, contentsCheck, openAnswer, openMarks, indexIn, askEarly, Said, saidOf, askAnswer, askMarks}
+use Rattle.ask.proofs.Theorems.{asked-right}
+use Rattle.drobisten.specs.declared.DrobistenOpened.{DrobistenOpened}
+use Rattle.drobisten.specs.declared.DrobistenAsked.{DrobistenAsked}
+use Rattle.drobisten.specs.Host.{hostOpened, hostAsked, openedBy, askedBy}
+use Rattle.drobisten.proofs.Words.{Told, outcome-told}
+
+-- a refusal's number is above 0; of an answer nothing is asked
+abbrev Some : ℕ → ℕ → Type 0
+Some number extra = 0 < number
+
+abbrev Any : {A : Type 0} → A → Type 0
+Any a = Unit {0}
+
+-- an outcome whose refusal is not 0 is read back
+
+opened-back : (o : Outcome Counts) → Told Some Any o → openedBy (hostOpened o) ≡ o
+opened-back (refused number extra) some = rw (ne-eqb number 0 (λ e. omega arith)) refl
+opened-back (answered a) some = refl
+
+yes-back : (says : Bool) (reason opened : ℕ) → askedBy (hostAsked (answered (record { says = says; reason = reason; opened = opened }))) ≡ answered (record { says = says; reason = reason; opened = opened })
+yes-back true reason opened = refl
+yes-back false reason opened = refl
+
+asked-back : (o : Outcome Said) → Told Some Any o → askedBy (hostAsked o) ≡ o
+asked-back (refused number extra) some = rw (ne-eqb number 0 (λ e. omega arith)) refl
+asked-back (answered s) some = yes-back (s .says) (s .reason) (s .opened)
+
+-- so are the outcomes that the calls give
+pub opened-read : (b : List ℕ) (m : ℕ) → openedBy (hostOpened (openAnswer b m)) ≡ openAnswer b m
+unfolding openAnswer
+opened-read b m =
+    opened-back (openAnswer b m)
+    (outcome-told Some Any (formChecks b m ++ (contentsCheck b ∷ [])) (countsIn b) (omega arith, (omega arith, (omega arith, (omega arith, (omega arith, tt))))) tt)
+
+pub asked-read : (b : List ℕ) (u v m : ℕ) → askedBy (hostAsked (askAnswer b u v m)) ≡ askAnswer b u v m
+unfolding askAnswer
+asked-read b u v m =
+    asked-back (askAnswer b u v m)
+    (outcome-told Some Any (askEarly b u v m ++ (contentsCheck b ∷ [])) (saidOf (answer (indexIn b) u v))
+    (omega arith, (omega arith, (omega arith, (omega arith, (omega arith, (omega arith, (omega arith, tt))))))) tt)
+
+-- what `drobisten_open` and `drobisten_ask` may return and leave, by their contracts
+pub record Opens (b marks : List ℕ) (r : DrobistenOpened) (m : List ℕ) : Type 0 where
+  pub returns : r ≡ hostOpened (openAnswer b (length marks))
+  pub leaves : m ≡ openMarks b marks
+
+pub record Asks (b : List ℕ) (u v : ℕ) (marks : List ℕ) (r : DrobistenAsked) (m : List ℕ) : Type 0 where
+  pub returns : r ≡ hostAsked (askAnswer b u v (length marks))
+  pub leaves : m ≡ askMarks b u v marks
+
+-- two results are equal
+pub opened-once : {b marks : List ℕ} {r r' : DrobistenOpened} {m m' : List ℕ} → Opens b marks r m → Opens b marks r' m' → (r ≡ r') × (m ≡ m')
+opened-once A B = (A .returns ∙ sym (B .returns), A .leaves ∙ sym (B .leaves))
+
+pub asked-once : {b : List ℕ} {u v : ℕ} {marks : List ℕ} {r r' : DrobistenAsked} {m m' : List ℕ} → Asks b u v marks r m → Asks b u v marks r' m' → (r ≡ r') × (m ≡ m')
+asked-once A B = (A .returns ∙ sym (B .returns), A .leaves ∙ sym (B .leaves))
+
+-- yes is 1 exactly where a path leads from source to target, in whatever graph yields the bytes
+pub host-right :
+    {b : List ℕ} {u v : ℕ} {marks : List ℕ} {r : DrobistenAsked} {m : List ℕ} → Asks b u v marks r m → r .refusal ≡ 0 → (M : Made (indexIn b))
+    → (r .yes ≡ 1) ↔ Reaches (M .graph) u v
+host-right {b} {u} {v} {marks} {r} A none M =
+    let s : Said = record { says = eqb (r .yes) 1; reason = r .reason; opened = r .opened } in
+    let e : askAnswer b u v (length marks) ≡ answered s =
+    sym (asked-read b u v (length marks)) ∙ ap askedBy (sym (A .returns)) ∙ ap (λ (x : ℕ). cond (eqb x 0) (answered s) (refused x (r .extra))) none in
+    Iff·trans (eq-eqb (r .yes) 1, eqb-true (r .yes) 1) (asked-right b u v marks s e M)

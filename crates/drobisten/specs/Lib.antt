@@ -1,0 +1,2 @@
+-- What the host is given.
+pub mod Host

@@ -1,0 +1,87 @@
+// The C face: open and ask for a host in C, on plain numbers and byte buffers. include/drobisten.h is its manual.
+ghost use mathlib.Core.Path.{_≡_};
+ghost use lib.ListN.{length};
+ghost use Rattle.lineage.specs.Calls.{openAnswer, openMarks, askAnswer, askMarks};
+ghost use Rattle.drobisten.specs.Host.{hostOpened, hostAsked};
+use ask::Asked;
+use open::Opened;
+
+// What opening gives: a refusal with its extra number, or refusal 0 and the counts.
+#[repr(C)]
+pub struct DrobistenOpened {
+    pub refusal: u32,
+    pub extra: u32,
+    pub n: u32,
+    pub k: u32,
+    pub c: u32,
+    pub d: u32,
+}
+
+// What asking gives: a refusal with its extra number, or refusal 0 and the answer.
+#[repr(C)]
+pub struct DrobistenAsked {
+    pub refusal: u32,
+    pub extra: u32,
+    pub yes: u32,
+    pub reason: u32,
+    pub opened: u32,
+}
+
+// `open` for the host.
+#[no_mangle]
+pub extern "C" fn drobisten_open(index: &[u8], marks: &mut [u8]) -> DrobistenOpened
+    ensures { λ r. ⌜ r ≡ hostOpened (openAnswer (now (index .entry)) (length (now (marks .entry)))) ⌝ }
+    ensures { λ _. ⌜ now (marks .exit) ≡ openMarks (now (index .entry)) (now (marks .entry)) ⌝ }
+{
+    match open::open(index, marks) {
+        Opened::Index { n, k, c, d } => DrobistenOpened {
+            refusal: 0,
+            extra: 0,
+            n: n as u32,
+            k: k as u32,
+            c: c as u32,
+            d: d as u32,
+        },
+        Opened::Refused { number, extra } => DrobistenOpened {
+            refusal: number as u32,
+            extra: extra as u32,
+            n: 0,
+            k: 0,
+            c: 0,
+            d: 0,
+        },
+    }
+}
+
+// `ask` for the host.
+#[no_mangle]
+pub extern "C" fn drobisten_ask(
+    index: &[u8],
+    marks: &mut [u8],
+    source: u32,
+    target: u32,
+) -> DrobistenAsked
+    ensures { λ r. ⌜ r ≡ hostAsked (askAnswer (now (index .entry)) source target (length (now (marks .entry)))) ⌝ }
+    ensures { λ _. ⌜ now (marks .exit) ≡ askMarks (now (index .entry)) source target (now (marks .entry)) ⌝ }
+{
+    match ask::ask(index, source, target, marks) {
+        Asked::Answer {
+            says,
+            reason,
+            opened,
+        } => DrobistenAsked {
+            refusal: 0,
+            extra: 0,
+            yes: says as u32,
+            reason,
+            opened,
+        },
+        Asked::Refused { number, extra } => DrobistenAsked {
+            refusal: number as u32,
+            extra: extra as u32,
+            yes: 0,
+            reason: 0,
+            opened: 0,
+        },
+    }
+}

@@ -1,0 +1,86 @@
+/* A host of the library: opens a stored index and asks it.
+ *
+ *     gcc -Wall -Wextra -pedantic -Iinclude examples/host.c target/staticlib/libdrobisten.a -o host
+ *     ./host INDEX [SOURCE TARGET]..
+ *
+ * It prints the index's counts, then a line for each pair: q, source, target, then yes or no, the reason and the groups opened; or `refused`, the refusal's
+ * number and its extra number. It ends with 0 where the index opens, with 1 where it is refused, and with 2 where it cannot be read or asked. */
+#include <drobisten.h>
+#include <stdio.h>
+#include <stdlib.h>
+
+/* the bytes of a file, their number in *size; NULL where it cannot be read */
+static uint8_t *whole_file(const char *path, size_t *size) {
+    size_t room = 1 << 16;
+    uint8_t *bytes = malloc(room);
+    FILE *file = fopen(path, "rb");
+    *size = 0;
+    while (bytes && file) {
+        *size += fread(bytes + *size, 1, room - *size, file);
+        if (*size < room) break;
+        uint8_t *more = realloc(bytes, room *= 2);
+        if (!more) free(bytes);
+        bytes = more;
+    }
+    int bad = !file || ferror(file);
+    if (file) fclose(file);
+    if (!bad) return bytes;
+    free(bytes);
+    return NULL;
+}
+
+/* a decimal number of 32 bits; 0 where the word is none */
+static int vertex(const char *word, uint32_t *number) {
+    char *end;
+    unsigned long long value = strtoull(word, &end, 10);
+    *number = (uint32_t)value;
+    return *word >= '0' && *word <= '9' && *end == '\0' && value <= UINT32_MAX;
+}
+
+static void ask(const uint8_t *index, size_t size, uint8_t *marks, size_t n, uint32_t source, uint32_t target) {
+    drobisten_asked a = drobisten_ask(index, size, marks, n, source, target);
+    printf("q %u %u ", source, target);
+    if (a.refusal)
+        printf("refused %u %u\n", a.refusal, a.extra);
+    else
+        printf("%s %u %u\n", a.yes ? "yes" : "no", a.reason, a.opened);
+}
+
+int main(int words, char **word) {
+    if (words < 2 || words % 2 != 0) {
+        fprintf(stderr, "usage: %s INDEX [SOURCE TARGET]..\n", word[0]);
+        return 2;
+    }
+    size_t size;
+    uint8_t *index = whole_file(word[1], &size);
+    if (!index) {
+        fprintf(stderr, "%s: cannot be read\n", word[1]);
+        return 2;
+    }
+    /* without marks, an index whose header passes is refused with its n, unless that is 0 */
+    uint8_t none[1];
+    uint8_t *marks = none;
+    drobisten_opened o = drobisten_open(index, size, marks, 0);
+    if (o.refusal == DROBISTEN_MARKS) {
+        size_t n = o.extra;
+        marks = malloc(n);
+        if (!marks) return 2;
+        o = drobisten_open(index, size, marks, n);
+    }
+    if (o.refusal) {
+        printf("refused %u %u\n", o.refusal, o.extra);
+        return 1;
+    }
+    printf("n %u k %u c %u d %u\n", o.n, o.k, o.c, o.d);
+    for (int i = 2; i < words; i += 2) {
+        uint32_t source, target;
+        if (!vertex(word[i], &source) || !vertex(word[i + 1], &target)) {
+            fprintf(stderr, "%s %s: no pair of vertices\n", word[i], word[i + 1]);
+            return 2;
+        }
+        ask(index, size, marks, o.n, source, target);
+    }
+    if (marks != none) free(marks);
+    free(index);
+    return 0;
+}

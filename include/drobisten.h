@@ -1,0 +1,105 @@
+/* Drobisten: is this vertex reached from that one? Opens and asks a stored reachability index, for a host in C.
+ *
+ * The two calls take plain numbers and byte buffers that the caller lends. They allocate nothing, keep nothing between calls, and always return: whatever
+ * bytes are lent as an index, the result is an answer or a refusal with its number. That they return what this page says is proved
+ * (crates/drobisten; the definitions are in crates/lineage/specs/Calls.antt).
+ *
+ *     uint8_t none[1];
+ *     drobisten_opened o = drobisten_open(index, index_len, none, 0);      refusal 13 tells n in `extra`
+ *     uint8_t *marks = malloc(o.extra);
+ *     o = drobisten_open(index, index_len, marks, o.extra);                refusal 0: the index is sound
+ *     drobisten_asked a = drobisten_ask(index, index_len, marks, o.n, 3, 2);
+ *     if (a.refusal == 0) printf("%s\n", a.yes ? "yes" : "no");
+ *
+ * examples/host.c is a whole program.
+ *
+ * LINKING. `rt staticlib drobisten` proves the library and writes target/staticlib/libdrobisten.a, x86-64 code for Linux that needs nothing but libc's
+ * memset:
+ *
+ *     gcc -Iinclude examples/host.c target/staticlib/libdrobisten.a -o host
+ *
+ * THREADS. Calls share nothing. Any number may run at the same time on the same index, each with marks of its own, as long as nobody writes to the index.
+ *
+ * TIME. Every call checks the bytes anew. A refusal from 10 to 14 looks at the header only. Otherwise a call goes a fixed number of times through names
+ * and groups, and for each of the d labellings through the k groups and the c child entries; among these it finds one child for each group by
+ * halving. A question then looks at no child entry twice: it takes at most k openings and c tries, with at most 2d interval tests a try.
+ *
+ * STACK. The walk of a question nests once for each level of the index that it goes down, 336 bytes each time: 1.4 MB for an index that is one line of 4,096
+ * groups, and a few hundred bytes for a flat one. Everything else is loops.
+ */
+#ifndef DROBISTEN_H
+#define DROBISTEN_H
+
+#include <stddef.h>
+#include <stdint.h>
+
+#ifdef __cplusplus
+extern "C" {
+#endif
+
+/* Why a call refuses, in the order of checking: the first that applies is given. `extra` is the extra number; it is 0 where the line names none. */
+enum {
+    DROBISTEN_SHORT = 10,    /* fewer than 48 bytes */
+    DROBISTEN_FORM = 11,     /* the form is not 1; extra: the form found */
+    DROBISTEN_HEADER = 12,   /* n over 4,096, k over n, c over 16,384, d not 1 to 5, an offset or the total not as these give, or bytes not of that total */
+    DROBISTEN_MARKS = 13,    /* marks shorter than n; extra: n */
+    DROBISTEN_VERTEX = 14,   /* drobisten_ask only: a vertex is n or more; extra: 0 where it is the source, 1 where it is the target alone */
+    DROBISTEN_CONTENTS = 15  /* no edge list and no orders yield these bytes */
+};
+
+/* What drobisten_open returns. */
+typedef struct {
+    uint32_t refusal; /* 0: the index is sound, and the four counts hold; otherwise why not, and the counts are 0 */
+    uint32_t extra;   /* the refusal's extra number; 0 without a refusal */
+    uint32_t n;       /* vertices, numbered 0 to n - 1 */
+    uint32_t k;       /* groups: sets of vertices that reach each other */
+    uint32_t c;       /* child entries: pairs of groups with an edge from the one into the other */
+    uint32_t d;       /* labellings, 1 to 5 */
+} drobisten_opened;
+
+/* What drobisten_ask returns. */
+typedef struct {
+    uint32_t refusal; /* 0: the question is answered, and the three numbers hold; otherwise why not, and they are 0 */
+    uint32_t extra;   /* the refusal's extra number; 0 without a refusal */
+    uint32_t yes;     /* 1: a path of zero or more edges leads from source to target; 0: none does */
+    uint32_t reason;  /* the first that holds of
+                         1 yes: source and target are in one group
+                         2 yes: in some labelling the source's inner interval contains the target's e
+                         3 no: the source's level is not above the target's
+                         4 no: in some labelling the source's outer interval does not contain the target's
+                         5 yes: the walk from the source's group found the target's
+                         6 no: it did not */
+    uint32_t opened;  /* the groups that the walk opened; 0 under reasons 1 to 4 */
+} drobisten_asked;
+
+/* What both calls need: `index` points to index_len bytes that can be read, `marks` to marks_len bytes that can be read and written; the two do not overlap;
+ * neither pointer is NULL, even where its length is 0. Nothing is asked of what the bytes hold, nor of how the pointers are aligned. No byte
+ * outside the two is touched, and the index is never written. */
+
+/* Opens a stored index: is it sound, and how large is it?
+ *
+ * Gives refusal 0 with n, k, c and d exactly where some edge list and d orders yield these very bytes; otherwise the first of the refusals 10, 11, 12, 13
+ * and 15 that applies.
+ *
+ * marks afterwards   refusal 0 or 15: the first n bytes are 0, those behind them are as they were
+ *                    refusal 10 to 13: all are as they were
+ */
+drobisten_opened drobisten_open(const uint8_t *index, size_t index_len, uint8_t *marks, size_t marks_len);
+
+/* Asks: does a path of zero or more edges lead from source to target?
+ *
+ * Gives refusal 0 with the answer, or the first of the refusals 10, 11, 12, 13, 14 and 15 that applies. The index need not have been opened before, and what
+ * the marks hold at the call changes nothing.
+ *
+ * marks afterwards   refusal 0: of the first n bytes, byte i is 1 where i names an opened group (the name of a group is its smallest vertex) and 0 elsewhere;
+ *                    so `opened` of them are 1; those behind the first n are as they were
+ *                    refusal 15: the first n bytes are 0, those behind them are as they were
+ *                    refusal 10 to 14: all are as they were
+ */
+drobisten_asked drobisten_ask(const uint8_t *index, size_t index_len, uint8_t *marks, size_t marks_len, uint32_t source, uint32_t target);
+
+#ifdef __cplusplus
+}
+#endif
+
+#endif
