@@ -25,12 +25,8 @@ pub record Six (b : List ℕ) (l : Layout) (names groups levels starts children 
   pub children-in : Section b l 4 children
   pub labels-in : Section b l 5 labels
 
-<<<<<<< HEAD
 module _ {b : List ℕ} {l : Layout} {names groups levels starts children labels : List ℕ}
     (L : Laid b l) (S : Six b l names groups levels starts children labels) where
-=======
-module _ {b : List ℕ} {l : Layout} {names groups levels starts children labels : List ℕ} (L : Laid b l) (S : Six b l names groups levels starts children labels) where
->>>>>>> host
   -- they hold the index of the bytes
   pub index-at : indexAt l names groups levels starts children labels ≡ indexIn b
   index-at =
