@@ -28,25 +28,25 @@ abbrev late : Bool → Bool → Bool → Bool → ℕ → ℕ → List Check
 late a b c d n count = check a 13 n ∷ check b 14 0 ∷ check c 15 0 ∷ check d 16 count ∷ []
 
 -- what they come to: the answer, the marks, m as they were or z cleared below n, and the out list, o as it was or f with the vertices in front
-record Ends (a b c d : Bool) (n count : ℕ) (m z o f : List ℕ) (r : Outcome ℕ) (marks out : List ℕ) : Type 0 where
+record Ended (a b c d : Bool) (n count : ℕ) (m z o f : List ℕ) (r : Outcome ℕ) (marks out : List ℕ) : Type 0 where
   answers : r ≡ outcome (late a b c d n count) count
   leaves : marks ≡ cond (anyApplies (take 2 (late a b c d n count))) m z
   writes : out ≡ cond (anyApplies (late a b c d n count)) o f
 
 module _ {a b c d : Bool} {n count : ℕ} {m z o f : List ℕ} where
-  by-marks : a ≡ true → Ends a b c d n count m z o f (refused 13 n) m o
+  by-marks : a ≡ true → Ended a b c d n count m z o f (refused 13 n) m o
   by-marks e = record { answers = rw e refl; leaves = rw e refl; writes = rw e refl }
 
-  by-vertex : a ≡ false → b ≡ true → Ends a b c d n count m z o f (refused 14 0) m o
+  by-vertex : a ≡ false → b ≡ true → Ended a b c d n count m z o f (refused 14 0) m o
   by-vertex e g = record { answers = rw (e, g) refl; leaves = rw (e, g) refl; writes = rw (e, g) refl }
 
-  by-contents : a ≡ false → b ≡ false → c ≡ true → Ends a b c d n count m z o f (refused 15 0) z o
+  by-contents : a ≡ false → b ≡ false → c ≡ true → Ended a b c d n count m z o f (refused 15 0) z o
   by-contents e g h = record { answers = rw (e, g, h) refl; leaves = rw (e, g) refl; writes = rw (e, g, h) refl }
 
-  by-room : a ≡ false → b ≡ false → c ≡ false → d ≡ true → Ends a b c d n count m z o f (refused 16 count) z o
+  by-room : a ≡ false → b ≡ false → c ≡ false → d ≡ true → Ended a b c d n count m z o f (refused 16 count) z o
   by-room e g h i = record { answers = rw (e, g, h, i) refl; leaves = rw (e, g) refl; writes = rw (e, g, h, i) refl }
 
-  by-none : a ≡ false → b ≡ false → c ≡ false → d ≡ false → Ends a b c d n count m z o f (answered count) z f
+  by-none : a ≡ false → b ≡ false → c ≡ false → d ≡ false → Ended a b c d n count m z o f (answered count) z f
   by-none e g h i = record { answers = rw (e, g, h, i) refl; leaves = rw (e, g) refl; writes = rw (e, g, h, i) refl }
 
 -- what is picked by equal tests
@@ -77,7 +77,7 @@ module _ (b : List ℕ) (u : ℕ) (marks out : List ℕ) where
   module _ {l : Layout} (H : Passes b l) where
     by-checks :
         {r : Listed} {ms os : List ℕ}
-        → Ends (ltb (length marks) n) (leb n u) (not (contentsSound (formOf (headerAt b 0) .width) b)) (ltb (length out) (length found)) n (length found)
+        → Ended (ltb (length marks) n) (leb n u) (not (contentsSound (formOf (headerAt b 0) .width) b)) (ltb (length out) (length found)) n (length found)
         marks (cleared n marks) out (found ++ drop (length found) out) (listedOf r) ms os
         → Allowed b u marks out r ms os
     unfolding listAnswer listMarks listOutput

@@ -12,8 +12,8 @@ use lib.Seq.{take-at, drop-at}
 use borrow.Author.Tests.{leb-false, not-false}
 use Rattle.lineage.specs.Lists.{among}
 use Rattle.lineage.specs.Graph.{Reaches}
-use Rattle.lineage.specs.Index.{Made}
-use Rattle.lineage.specs.Stored.{countsIn, headerAt, formOf, stretch, section, decode}
+use Rattle.lineage.specs.Index.{indexOf, Made}
+use Rattle.lineage.specs.Stored.{form1, countsOf, countsFit, countsIn, headerAt, formOf, stretch, section, decode}
 use Rattle.lineage.specs.Sound.{startsPass, sound, contentsSound}
 use Rattle.lineage.specs.Question.{downstream}
 use Rattle.lineage.specs.Calls.{Check, check, answered, anyApplies, indexIn, listEarly, listLate, listAnswer, listOutput}
@@ -25,7 +25,11 @@ use Rattle.laws.proofs.Sound.{made-long, made-paths}
 use Rattle.laws_answers.proofs.Built.{reached-low}
 use Rattle.laws_answers.proofs.Demands.{downstream-rises, downstream-down}
 use Rattle.numbers.proofs.Numbers.{numbers-long}
+use Rattle.stored.specs.Fits.{Fits}
 use Rattle.stored.proofs.Checks.{passed-first, passed-applies}
+use Rattle.stored.proofs.Encoded.{index-encode}
+use Rattle.open.specs.Yields.{Yields}
+use Rattle.open.proofs.Fits.{form1-wide, yielded-fits}
 use Rattle.list.specs.declared.Listed.{Listed}
 use Rattle.list.specs.declared.Listed.the-variants.{Count, Refused}
 use Rattle.list.specs.Listed.{listedOf, Allowed}
@@ -91,6 +95,19 @@ module _ (b : List ℕ) (u : ℕ) (marks out : List ℕ) (count : ℕ) (e : list
         λ r. let hv : v < length (indexIn b .names) = omega (arith, made-long M, reached-low (M .ends) (omega (arith, made-long M, vertex)) r) in
             from (hv, made-paths M u v vertex hv .0 r),
       )
+
+  -- so in whatever graph yields these very bytes, with counts within form 1's bounds
+  pub listed-yielded :
+      (Y : Yields form1 b) → countsFit form1 (countsOf (indexOf (Y .graph) (Y .orders))) ≡ true → (v : ℕ) → (among v list ≡ true) ↔ Reaches (Y .graph) u v
+  listed-yielded Y bounds =
+      let E : Fits form1 (indexOf (Y .graph) (Y .orders)) = yielded-fits form1-wide (Y .graph) (Y .ends) (Y .orders) (Y .permuted) bounds in
+      listed-right (record {
+        graph = Y .graph;
+        ends = Y .ends;
+        orders = Y .orders;
+        permuted = Y .permuted;
+        yields = sym (index-encode E) ∙ ap indexIn (Y .bytes);
+      })
 
 -- two results that the contract allows are equal
 listed-one : (r r' : Listed) → listedOf r ≡ listedOf r' → r ≡ r'
