@@ -4,11 +4,9 @@
  * bytes are lent as an index, the result is an answer or a refusal with its number. That they return what this page says is proved
  * (crates/drobisten; the definitions are in crates/lineage/specs/Calls.antt).
  *
- *     uint8_t none[1];
- *     drobisten_opened o = drobisten_open(index, index_len, none, 0);      refusal 13 tells n in `extra`
- *     uint8_t *marks = malloc(o.extra);
- *     o = drobisten_open(index, index_len, marks, o.extra);                refusal 0: the index is sound
- *     drobisten_asked a = drobisten_ask(index, index_len, marks, o.n, 3, 2);
+ *     static uint8_t marks[4096];                     a byte for each vertex, of which there are at most 4,096
+ *     drobisten_opened o = drobisten_open(index, index_len, marks, sizeof marks);
+ *     drobisten_asked a = drobisten_ask(index, index_len, marks, sizeof marks, 3, 2);
  *     if (a.refusal == 0) printf("%s\n", a.yes ? "yes" : "no");
  *
  * examples/host.c is a whole program.
@@ -20,9 +18,9 @@
  *
  * THREADS. Calls share nothing. Any number may run at the same time on the same index, each with marks of its own, as long as nobody writes to the index.
  *
- * TIME. Every call checks the bytes anew. A refusal from 10 to 14 looks at the header only. Otherwise a call goes a fixed number of times through names
- * and groups, and for each of the d labellings through the k groups and the c child entries; among these it finds one child for each group by
- * halving. A question then looks at no child entry twice: it takes at most k openings and c tries, with at most 2d interval tests a try.
+ * TIME. Every call checks the bytes anew, unless the header, the marks' length or a vertex refuses it. It goes a fixed number of times through the n names, and
+ * for each of the d labellings through the k groups and the c child entries; it also looks up each group once, by halving, among the children of another.
+ * A question then takes at most k openings and c tries of a child, with at most 2d interval tests a try.
  *
  * STACK. The walk of a question nests once for each level of the index that it goes down, 336 bytes each time: 1.4 MB for an index that is one line of 4,096
  * groups, and a few hundred bytes for a flat one. Everything else is loops.
@@ -79,7 +77,7 @@ typedef struct {
 /* Opens a stored index: is it sound, and how large is it?
  *
  * Gives refusal 0 with n, k, c and d exactly where some edge list and d orders yield these very bytes; otherwise the first of the refusals 10, 11, 12, 13
- * and 15 that applies.
+ * and 15 that applies. Lent no marks (marks_len 0), it refuses an index whose header passes with 13, and so tells its n, unless that is 0.
  *
  * marks afterwards   refusal 0 or 15: the first n bytes are 0, those behind them are as they were
  *                    refusal 10 to 13: all are as they were

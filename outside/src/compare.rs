@@ -17,12 +17,14 @@ fn marks_for(index: &[u8]) -> usize {
     (u32::from_le_bytes(index[4..8].try_into().unwrap()) as usize).min(5_000)
 }
 
-pub fn open(library: &mut Library, index: &[u8], marks: usize) {
+/// The number of the refusal, 0 where there is none.
+pub fn open(library: &mut Library, index: &[u8], marks: usize) -> u32 {
     let (mut ours, mut theirs) = (vec![PATTERN; marks], vec![PATTERN; marks]);
     let got = library.open(index, &mut ours);
     let expected = independent::open(index, &mut theirs);
     assert_eq!(got, expected, "open of {} bytes with {marks} marks", index.len());
     assert_eq!(ours, theirs, "marks after open: {expected:?}");
+    got.map_or_else(|refusal| refusal.number, |_| 0)
 }
 
 /// Open with marks as long as the header asks, and one shorter and longer.
@@ -46,11 +48,12 @@ pub fn ask(library: &mut Library, index: &[u8], pairs: &[(u32, u32)]) {
 }
 
 /// Questions of an index that the independent program has made and need not judge each time; answers by its own walk, yes and no by plain closure.
-pub fn ask_made(library: &mut Library, graph: &Graph, index: &Index, image: &[u8], pairs: &[(u32, u32)]) {
+pub fn ask_made(library: &mut Library, graph: &Graph, index: &Index, image: &[u8], pairs: &[(u32, u32)]) -> Vec<Said> {
     let closure = independent::closure::Closure::of(graph);
     let n = graph.n;
     let before = vec![PATTERN; n + 3];
-    for (&(u, v), (got, marks)) in pairs.iter().zip(library.ask_all(image, &before, pairs)) {
+    let replies = library.ask_all(image, &before, pairs);
+    let compared = pairs.iter().zip(replies).map(|(&(u, v), (got, marks))| {
         let asked = index.question(u as usize, v as usize);
         let got = got.expect("a question in range of a sound index is answered");
         assert_eq!(got, Said::from(asked.answer), "{u} to {v}");
@@ -59,7 +62,9 @@ pub fn ask_made(library: &mut Library, graph: &Graph, index: &Index, image: &[u8
         expected[..n].fill(0);
         asked.opened.iter().for_each(|&name| expected[name] = 1);
         assert_eq!(marks, expected, "marks after {u} to {v}");
-    }
+        got
+    });
+    compared.collect()
 }
 
 /// The downstream list into a list that is longer than needed, exact, and one too short.
