@@ -45,7 +45,9 @@ fn the_walk_goes_4096_levels_deep() {
     let mut edges: Vec<(usize, usize)> = (0..4_093).map(|v| (v, v + 1)).collect();
     edges.extend([(4_093, 4_094), (4_095, 4_094)]);
     let deep = Graph { n: 4_096, edges };
-    for orders in [vec![(0..4_096).rev().collect::<Vec<usize>>()], chance.orders(4_096, 1)] {
+    let backwards: Vec<usize> = (0..4_096).rev().collect();
+    assert!(Index::of(&deep, &[backwards.clone()]).question(0, 4_095).answer.opened > 4_000, "this walk is deep");
+    for orders in [vec![backwards], chance.orders(4_096, 1)] {
         let index = Index::of(&deep, &orders);
         compare::ask_made(&mut library, &deep, &index, &encode(&index), &[(0, 4_094), (0, 4_095), (4_095, 4_094), (4_095, 0)]);
     }

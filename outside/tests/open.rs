@@ -67,6 +67,14 @@ fn all_images_of_four_vertices() {
     images_of_all_graphs(4, 1, 64);
 }
 
+/// The same without leaving any image out: minutes, so only when asked for (`cargo test --release --test open -- --ignored`).
+#[test]
+#[ignore]
+fn all_alterations_of_all_images() {
+    images_of_all_graphs(3, 2, 1);
+    images_of_all_graphs(4, 1, 1);
+}
+
 #[test]
 fn damaged_images_of_random_graphs() {
     let (mut library, mut chance) = (Library::start(), Chance::new(21));
