@@ -16,7 +16,12 @@ fn low(x: usize) -> u32 {
 }
 
 #[no_mangle]
-pub extern "C" fn trial_list(index: &[u8], marks: &mut [u8], out: &mut [u32], vertex: u32) -> Counted {
+pub extern "C" fn trial_list(
+    index: &[u8],
+    marks: &mut [u8],
+    out: &mut [u32],
+    vertex: u32,
+) -> Counted {
     match list::list(index, vertex, marks, out) {
         Listed::Count(count) => Counted {
             refusal: 0,
