@@ -2,3 +2,4 @@
 pub mod Behind
 pub mod Labellings
 pub mod Groups
+pub mod Encoded
