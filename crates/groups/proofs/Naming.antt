@@ -16,7 +16,8 @@ use Rattle.rows.proofs.Regions.{kept-apart, read-at}
 use Rattle.orders.specs.Stamped.{Stamped}
 use Rattle.groups.specs.Trees.{treesFrom, treesOf, leastOf, nameIn, treeNames}
 use Rattle.groups.specs.Fit.{RunFit, NamesFit}
-use Rattle.groups.proofs.Regions.{part-part, apart-part}
+use Rattle.numbers.proofs.Parts.{part-part}
+use Rattle.groups.proofs.Regions.{apart-part}
 use Rattle.groups.proofs.Trees.{part-then, trees-step}
 
 -- the name in the first tree, or in those behind it
@@ -73,7 +74,7 @@ module _ {w₀ : List ℕ} {out low n base : ℕ} (f : NamesFit w₀ out low n b
 
     run-is : part w (out + b) (q - b) ≡ part (part w₀ out n) b (q - b)
     run-is =
-        sym (part-part w out n b (q - b) (omega (arith, begin, i .inside)) (omega (arith, i .kept .long, f .out-there .fits)))
+        sym (part-part w out n b (q - b) (omega (arith, begin, i .inside)))
         ∙ ap (λ z. part z b (q - b)) (kept-apart (i .kept) (f .out-there .apart))
 
     run-fit : RunFit w (out + b) (q - b) base n

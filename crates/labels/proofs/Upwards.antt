@@ -15,11 +15,11 @@ use Rattle.lineage.specs.Sound.{childOf}
 use Rattle.numbers.specs.Regions.{Kept}
 use Rattle.numbers.proofs.Regions.{part-length, part-set, kept-same}
 use Rattle.laws.proofs.Lists.{in-getD, at-position, position-low, table-at, table-long}
+use Rattle.numbers.proofs.Parts.{part-part}
 use Rattle.rows.specs.Rows.{rowsIn}
 use Rattle.rows.proofs.Orders.{order-low}
 use Rattle.rows.proofs.Laid.{start-low, row-below, below-in}
 use Rattle.rows.proofs.Regions.{kept-apart, kept-more, read-at}
-use Rattle.groups.proofs.Regions.{part-part}
 use Rattle.labels.specs.Labels.{childrenIn}
 use Rattle.labels.specs.Fit.{RowFit, UpFit}
 use Rattle.labels.proofs.Ranking.{position-most}
@@ -114,7 +114,7 @@ module _ {w₀ : List ℕ} {out k starts values c base : ℕ} (f : UpFit w₀ ou
         let s : ℕ = getD (part w₀ starts (k + 1)) p 0 in
         let size : ℕ = getD (part w₀ starts (k + 1)) (suc p) 0 - s in
         ap₂ (λ a b. part w (values + a) (b - a)) start-is end-is
-        ∙ sym (part-part w values c s size (omega (arith, inside, f .laid .rising p place-low)) (omega (arith, f .values-there .fits, i .kept .long)))
+        ∙ sym (part-part w values c s size (omega (arith, inside, f .laid .rising p place-low)))
         ∙ ap (λ z. part z s size) (kept-apart (i .kept) (f .values-there .apart))
 
     pub row-fit : RowFit w (values + getD w (starts + p) 0) (getD w (starts + (p + 1)) 0 - getD w (starts + p) 0) base k

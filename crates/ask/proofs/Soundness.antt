@@ -1,0 +1,166 @@
+-- What sound contents give a question: the sections are fit for the walk, the group list rises, and every vertex's group has a place.
+use mathlib.Core.Bool.{true}
+use mathlib.Core.Logic.{_≢_}
+use mathlib.Core.Path.{_≡_, refl, sym, ap, _∙_}
+use mathlib.Core.List.{List, []}
+use Prim.Native.Nat.{ℕ, suc, _+_, _-_, _≤_, _<_}
+use native.Mathlib.Omega.{arith}
+use native.Mathlib.Numerals.{add-one}
+use lib.ListN.{length, getD, replicate, length-replicate, getD-replicate}
+use Rattle.lineage.specs.Lists.{among}
+use Rattle.lineage.specs.Graph.{placeOf}
+use Rattle.lineage.specs.Numbers.{numAt, numbers}
+use Rattle.lineage.specs.Sound.{childOf}
+use Rattle.lineage.specs.Question.{between, placeIn, walk, answer}
+use Rattle.laws.specs.Sound.{SoundGroups}
+use Rattle.laws.proofs.Lists.{in-getD}
+use Rattle.laws.proofs.Rising.{Rises}
+use Rattle.laws.proofs.Grouped.{groups-rise, name-group, group-name, place-low, levels-fall}
+use Rattle.laws.proofs.Decides.{sound-decides}
+use Rattle.numbers.proofs.Numbers.{numbers-long, numbers-at}
+use Rattle.sections.specs.Sections.{childrenIn, indexFrom}
+use Rattle.sections.proofs.Sections.{children-long, row-long, row-at}
+use Rattle.stored.specs.declared.header.Layout.{Layout}
+use Rattle.stored.proofs.Starts.{Rising, starts-rise, starts-low}
+use Rattle.ask.specs.Fit.{count, groupsIn, Fit}
+use Rattle.ask.specs.Lent.{indexAt, Lent}
+use Rattle.ask.proofs.Rows.{count-is}
+
+module _ {l : Layout} {names groups levels starts children labels : List ℕ} (S : Lent l names groups levels starts children labels) where
+  abbrev w : ℕ
+  w = l .width
+
+  abbrev n : ℕ
+  n = l .n
+
+  abbrev k : ℕ
+  k = l .k
+
+  abbrev c : ℕ
+  c = l .c
+
+  rows : List (List ℕ)
+  rows = childrenIn w starts children k c
+
+  sound : SoundGroups (numbers w names n) (numbers w groups k) (numbers w levels k) rows
+  unfolding indexFrom rows
+  sound = sound-decides (indexAt l names groups levels starts children labels) .0 (S .index-sound) .condensed
+
+  rows-long : length rows ≡ k
+  unfolding rows
+  rows-long = children-long w starts children k c
+
+  -- child starts rise to c
+  starts-rising : Rising (numbers w starts (k + 1)) k c
+  starts-rising = starts-rise (numbers w starts (k + 1)) k c (S .starts-sound)
+
+  next-at : (p : ℕ) → p < k → getD (numbers w starts (k + 1)) (suc p) 0 ≡ numAt w starts (p + 1)
+  next-at p h = rw (add-one p) (numbers-at w starts (k + 1) (suc p) (omega arith))
+
+  rises : (p : ℕ) → p < k → numAt w starts p ≤ numAt w starts (p + 1)
+  rises p h = omega (arith, starts-rising .rise p h, numbers-at w starts (k + 1) p (omega arith), next-at p h)
+
+  ends : (p : ℕ) → p < k → numAt w starts (p + 1) ≤ c
+  ends p h = omega (arith, starts-low starts-rising (suc p) h, next-at p h)
+
+  -- number i of the children, in the row of p
+  module _ (p i : ℕ) (h : p < k) (from : numAt w starts p ≤ i) (to : i < numAt w starts (p + 1)) where
+    row : List ℕ
+    row = getD rows p []
+
+    in-row : i - numAt w starts p < length row
+    unfolding rows row
+    in-row = omega (arith, row-long w starts children k c p h (rises p h) (ends p h))
+
+    child-is : getD row (i - numAt w starts p) 0 ≡ numAt w children i
+    unfolding rows row
+    child-is =
+        let e : numAt w starts p + (i - numAt w starts p) ≡ i = omega arith in
+        row-at w starts children k c p h (rises p h) (ends p h) (i - numAt w starts p) (omega arith) ∙ ap (numAt w children) e
+
+    child-low : numAt w children i < k
+    unfolding row
+    child-low = omega (arith, child-is, rows-long, sound .child-low p (i - numAt w starts p) (omega (arith, rows-long)) in-row)
+
+    level-falls : numAt w levels (numAt w children i) < numAt w levels p
+    unfolding row
+    level-falls =
+        let member : childOf rows p (numAt w children i) ≡ true = rw child-is at (in-getD row (i - numAt w starts p) in-row) in
+        omega (
+          arith,
+          levels-fall sound p (numAt w children i) (omega (arith, rows-long)) member,
+          numbers-at w levels k p h,
+          numbers-at w levels k (numAt w children i) child-low,
+        )
+
+  -- the sections are fit for the walk towards t
+  fit : (t : ℕ) → t < k → Fit w k (l .d) t groups levels starts children labels n
+  fit t h =
+      let all : count w children ≡ c = count-is w c children (S .width) (S .children-long) in
+      record {
+        labelled = record {
+          width = S .width;
+          groups-few = omega (arith, S .vertices-few, S .groups-few);
+          labellings-few = S .labellings-few;
+          long = omega (arith, S .labels-long);
+        };
+        target-low = h;
+        groups-long = omega (arith, S .groups-long);
+        levels-long = omega (arith, S .levels-long);
+        starts-long = omega (arith, S .starts-long);
+        start-rises = rises;
+        end-low = λ p b. omega (arith, all, ends p b);
+        child-low = child-low;
+        level-falls = level-falls;
+        name-low = λ p b. omega (arith, numbers-at w groups k p b, numbers-long w names n, group-name sound p (omega (arith, rows-long)) .0);
+      }
+
+  -- the group list rises
+  pub list-rises : Rises (numbers w groups k)
+  list-rises = rw (sound .groups-are) (groups-rise (numbers w names n))
+
+  -- the group of vertex u, whose name was read
+  module _ {u name : ℕ} (h : u < n) (named : name ≡ numAt w names u) where
+    name-is : name ≡ getD (numbers w names n) u 0
+    name-is = named ∙ sym (numbers-at w names n u h)
+
+    low : u < length (numbers w names n)
+    low = omega (arith, numbers-long w names n)
+
+    pub name-listed : among name (numbers w groups k) ≡ true
+    name-listed = rw name-is (name-group sound u low)
+
+    module _ {x : ℕ} (placed : x ≡ placeOf (numbers w groups k) name) where
+      pub vertex-low : x < k
+      vertex-low = rw (placed, name-is) (omega (arith, rows-long, place-low sound u low))
+
+      pub vertex-placed : x ≡ placeIn (indexAt l names groups levels starts children labels) u
+      unfolding indexFrom
+      vertex-placed = placed ∙ ap (placeOf (numbers w groups k)) name-is
+
+  -- marks that are all 0, one for each vertex
+  module _ (m : List ℕ) (cleared : m ≡ replicate n 0) where
+    marks-long : length m ≡ n
+    marks-long = ap length cleared ∙ length-replicate n 0
+
+    pub marks-few : length m ≤ 200000
+    marks-few = omega (arith, marks-long, S .vertices-few)
+
+    pub fit-marks : (t : ℕ) → t < k → Fit w k (l .d) t groups levels starts children labels (length m)
+    fit-marks t h = rw marks-long (fit t h)
+
+    pub none-marked : (p : ℕ) → p < k → getD m (numAt w groups p) 0 ≢ 1
+    none-marked p h z =
+        let unset : _≡_ {A = ℕ} (getD (replicate n 0) (numAt w groups p) 0) 0 = getD-replicate n (numAt w groups p) 0 0 (fit p h .name-low p h) in
+        omega (arith, z, ap (λ (q : List ℕ). getD q (numAt w groups p) 0) cleared)
+
+  -- the answer between the places of u and v is the answer to the question
+  pub question-is : (u v x t : ℕ) (m : List ℕ)
+      → x ≡ placeIn (indexAt l names groups levels starts children labels) u
+      → t ≡ placeIn (indexAt l names groups levels starts children labels) v
+      → m ≡ replicate n 0
+      → between (groupsIn w k (l .d) groups levels starts children labels) x t m ≡ answer (indexAt l names groups levels starts children labels) u v
+  unfolding answer walk indexFrom
+  question-is u v x t m ex et em =
+      let all : count w children ≡ c = count-is w c children (S .width) (S .children-long) in
+      rw (all, ex, et, em, numbers-long w names n) refl

@@ -1,0 +1,174 @@
+-- What an answer to a question on stored bytes says, wherever one is given, and whatever edge list and orders yield the bytes: it is yes exactly where
+-- a path of zero or more edges leads from source to target; the count is that of the walk's openings and of the marks left; on a no the groups
+-- opened are those reached through passing groups; and more orders open no more groups. `ask` gives these answers, by its contract.
+use mathlib.Core.Bool.{Bool, true, false}
+use mathlib.Core.Logic.{_↔_, Iff·symm, Iff·trans}
+use mathlib.Core.Path.{_≡_, refl, sym, ap, subst, _∙_}
+use mathlib.Core.List.{List, _++_}
+use Prim.Native.Nat.{ℕ, _+_, _≤_, _<_}
+use native.Mathlib.Omega.{arith}
+use lib.ListN.{length, getD, take, drop, length-map, List·getD-append}
+use lib.Seq.{take-at, drop-at}
+use Rattle.lineage.specs.Lists.{Every, ones}
+use Rattle.lineage.specs.Graph.{Graph, Ends, Reaches}
+use Rattle.lineage.specs.Labels.{Order}
+use Rattle.lineage.specs.Index.{Index, indexOf, Made}
+use Rattle.lineage.specs.Stored.{countsIn, headerAt, formOf, stretch, section, decode}
+use Rattle.lineage.specs.Question.{placeIn, netOf, answer}
+use Rattle.lineage.specs.Calls.{answered, indexIn, Said, askAnswer, askMarks}
+use Rattle.laws.proofs.Rising.{Distinct}
+use Rattle.laws.proofs.Grouped.{group-name}
+use Rattle.laws.proofs.Sound.{made-long}
+use Rattle.laws_answers.specs.Answers.{Member, Opened, marksOf, NoMore}
+use Rattle.laws_answers.specs.Walks.{Through}
+use Rattle.laws_answers.proofs.Demands.{answer-right, marks-are-opened, opened-on-a-no, more-orders}
+use Rattle.numbers.proofs.Numbers.{numbers-long}
+use Rattle.numbers.proofs.Tables.{table-long}
+use Rattle.ask.specs.declared.Asked.{Asked}
+use Rattle.ask.specs.declared.Asked.the-variants.{Answer, Refused}
+use Rattle.ask.specs.Asked.{askedOf}
+use Rattle.ask.proofs.Answered.{Answered, answered-only, none-applies}
+
+-- the index that bytes hold has n names and d labellings
+names-long : (b : List ℕ) → length (indexIn b .names) ≡ countsIn b .n
+unfolding decode section
+names-long b = let w : ℕ = formOf (headerAt b 0) .width in numbers-long w (stretch w (countsIn b) b 0) (countsIn b .n)
+
+labels-long : (b : List ℕ) → length (indexIn b .labels) ≡ countsIn b .d
+unfolding decode
+labels-long b = table-long _ (countsIn b .d)
+
+orders-long : (G : Graph) (orders : List (List ℕ)) → length (indexOf G orders .labels) ≡ length orders
+unfolding indexOf
+orders-long G orders = length-map orders _
+
+-- the groups that an answered question opened, each once: they are counted, and of the marks below n theirs are 1 and all others 0; later ones are as they were
+pub record Left (b : List ℕ) (u v : ℕ) (s : Said) (marks groups : List ℕ) : Type 0 where
+  pub opened : Opened (indexIn b) (placeIn (indexIn b) u) (placeIn (indexIn b) v) (s .reason) groups
+  pub once : Distinct groups
+  pub count : s .opened ≡ length groups
+  pub left : s .opened ≡ ones (take (countsIn b .n) (askMarks b u v marks))
+  pub names : take (countsIn b .n) (askMarks b u v marks) ≡ marksOf (indexIn b) groups
+  pub later : drop (countsIn b .n) (askMarks b u v marks) ≡ drop (countsIn b .n) marks
+
+names-same : (G : Graph) (orders orders' : List (List ℕ)) → length (indexOf G orders .names) ≡ length (indexOf G orders' .names)
+unfolding indexOf
+names-same G orders orders' = refl
+
+module _ (b : List ℕ) (u v : ℕ) (marks : List ℕ) (s : Said) (e : askAnswer b u v (length marks) ≡ answered s) where
+  A : Answered b u v s
+  A = answered-only b u v (length marks) s e
+
+  abbrev I : Index
+  I = indexIn b
+
+  source : u < length (I .names)
+  source = omega (arith, names-long b, A .source-low)
+
+  target : v < length (I .names)
+  target = omega (arith, names-long b, A .target-low)
+
+  some : 0 < length (I .labels)
+  some = omega (arith, labels-long b, A .some)
+
+  -- the answer is yes exactly where u reaches v, in whatever graph yields the bytes
+  pub asked-right : (M : Made (indexIn b)) → (s .says ≡ true) ↔ Reaches (M .graph) u v
+  asked-right M =
+      let G : Graph = M .graph in
+      let ordered : 0 < length (M .orders) = omega (arith, orders-long G (M .orders), ap (λ (J : Index). length (J .labels)) (M .yields), some) in
+      let same : answer (indexOf G (M .orders)) u v .says ≡ s .says = ap (λ (J : Index). answer J u v .says) (M .yields) ∙ ap (λ (z : Said). z .says) (A .said) in
+      subst (λ (z : Bool). (z ≡ true) ↔ Reaches G u v) same
+      (answer-right G (M .ends) (M .orders) (M .permuted) ordered u v (omega (arith, made-long M, source)) (omega (arith, made-long M, target)))
+
+  -- so all those graphs have the same paths between the vertices asked about
+  pub asked-same : (M M' : Made (indexIn b)) → Reaches (M .graph) u v ↔ Reaches (M' .graph) u v
+  asked-same M M' = Iff·trans (Iff·symm (asked-right M)) (asked-right M')
+
+  -- the marks after it: the answer's, and behind them those from n on as they were
+  marks-are : askMarks b u v marks ≡ answer I u v .marks ++ drop (countsIn b .n) marks
+  unfolding askMarks
+  marks-are = rw (none-applies b u v (length marks) s e) refl
+
+  answer-long : length (answer I u v .marks) ≡ countsIn b .n
+  answer-long = let (o, O, K) = marks-are-opened I (A .sound) u v source in ap length (K .marks) ∙ table-long _ (length (I .names)) ∙ names-long b
+
+  own : take (countsIn b .n) (askMarks b u v marks) ≡ answer I u v .marks
+  own = rw marks-are (take-at (answer I u v .marks) (drop (countsIn b .n) marks) (countsIn b .n) answer-long)
+
+  mark-at : (i : ℕ) → i < countsIn b .n → getD (askMarks b u v marks) i 0 ≡ getD (answer I u v .marks) i 0
+  mark-at i h = rw marks-are (List·getD-append (answer I u v .marks) (drop (countsIn b .n) marks) 0 i (omega (arith, answer-long)))
+
+  -- the count is that of the groups that the walk opened, and of the marks left; the marks are theirs
+  pub asked-marks : (groups : List ℕ) × Left b u v s marks groups
+  asked-marks =
+      let (o, O, K) = marks-are-opened I (A .sound) u v source in
+      let counted : s .opened ≡ answer I u v .opened = sym (ap (λ (z : Said). z .opened) (A .said)) in (
+        o,
+        record {
+          opened = subst (λ (r : ℕ). Opened I (placeIn I u) (placeIn I v) r o) (ap (λ (z : Said). z .reason) (A .said)) O;
+          once = K .once;
+          count = counted ∙ K .count;
+          left = counted ∙ K .left ∙ ap ones (sym own);
+          names = own ∙ K .marks;
+          later = rw marks-are (drop-at (answer I u v .marks) (drop (countsIn b .n) marks) (countsIn b .n) answer-long);
+        },
+      )
+
+  -- on a no the groups opened are exactly those reached from u's child by child, where every group on the way, both ends included, passes rules 3 and 4
+  pub asked-no :
+      s .says ≡ false → (p : ℕ) → p < length (I .children)
+      → (getD (askMarks b u v marks) (getD (I .groups) p 0) 0 ≡ 1) ↔ Through (netOf I (placeIn I v) .children) (netOf I (placeIn I v) .no) (placeIn I u) p
+  asked-no says p h =
+      let named : getD (I .groups) p 0 < countsIn b .n = omega (arith, group-name (A .sound .condensed) p h .0, names-long b) in
+      subst
+      (λ (z : ℕ). (z ≡ 1) ↔ Through (netOf I (placeIn I v) .children) (netOf I (placeIn I v) .no) (placeIn I u) p)
+      (sym (mark-at (getD (I .groups) p 0) named))
+      (opened-on-a-no I (A .sound) some u v source target (ap (λ (z : Said). z .says) (A .said) ∙ says) p h)
+
+-- Demand 3: of two stored indexes of one edge list, the orders of the first among those of the second, the second says the same, opens no group that the first
+-- does not open, and counts no more.
+module _ (G : Graph) (ends : Ends G) (orders₁ orders₂ : List (List ℕ)) (up : Every (λ o. Member o orders₂) orders₁) (permuted : Every (Order (G .n)) orders₂) where
+  pub asked-fewer :
+      (b₁ b₂ : List ℕ) → indexOf G orders₁ ≡ indexIn b₁ → indexOf G orders₂ ≡ indexIn b₂
+      → (u v : ℕ) (marks₁ marks₂ : List ℕ) (s₁ s₂ : Said) → askAnswer b₁ u v (length marks₁) ≡ answered s₁ → askAnswer b₂ u v (length marks₂) ≡ answered s₂
+      → (s₂ .says ≡ s₁ .says) × ((s₂ .opened ≤ s₁ .opened) × ((i : ℕ) → i < G .n → getD (askMarks b₂ u v marks₂) i 0 ≡ 1 → getD (askMarks b₁ u v marks₁) i 0 ≡ 1))
+  asked-fewer b₁ b₂ y₁ y₂ u v marks₁ marks₂ s₁ s₂ e₁ e₂ =
+      let A₁ : Answered b₁ u v s₁ = answered-only b₁ u v (length marks₁) s₁ e₁ in
+      let A₂ : Answered b₂ u v s₂ = answered-only b₂ u v (length marks₂) s₂ e₂ in
+      let sized₂ : countsIn b₂ .n ≡ G .n =
+      sym (names-long b₂) ∙ made-long (record { graph = G; ends = ends; orders = orders₂; permuted = permuted; yields = y₂ }) in
+      let sized₁ : countsIn b₁ .n ≡ G .n =
+      sym (names-long b₁) ∙ ap (λ (J : Index). length (J .names)) (sym y₁) ∙ names-same G orders₁ orders₂
+      ∙ ap (λ (J : Index). length (J .names)) y₂ ∙ names-long b₂ ∙ sized₂ in
+      let ordered : 0 < length orders₁ = omega (arith, orders-long G orders₁, ap (λ (J : Index). length (J .labels)) y₁, labels-long b₁, A₁ .some) in
+      let D : NoMore (answer (indexIn b₁) u v) (answer (indexIn b₂) u v) =
+      rw (y₁, y₂) at
+      (more-orders G ends orders₁ orders₂ up permuted ordered u v (omega (arith, sized₁, A₁ .source-low)) (omega (arith, sized₁, A₁ .target-low))) in (
+        sym (ap (λ (z : Said). z .says) (A₂ .said)) ∙ D .says ∙ ap (λ (z : Said). z .says) (A₁ .said),
+        (
+          omega (arith, D .count, ap (λ (z : Said). z .opened) (A₁ .said), ap (λ (z : Said). z .opened) (A₂ .said)),
+          λ i h one.
+              mark-at b₁ u v marks₁ s₁ e₁ i (omega (arith, sized₁)) ∙ D .marks i (sym (mark-at b₂ u v marks₂ s₂ e₂ i (omega (arith, sized₂))) ∙ one),
+        ),
+      )
+
+-- What `ask` may answer and leave, by its contract: two results are equal.
+pub record Allowed (b : List ℕ) (u v : ℕ) (marks : List ℕ) (r : Asked) (m : List ℕ) : Type 0 where
+  pub answers : askedOf r ≡ askAnswer b u v (length marks)
+  pub leaves : m ≡ askMarks b u v marks
+
+answer-one :
+    {says says' : Bool} {reason reason' opened opened' : ℕ}
+    → says ≡ says' → reason ≡ reason' → opened ≡ opened' → Answer says reason opened ≡ Answer says' reason' opened'
+answer-one a b c = cc
+
+asked-one : (r r' : Asked) → askedOf r ≡ askedOf r' → r ≡ r'
+asked-one (Answer says reason opened) (Answer says' reason' opened') e =
+    let same : _≡_ {A = Said} (record { says = says; reason = reason; opened = opened }) (record { says = says'; reason = reason'; opened = opened' }) = cc in
+    answer-one (ap (λ (z : Said). z .says) same) (ap (λ (z : Said). z .reason) same) (ap (λ (z : Said). z .opened) same)
+asked-one (Answer says reason opened) (Refused number extra) e = let z : _≡_ {A = ℕ} 0 1 = cc in absurd (omega arith)
+asked-one (Refused number extra) (Answer says reason opened) e = let z : _≡_ {A = ℕ} 0 1 = cc in absurd (omega arith)
+asked-one (Refused number extra) (Refused number' extra') e = cc
+
+pub asked-once : {b : List ℕ} {u v : ℕ} {marks : List ℕ} {r r' : Asked} {m m' : List ℕ} → Allowed b u v marks r m → Allowed b u v marks r' m' → (r ≡ r') × (m ≡ m')
+asked-once A B = (asked-one _ _ (A .answers ∙ sym (B .answers)), A .leaves ∙ sym (B .leaves))

@@ -1,0 +1,6 @@
+-- What the contracts inside this crate say of the stored sections.
+pub mod Intervals
+pub mod Fit
+pub mod Replies
+pub mod Lent
+pub mod Asked

@@ -1,0 +1,145 @@
+// A question over the sections of a sound index: the six rules, of which the first that holds decides.
+ghost use mathlib.Core.Bool.{cond};
+ghost use mathlib.Core.Path.{_≡_};
+ghost use Prim.Native.Nat.{_≤_, _<_};
+ghost use lib.ListN.{length, getD, replicate};
+ghost use Rattle.lineage.specs.Numbers.{numAt};
+ghost use Rattle.lineage.specs.Question.{between, answer};
+ghost use Rattle.ask.specs.Fit.{groupsIn, Fit};
+ghost use Rattle.ask.specs.Replies.{answerBy};
+ghost use Rattle.ask.specs.Lent.{indexAt, Lent};
+use crate::intervals;
+use crate::place;
+use crate::walk;
+use crate::walk::Seen;
+use stored::header::Layout;
+
+// Yes or no, the reason, the number of the labelling that decided (0 where none did), and the number of groups opened.
+pub struct Reply {
+    pub says: bool,
+    pub reason: u32,
+    pub deciding: u32,
+    pub opened: u32,
+}
+
+// A reply under reasons 1 to 4: no group is opened.
+fn plain(says: bool, reason: u32, deciding: usize) -> Reply
+    requires { ⌜ deciding ≤ 5 ⌝ }
+    ensures { λ r. ⌜ r ≡ record { says = says; reason = reason; deciding = deciding; opened = 0 } ⌝ }
+{
+    Reply {
+        says,
+        reason,
+        deciding: deciding as u32,
+        opened: 0,
+    }
+}
+
+// A reply by the walk: reason 5 where it found the target, otherwise 6.
+fn by_walk(a: Seen) -> Reply
+    requires { ⌜ (a .deciding ≤ 5) × (a .opened ≤ 200000) ⌝ }
+    ensures { λ r. ⌜ r ≡ record { says = a .found; reason = cond (a .found) 5 6; deciding = a .deciding; opened = a .opened } ⌝ }
+{
+    let deciding = a.deciding as u32;
+    let opened = a.opened as u32;
+    if a.found {
+        return Reply {
+            says: true,
+            reason: 5,
+            deciding,
+            opened,
+        };
+    }
+    Reply {
+        says: false,
+        reason: 6,
+        deciding,
+        opened,
+    }
+}
+
+// The answer between two groups, by place.
+pub fn decide(
+    groups: &[u8],
+    levels: &[u8],
+    starts: &[u8],
+    children: &[u8],
+    labels: &[u8],
+    w: usize,
+    k: usize,
+    d: usize,
+    x: usize,
+    t: usize,
+    marks: &mut [u8],
+) -> Reply
+    requires { ⌜ Fit w k d t (now groups) (now levels) (now starts) (now children) (now labels) (length (now marks)) ⌝ }
+    requires { ⌜ (x < k) × ((getD (now marks) (numAt w (now groups) x) 0 ≡ 1 → ⊥) × (length (now marks) ≤ 200000)) ⌝ }
+    ensures { λ r. ⌜ answerBy r (now (marks .exit)) ≡ between (groupsIn w k d (now (groups .entry)) (now (levels .entry)) (now (starts .entry)) (now (children .entry)) (now (labels .entry))) x t (now (marks .entry)) ⌝ }
+{
+    if x == t {
+        return plain(true, 1, 0);
+    }
+    let inner = intervals::inner_by(labels, w, k, d, x, t);
+    if 0 < inner {
+        return plain(true, 2, inner);
+    }
+    let level = numbers::num(levels, w, x);
+    if level <= numbers::num(levels, w, t) {
+        return plain(false, 3, 0);
+    }
+    let outer = intervals::outer_by(labels, w, k, d, x, t);
+    if 0 < outer {
+        return plain(false, 4, outer);
+    }
+    let a = walk::open_group(
+        groups,
+        levels,
+        starts,
+        children,
+        labels,
+        w,
+        k,
+        d,
+        t,
+        marks,
+        level,
+        x,
+    );
+    by_walk(a)
+}
+
+// The answer between two vertices; the marks, one for each vertex, are all 0 before.
+pub fn question(
+    names: &[u8],
+    groups: &[u8],
+    levels: &[u8],
+    starts: &[u8],
+    children: &[u8],
+    labels: &[u8],
+    l: Layout,
+    u: usize,
+    v: usize,
+    marks: &mut [u8],
+) -> Reply
+    requires { ⌜ Lent l (now names) (now groups) (now levels) (now starts) (now children) (now labels) ⌝ }
+    requires { ⌜ (u < l .n) × ((v < l .n) × (now marks ≡ replicate (l .n) 0)) ⌝ }
+    ensures { λ r. ⌜ answerBy r (now (marks .exit)) ≡ answer (indexAt l (now (names .entry)) (now (groups .entry)) (now (levels .entry)) (now (starts .entry)) (now (children .entry)) (now (labels .entry))) u v ⌝ }
+{
+    let w = l.width;
+    let k = l.k;
+    let x = place::place_of(groups, w, k, numbers::num(names, w, u));
+    let t = place::place_of(groups, w, k, numbers::num(names, w, v));
+    decide(
+        groups,
+        levels,
+        starts,
+        children,
+        labels,
+        w,
+        k,
+        l.d,
+        x,
+        t,
+        marks,
+    )
+}

@@ -1,0 +1,105 @@
+-- What a list of stored bytes says, wherever one is given, and whatever edge list and orders yield the bytes: it holds the vertices to which a path of zero or
+-- more edges leads from the vertex, rising, and nothing behind them is touched. `list` gives this, by its contract; and its contract allows one result.
+use mathlib.Core.Bool.{Bool, true, false, not, _||_}
+use mathlib.Core.Logic.{_↔_}
+use mathlib.Core.Path.{_≡_, refl, sym, ap, subst, _∙_}
+use mathlib.Core.List.{List, [], _∷_, _++_}
+use Prim.Native.Nat.{ℕ, zero, suc, _+_, _≤_, _<_}
+use native.Mathlib.Nat.{not-suc-le-zero}
+use native.Mathlib.Omega.{arith}
+use lib.ListN.{length, getD, take, drop}
+use lib.Seq.{take-at, drop-at}
+use borrow.Author.Tests.{leb-false, not-false}
+use Rattle.lineage.specs.Lists.{among}
+use Rattle.lineage.specs.Graph.{Reaches}
+use Rattle.lineage.specs.Index.{Index, Made}
+use Rattle.lineage.specs.Stored.{countsIn, headerAt, formOf, stretch, section, decode}
+use Rattle.lineage.specs.Sound.{startsPass, sound, contentsSound}
+use Rattle.lineage.specs.Question.{downstream}
+use Rattle.lineage.specs.Calls.{Check, check, answered, outcome, anyApplies, indexIn, listEarly, listLate, listAnswer, listOutput}
+use Rattle.laws.specs.Sound.{Sound}
+use Rattle.laws.proofs.Tests.{or-false-left, or-false-right, and-right}
+use Rattle.laws.proofs.Rising.{Rises}
+use Rattle.laws.proofs.Decides.{sound-decides}
+use Rattle.laws.proofs.Sound.{made-long, made-paths}
+use Rattle.laws_answers.proofs.Built.{reached-low}
+use Rattle.laws_answers.proofs.Demands.{downstream-rises, downstream-down}
+use Rattle.numbers.proofs.Numbers.{numbers-long}
+use Rattle.stored.proofs.Checks.{passed-first, passed-applies}
+use Rattle.list.specs.declared.Listed.{Listed}
+use Rattle.list.specs.declared.Listed.the-variants.{Count, Refused}
+use Rattle.list.specs.Listed.{listedOf, Allowed}
+
+-- where no check applies, none of them does
+none-at : (cs : List Check) → anyApplies cs ≡ false → (i : ℕ) → i < length cs → getD cs i (check false 0 0) .applies ≡ false
+none-at [] h i l = absurd (not-suc-le-zero l)
+none-at (c ∷ cs) h zero l = or-false-left (c .applies) (anyApplies cs) h
+none-at (c ∷ cs) h (suc i) l = none-at cs (or-false-right (c .applies) (anyApplies cs) h) i (omega arith)
+
+module _ (b : List ℕ) (u : ℕ) (marks out : List ℕ) (count : ℕ) (e : listAnswer b u (length marks) (length out) ≡ answered count) where
+  abbrev checks : List Check
+  checks = listEarly b u (length marks) ++ listLate b u (length out)
+
+  abbrev found : List ℕ
+  found = downstream (indexIn b) u
+
+  abbrev list : List ℕ
+  list = take count (listOutput b u (length marks) out)
+
+  none : anyApplies checks ≡ false
+  unfolding listAnswer
+  none = passed-applies [] (length found) checks count e
+
+  counted : length found ≡ count
+  unfolding listAnswer
+  counted = let same : answered (length found) ≡ answered count = sym (passed-first [] (length found) (length found) checks count e) ∙ e in cc
+
+  -- the list, and what stands behind it
+  output : listOutput b u (length marks) out ≡ found ++ drop (length found) out
+  unfolding listOutput
+  output = rw none refl
+
+  list-is : list ≡ found
+  list-is = rw output (take-at found (drop (length found) out) count counted)
+
+  pub listed-behind : drop count (listOutput b u (length marks) out) ≡ drop count out
+  listed-behind = rw output (drop-at found (drop (length found) out) count counted ∙ ap (λ (k : ℕ). drop k out) counted)
+
+  -- it rises
+  pub listed-rises : Rises list
+  listed-rises = rw list-is (downstream-rises (indexIn b) u)
+
+  vertex : u < length (indexIn b .names)
+  unfolding decode section
+  vertex =
+      let w : ℕ = formOf (headerAt b 0) .width in
+      omega (arith, leb-false (countsIn b .n) u (none-at checks none 4 (omega arith)), numbers-long w (stretch w (countsIn b) b 0) (countsIn b .n))
+
+  index-sound : Sound (indexIn b)
+  unfolding contentsSound
+  index-sound =
+      let w : ℕ = formOf (headerAt b 0) .width in
+      sound-decides (indexIn b) .0
+      (and-right (startsPass (section w (countsIn b) b 3) (countsIn b .k) (countsIn b .c)) (sound (indexIn b)) (not-false _ (none-at checks none 5 (omega arith))))
+
+  -- v is in the list exactly where a path leads from the vertex to v, in whatever graph yields the bytes
+  pub listed-right : (M : Made (indexIn b)) (v : ℕ) → (among v list ≡ true) ↔ Reaches (M .graph) u v
+  listed-right M v =
+      let (to, from) = downstream-down (indexIn b) index-sound u v vertex in
+      rw list-is (
+        (λ i. let (hv, d) = to i in made-paths M u v vertex hv .1 d),
+        λ r. let hv : v < length (indexIn b .names) = omega (arith, made-long M, reached-low (M .ends) (omega (arith, made-long M, vertex)) r) in
+            from (hv, made-paths M u v vertex hv .0 r),
+      )
+
+-- two results that the contract allows are equal
+listed-one : (r r' : Listed) → listedOf r ≡ listedOf r' → r ≡ r'
+listed-one (Count count) (Count count') e = cc
+listed-one (Count count) (Refused number extra) e = let z : _≡_ {A = ℕ} 0 1 = cc in absurd (omega arith)
+listed-one (Refused number extra) (Count count) e = let z : _≡_ {A = ℕ} 0 1 = cc in absurd (omega arith)
+listed-one (Refused number extra) (Refused number' extra') e = cc
+
+pub listed-once :
+    {b : List ℕ} {u : ℕ} {marks out : List ℕ} {r r' : Listed} {ms ms' os os' : List ℕ}
+    → Allowed b u marks out r ms os → Allowed b u marks out r' ms' os' → (r ≡ r') × ((ms ≡ ms') × (os ≡ os'))
+listed-once A B = (listed-one _ _ (A .answers ∙ sym (B .answers)), (A .leaves ∙ sym (B .leaves), A .writes ∙ sym (B .writes)))

@@ -1,0 +1,32 @@
+-- The marks that a downstream list goes by: the sweep over an index, by its first labelling.
+use mathlib.Core.List.{List, []}
+use Prim.Native.Nat.{ℕ}
+use lib.ListN.{length, getD, set}
+use Rattle.lineage.specs.Lists.{cleared}
+use Rattle.lineage.specs.Labels.{Labelling}
+use Rattle.lineage.specs.Index.{Index}
+use Rattle.lineage.specs.Question.{placeIn}
+use Rattle.list.specs.Sweep.{swept}
+
+-- the first labelling; where there is none, an empty one
+abbrev pub firstLabels : List Labelling → Labelling
+firstLabels labels = getD labels 0 (record { s = []; m = []; e = []; byRank = [] })
+
+-- the rank of vertex u's group in the first labelling
+unfoldable pub rankIn : Index → ℕ → ℕ
+rankIn I u = getD (firstLabels (I .labels) .e) (placeIn I u) 0
+
+-- the marks after the sweep over an index, from rank `top` down
+unfoldable pub sweptIn : Index → ℕ → List ℕ → List ℕ
+unfolding swept
+sweptIn I top marks = swept (I .groups) (I .children) (firstLabels (I .labels) .byRank) top marks
+
+-- only vertex u's group is marked
+unfoldable pub startMarks : Index → ℕ → List ℕ → List ℕ
+unfolding cleared
+startMarks I u marks = set (cleared (length (I .names)) marks) (getD (I .names) u 0) 1
+
+-- the groups that vertex u's group reaches are marked
+unfoldable pub reachMarks : Index → ℕ → List ℕ → List ℕ
+unfolding rankIn sweptIn startMarks
+reachMarks I u marks = sweptIn I (rankIn I u) (startMarks I u marks)

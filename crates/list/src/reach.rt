@@ -1,0 +1,62 @@
+// The sweep over the sections of stored bytes, by their first labelling, and what it marks from one vertex.
+ghost use mathlib.Core.Path.{_≡_};
+ghost use Prim.Native.Nat.{_≤_, _<_};
+ghost use lib.ListN.{length};
+ghost use Rattle.lineage.specs.Calls.{indexIn};
+ghost use Rattle.list.specs.Fit.{SoundBytes};
+ghost use Rattle.list.specs.Marks.{rankIn, sweptIn, reachMarks};
+use crate::sweep;
+use ask::place;
+use numbers::clear_marks;
+use numbers::num;
+use stored::header::Layout;
+use stored::sections as parts;
+
+// The rank of vertex u's group in the first labelling.
+fn rank_of(index: &[u8], l: Layout, u: usize) -> usize
+    requires { ⌜ SoundBytes (now index) l ⌝ }
+    requires { ⌜ u < l .n ⌝ }
+    ensures { λ r. ⌜ r ≡ rankIn (indexIn (now (index .entry))) u ⌝ }
+{
+    let w = l.width;
+    let k = l.k;
+    let d = l.d;
+    let names = parts::names(index, l);
+    let groups = parts::groups(index, l);
+    let labels = parts::labels(index, l);
+    let triples = parts::triples(labels, w, k, d, 0);
+    let p = place::place_of(groups, w, k, num(names, w, u));
+    num(triples, w, 3 * p + 2)
+}
+
+// The sweep from rank `top` down: afterwards a group is marked exactly where it is reached from one marked before.
+pub fn sweep_down(index: &[u8], l: Layout, marks: &mut [u8], top: usize)
+    requires { ⌜ SoundBytes (now index) l ⌝ }
+    requires { ⌜ (l .n ≤ length (now marks)) × (top ≤ l .k) ⌝ }
+    ensures { λ _. ⌜ now (marks .exit) ≡ sweptIn (indexIn (now (index .entry))) top (now (marks .entry)) ⌝ }
+{
+    let w = l.width;
+    let k = l.k;
+    let c = l.c;
+    let d = l.d;
+    let groups = parts::groups(index, l);
+    let starts = parts::starts(index, l);
+    let children = parts::children(index, l);
+    let labels = parts::labels(index, l);
+    let places = parts::by_rank(labels, w, k, d, 0);
+    sweep::sweep(groups, starts, children, places, marks, w, k, c, top);
+}
+
+// Marks the groups that vertex u's group reaches, and no other.
+pub fn mark_reached(index: &[u8], l: Layout, marks: &mut [u8], u: usize)
+    requires { ⌜ SoundBytes (now index) l ⌝ }
+    requires { ⌜ (l .n ≤ length (now marks)) × (u < l .n) ⌝ }
+    ensures { λ _. ⌜ now (marks .exit) ≡ reachMarks (indexIn (now (index .entry))) u (now (marks .entry)) ⌝ }
+{
+    let names = parts::names(index, l);
+    let name = num(names, l.width, u);
+    clear_marks(marks, l.n);
+    marks[name] = 1;
+    let top = rank_of(index, l, u);
+    sweep_down(index, l, marks, top);
+}

@@ -1,0 +1,113 @@
+-- What some edge list and orders yield within a form's bounds fits the form, and its bytes open.
+use mathlib.Core.Bool.{true, _&&_}
+use mathlib.Core.Path.{_≡_, refl, sym, ap, ap₂, _∙_}
+use mathlib.Core.List.{List, [], _∷_}
+use Prim.Native.Nat.{ℕ, _^_, _≤_, _<_}
+use native.Mathlib.Omega.{arith}
+use lib.Dec.{leb}
+use lib.ListN.{length, length-map}
+use borrow.Author.Tests.{leb-true, le-leb}
+use Rattle.lineage.specs.Lists.{Every}
+use Rattle.lineage.specs.Graph.{Graph, Ends, namesOf, condense, levelsOf}
+use Rattle.lineage.specs.Labels.{Order, Labelling, labelling}
+use Rattle.lineage.specs.Index.{Index, indexBy, indexOf}
+use Rattle.lineage.specs.Stored.{Form, form1, Counts, countsOf, countsFit, encode, headerAt, countsIn, formOf, section}
+use Rattle.lineage.specs.Sound.{startsPass, sound, contentsSound}
+use Rattle.lineage.specs.Calls.{answered, openAnswer}
+use Rattle.laws.specs.Sound.{SoundLabelling, Sound}
+use Rattle.laws.proofs.Tests.{and-both}
+use Rattle.laws.proofs.Names.{names-long}
+use Rattle.laws.proofs.Sound.{made-sound}
+use Rattle.stored.specs.Fits.{Full, Fits}
+use Rattle.stored.proofs.Tests.{both}
+use Rattle.stored.proofs.Encoded.{header-read, counts-read, decode-encode, encode-passes, encode-laid}
+use Rattle.open.proofs.Checks.{header-passed, opened}
+use Rattle.open.proofs.Starts.{starts-pass, starts-read}
+use Rattle.open.proofs.Small.{groups-few, sections-small}
+use Rattle.open.proofs.Entries.{entries-few}
+
+-- a form of the table, whose width holds its bounds
+pub record Wide (F : Form) : Type 0 where
+  pub known : formOf (F .number) ≡ F
+  pub vertices : F .vertices < 256 ^ F .width
+  pub entries : F .entries < 256 ^ F .width
+
+pub form1-wide : Wide form1
+form1-wide = record { known = refl; vertices = omega arith; entries = omega arith }
+
+-- accepted input keeps the bounds: there are no more groups than vertices, and no more child entries than edges
+pub bounds-kept : (F : Form) (G : Graph) → Ends G → (orders : List (List ℕ)) → Every (Order (G .n)) orders
+    → G .n ≤ F .vertices
+    → length (G .sources) ≤ F .entries
+    → 1 ≤ length orders
+    → length orders ≤ 5
+    → countsFit F (countsOf (indexOf G orders)) ≡ true
+unfolding indexOf indexBy condense
+bounds-kept F G ends orders permuted vertices edges least most =
+    let a : Counts = countsOf (indexOf G orders) in
+    let n : a .n ≡ G .n = names-long G ends in
+    let d : a .d ≡ length orders = length-map orders (labelling (indexOf G orders .groups) (indexOf G orders .children)) in
+    and-both (le-leb (a .n) (F .vertices) (omega arith))
+    (and-both (le-leb (a .k) (a .n) (groups-few (made-sound G ends orders permuted)))
+    (and-both (le-leb (a .c) (F .entries) (omega (arith, entries-few G (namesOf G))))
+    (and-both (le-leb 1 (a .d) (omega arith)) (le-leb (a .d) 5 (omega arith)))))
+
+full : (children : List (List ℕ)) (k : ℕ) → length children ≡ k → (ls : List Labelling) → Every (SoundLabelling children) ls → Every (Full k) ls
+full children k e [] h = tt
+full children k e (l ∷ ls) h =
+    (record { s = h .0 .s-long ∙ e; m = h .0 .m-long ∙ e; e = h .0 .e-long ∙ e; byRank = h .0 .at-long ∙ e }, full children k e ls (h .1))
+
+module _ {F : Form} (W : Wide F) (G : Graph) (ends : Ends G) (orders : List (List ℕ)) (permuted : Every (Order (G .n)) orders)
+    (bounds : countsFit F (countsOf (indexOf G orders)) ≡ true)
+  where
+    abbrev I : Index
+    I = indexOf G orders
+
+    yielded-sound : Sound I
+    yielded-sound = made-sound G ends orders permuted
+
+    levels-are : I .levels ≡ levelsOf (I .children)
+    unfolding indexOf indexBy
+    levels-are = refl
+
+    pub yielded-fits : Fits F I
+    yielded-fits =
+        let a : Counts = countsOf I in
+        let S = yielded-sound .condensed in
+        let n = both (leb (a .n) (F .vertices)) _ bounds in
+        let k = both (leb (a .k) (a .n)) _ (n .1) in
+        let c = both (leb (a .c) (F .entries)) _ (k .1) in
+        record {
+          known = W .known;
+          counts = bounds;
+          levels = S .levels-long ∙ S .children-long;
+          children = S .children-long;
+          labels = full (I .children) (length (I .groups)) (S .children-long) (I .labels) (yielded-sound .labelled);
+          small =
+              sections-small yielded-sound levels-are (256 ^ F .width)
+              (omega (arith, leb-true (a .n) (F .vertices) (n .0), W .vertices))
+              (omega (arith, leb-true (a .c) (F .entries) (c .0), W .entries));
+        }
+
+-- the bytes of an index that fits and passes its tests open
+module _ {F : Form} {I : Index} (E : Fits F I) (passes : sound I ≡ true) where
+  abbrev b : List ℕ
+  b = encode F I
+
+  form-again : formOf (headerAt b 0) ≡ F
+  form-again = ap formOf (header-read E 0 (omega arith)) ∙ E .known
+
+  contents-again : contentsSound (F .width) b ≡ true
+  unfolding contentsSound
+  contents-again =
+      let a : Counts = countsOf I in
+      ap₂ (λ (z : Counts) (J : Index). startsPass (section (F .width) z b 3) (z .k) (z .c) && sound J) (counts-read E) (decode-encode E)
+      ∙ ap₂ (λ (s : List ℕ) (k : ℕ). startsPass s k (a .c) && sound I) (starts-read E) (sym (E .children))
+      ∙ rw (starts-pass (I .children)) passes
+
+  pub fits-opens : (marks : ℕ) → length (I .names) ≤ marks → answered (countsOf I) ≡ openAnswer b marks
+  fits-opens marks h =
+      let n : countsIn b .n ≡ length (I .names) = ap (λ (a : Counts). a .n) (counts-read E) in
+      ap answered (sym (counts-read E))
+      ∙ opened (encode-laid E) (omega arith) (sym (ap (λ (G : Form). contentsSound (G .width) b) form-again ∙ contents-again)) refl
+      ∙ header-passed b (encode-passes E) marks

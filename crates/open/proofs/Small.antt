@@ -1,0 +1,113 @@
+-- The numbers of an index that some edge list and orders yield are small: vertices and names below n, places, levels and ranks at most k, starts at most c. So a
+-- form's width holds them.
+use mathlib.Core.Bool.{true}
+use mathlib.Core.Path.{_≡_, subst}
+use mathlib.Core.List.{List, [], _∷_, map}
+use Prim.Native.Nat.{ℕ, zero, suc, _≤_, _<_}
+use native.Mathlib.Omega.{arith}
+use lib.Dec.{eqb}
+use lib.ListN.{length, getD}
+use Rattle.lineage.specs.Lists.{upto, among, position, greatest, joined, Every}
+use Rattle.lineage.specs.Graph.{groupList, level, levelsOf}
+use Rattle.lineage.specs.Labels.{Labelling}
+use Rattle.lineage.specs.Index.{Index}
+use Rattle.lineage.specs.Stored.{startsFrom, triple, labelNumbers, sections}
+use Rattle.laws.specs.Sound.{SoundLabelling, SoundGroups, Sound}
+use Rattle.laws.proofs.Lists.{in-getD, those-pass, upto-low, length-upto, position-low, at-position, least-below}
+use Rattle.laws.proofs.Rising.{those-short}
+use Rattle.laws.proofs.Inverse.{e-most}
+use Rattle.stored.proofs.Starts.{starts-long, starts-rise, starts-low}
+use Rattle.sound_labels.proofs.Nobody.{joined-all}
+use Rattle.open.proofs.Every.{every-getD, every-append, every-joined, every-table}
+use Rattle.open.proofs.Starts.{starts-pass}
+
+-- levels
+greatest-most : (f : ℕ → ℕ) (b : ℕ) (xs : List ℕ) → ((q : ℕ) → f q ≤ b) → greatest (map f xs) ≤ b
+greatest-most f b [] all = omega arith
+greatest-most f b (x ∷ xs) all = omega (arith, all x, greatest-most f b xs all)
+
+level-most : (children : List (List ℕ)) (f p : ℕ) → level children f p ≤ f
+unfolding level
+level-most children zero p = omega arith
+level-most children (suc f) p = greatest-most (λ q. suc (level children f q)) (suc f) (getD children p []) (λ q. omega (arith, level-most children f q))
+
+-- one labelling: s, m, e and places are at most k
+module _ {children : List (List ℕ)} {l : Labelling} (L : SoundLabelling children l) (N : ℕ) (small : length children < N) where
+  abbrev k : ℕ
+  k = length children
+
+  triple-small : (p : ℕ) → p < k → Every (λ x. x < N) (triple l p)
+  triple-small p h =
+      let e = e-most L p h in
+      (omega (arith, L .outer-is p h, least-below (λ q. getD (l .s) q 0) (getD (l .e) p 0) (getD children p [])), (omega (arith, L .m-high p h), (omega arith, tt)))
+
+  labelling-small : Every (λ x. x < N) (labelNumbers k l)
+  labelling-small =
+      every-append (λ x. x < N) (joined (map (triple l) (upto k))) (l .byRank)
+      (every-joined (λ x. x < N) (map (triple l) (upto k)) (every-table (Every (λ x. x < N)) (triple l) k triple-small))
+      (every-getD (λ x. x < N) 0 (l .byRank) (λ r h. omega (arith, L .at-low r (omega (arith, L .at-long)))))
+
+-- the whole index
+module _ {I : Index} (S : Sound I) where
+  G : SoundGroups (I .names) (I .groups) (I .levels) (I .children)
+  G = S .condensed
+
+  pub groups-few : length (I .groups) ≤ length (I .names)
+  unfolding groupList
+  groups-few =
+      rw (G .groups-are)
+      (omega (arith, those-short (λ v. eqb (getD (I .names) v 0) v) (upto (length (I .names))), length-upto (length (I .names))))
+
+  places-few : length (I .children) ≤ length (I .names)
+  places-few = omega (arith, groups-few, G .children-long)
+
+  module _ (levels-are : I .levels ≡ levelsOf (I .children)) (N : ℕ) (few : length (I .names) < N) (few-entries : length (joined (I .children)) < N) where
+    abbrev Low : List ℕ → Type 0
+    Low xs = Every (λ x. x < N) xs
+
+    names-small : Low (I .names)
+    names-small = every-getD (λ x. x < N) 0 (I .names) (λ v h. omega (arith, G .name-low v h))
+
+    groups-small : Low (I .groups)
+    unfolding groupList
+    groups-small =
+        every-getD (λ x. x < N) 0 (I .groups)
+        (λ i h.
+        let g : ℕ = getD (I .groups) i 0 in
+        let here : among g (groupList (I .names)) ≡ true = subst (λ (gs : List ℕ). among g gs ≡ true) (G .groups-are) (in-getD (I .groups) i h) in
+        omega (arith, upto-low (length (I .names)) g (those-pass (λ v. eqb (getD (I .names) v 0) v) g (upto (length (I .names))) here .1)))
+
+    levels-small : Low (I .levels)
+    unfolding levelsOf
+    levels-small =
+        rw levels-are
+        (every-table (λ x. x < N) (level (I .children) (length (I .children))) (length (I .children))
+        (λ p h. omega (arith, level-most (I .children) (length (I .children)) p, places-few)))
+
+    starts-small : Low (startsFrom 0 (I .children))
+    starts-small =
+        let k : ℕ = length (I .children) in
+        let c : ℕ = length (joined (I .children)) in
+        every-getD (λ x. x < N) 0 (startsFrom 0 (I .children))
+        (λ p h. omega (arith, starts-low (starts-rise (startsFrom 0 (I .children)) k c (starts-pass (I .children))) p (omega (arith, starts-long 0 (I .children)))))
+
+    children-small : Low (joined (I .children))
+    children-small =
+        every-getD (λ x. x < N) 0 (joined (I .children))
+        (λ i h.
+        joined-all (λ x. x < N) (I .children)
+        (λ p l q j.
+        let row : List ℕ = getD (I .children) p [] in
+        omega (arith, G .child-low p (position q row) l (position-low q row j), at-position q row j, places-few))
+        (getD (joined (I .children)) i 0)
+        (in-getD (joined (I .children)) i h))
+
+    labels-small : (ls : List Labelling) → Every (SoundLabelling (I .children)) ls → Low (joined (map (labelNumbers (length (I .children))) ls))
+    labels-small [] h = tt
+    labels-small (l ∷ ls) h =
+        every-append (λ x. x < N) (labelNumbers (length (I .children)) l) (joined (map (labelNumbers (length (I .children))) ls))
+        (labelling-small (h .0) N (omega (arith, places-few))) (labels-small ls (h .1))
+
+    pub sections-small : Every Low (sections I)
+    sections-small =
+        (names-small, (groups-small, (levels-small, (starts-small, (children-small, (rw (← (G .children-long)) (labels-small (I .labels) (S .labelled)), tt))))))

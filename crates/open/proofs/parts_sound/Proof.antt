@@ -1,0 +1,46 @@
+-- `open::parts_sound` meets its contract: the tests of groups and those of labels, looked at where the first hold, are the test of the index.
+use mathlib.Core.Path.{_∙_}
+use borrow.Author.Needs.{needs}
+use Rattle.sound_groups.proofs.Passed.{answered, and-fails, and-goes}
+use Rattle.sound_groups.proofs.Groups.{places-passed}
+use Rattle.open.proofs.Contents.{parts-is}
+use Rattle.open.proofs.parts_sound.Statement.{statement}
+use Rattle.open.proofs.parts_sound.Tie as tie
+
+groups-pass-requires : tie.Need-groups-pass-requires
+groups-pass-requires c κs = c .before .before .before .before .before .before .before .pre .0 .condensed
+
+clear-marks-requires : tie.Need-clear-marks-requires
+clear-marks-requires c κs = search needs
+
+same-length : tie.Need-same-length
+same-length c = search needs
+
+returns : tie.Need-returns
+returns c = (and-fails (c .before .before .before .before .before .groups-pass .ensures) _ (c .before .before .before .before .if1 .taken) ∙ parts-is _ _ _ _ _ _ _ _ _ _ _, c .before .before .clear-marks .ensures)
+
+labels-sound-requires : tie.Need-labels-sound-requires
+labels-sound-requires c κs =
+    let P = c .before .before .before .before .before .before .before .before .before .before .pre .0 in
+    (places-passed (P .condensed) (answered (c .before .before .groups-pass .ensures) (c .before .if1 .left)), (P .labelled, (P .fewer, c .before .before .before .before .before .before .before .before .before .before .pre .1)))
+
+same-length-2 : tie.Need-same-length-2
+same-length-2 c = search needs
+
+returns-2 : tie.Need-returns-2
+returns-2 c = (
+  and-goes (c .before .before .before .before .before .groups-pass .ensures) (c .before .before .before .before .if1 .left) (c .before .before .labels-sound .ensures .0) ∙ parts-is _ _ _ _ _ _ _ _ _ _ _,
+  c .before .before .labels-sound .ensures .1,
+)
+
+pub parts-sound-spec : {M : Type 1} → statement M
+parts-sound-spec =
+    tie.close
+    (tie.spec
+    groups-pass-requires
+    clear-marks-requires
+    same-length
+    returns
+    labels-sound-requires
+    same-length-2
+    returns-2)

@@ -1,0 +1,122 @@
+// Opening a stored index: it opens exactly when some edge list and some orders made its bytes.
+ghost use mathlib.Core.Bool.{_&&_};
+ghost use mathlib.Core.Path.{_≡_};
+ghost use Prim.Native.Nat.{_+_, _≤_};
+ghost use lib.ListN.{length};
+ghost use Rattle.lineage.specs.Lists.{cleared};
+ghost use Rattle.lineage.specs.Numbers.{numbers};
+ghost use Rattle.lineage.specs.Sound.{startsPass, sound, contentsSound};
+ghost use Rattle.lineage.specs.Calls.{openAnswer, openMarks};
+ghost use Rattle.stored.specs.Header.{Laid};
+ghost use Rattle.sections.specs.Sections.{indexFrom};
+ghost use Rattle.open.specs.Parts.{Parts};
+ghost use Rattle.open.specs.Opened.{openedOf, lateAnswer, lateMarks};
+use numbers::clear_marks;
+use sound_groups::groups_pass;
+use sound_labels::labels_sound;
+use stored::header;
+use stored::header::Header;
+use stored::header::Layout;
+
+// An index's counts, or a refusal with its number and its extra number.
+pub enum Opened {
+    Index {
+        n: usize,
+        k: usize,
+        c: usize,
+        d: usize,
+    },
+    Refused {
+        number: usize,
+        extra: usize,
+    },
+}
+
+// Whether six sections hold an index that some edge list and some orders yield. Marks below n are 0 afterwards.
+fn parts_sound(
+    names: &[u8],
+    groups: &[u8],
+    levels: &[u8],
+    starts: &[u8],
+    children: &[u8],
+    labels: &[u8],
+    marks: &mut [u8],
+    w: usize,
+    n: usize,
+    k: usize,
+    c: usize,
+    d: usize,
+) -> bool
+    requires { ⌜ Parts w n k c d (now names) (now groups) (now levels) (now starts) (now children) (now labels) ⌝ }
+    requires { ⌜ n ≤ length (now marks) ⌝ }
+    ensures { λ r. ⌜ r ≡ (startsPass (numbers w (now (starts .entry)) (k + 1)) k c && sound (indexFrom w n k c d (now (names .entry)) (now (groups .entry)) (now (levels .entry)) (now (starts .entry)) (now (children .entry)) (now (labels .entry)))) ⌝ }
+    ensures { λ _. ⌜ now (marks .exit) ≡ cleared n (now (marks .entry)) ⌝ }
+{
+    if !groups_pass(names, groups, levels, starts, children, w, n, k, c) {
+        clear_marks(marks, n);
+        return false;
+    }
+    labels_sound(starts, children, labels, marks, w, n, k, c, d)
+}
+
+// Whether the contents of bytes whose header passes are sound: whether some edge list and some orders yield exactly these bytes. Marks below n are 0 afterwards.
+pub fn contents_sound(index: &[u8], l: Layout, marks: &mut [u8]) -> bool
+    requires { ⌜ Laid (now index) l ⌝ }
+    requires { ⌜ l .n ≤ length (now marks) ⌝ }
+    ensures { λ r. ⌜ r ≡ contentsSound (l .width) (now (index .entry)) ⌝ }
+    ensures { λ _. ⌜ now (marks .exit) ≡ cleared (l .n) (now (marks .entry)) ⌝ }
+{
+    parts_sound(
+        stored::sections::names(index, l),
+        stored::sections::groups(index, l),
+        stored::sections::levels(index, l),
+        stored::sections::starts(index, l),
+        stored::sections::children(index, l),
+        stored::sections::labels(index, l),
+        marks,
+        l.width,
+        l.n,
+        l.k,
+        l.c,
+        l.d,
+    )
+}
+
+// Opens bytes whose header passes: refusals 13 and 15, or the counts.
+fn open_laid(index: &[u8], l: Layout, marks: &mut [u8]) -> Opened
+    requires { ⌜ Laid (now index) l ⌝ }
+    ensures { λ r. ⌜ openedOf r ≡ lateAnswer (now (index .entry)) (length (now (marks .entry))) ⌝ }
+    ensures { λ _. ⌜ now (marks .exit) ≡ lateMarks (now (index .entry)) (now (marks .entry)) ⌝ }
+{
+    let n = l.n;
+    if marks.len() < n {
+        return Opened::Refused {
+            number: 13,
+            extra: n,
+        };
+    }
+    if !contents_sound(index, l, marks) {
+        return Opened::Refused {
+            number: 15,
+            extra: 0,
+        };
+    }
+    Opened::Index {
+        n,
+        k: l.k,
+        c: l.c,
+        d: l.d,
+    }
+}
+
+// Opens a stored index: refusals 10, 11, 12, 13 and 15 in order, or its counts. Marks below n are 0 after 15 and after success; the refusals before leave them
+// as they were.
+pub fn open(index: &[u8], marks: &mut [u8]) -> Opened
+    ensures { λ r. ⌜ openedOf r ≡ openAnswer (now (index .entry)) (length (now (marks .entry))) ⌝ }
+    ensures { λ _. ⌜ now (marks .exit) ≡ openMarks (now (index .entry)) (now (marks .entry)) ⌝ }
+{
+    match header::read_header(index) {
+        Header::Refused(number, extra) => Opened::Refused { number, extra },
+        Header::Passed(l) => open_laid(index, l, marks),
+    }
+}

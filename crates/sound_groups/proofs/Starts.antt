@@ -1,0 +1,68 @@
+-- Child starts from what was read of them.
+use mathlib.Core.Bool.{Bool, true, false}
+use mathlib.Core.Path.{_≡_, ap, _∙_}
+use mathlib.Core.List.{List}
+use Prim.Native.Nat.{ℕ, suc, _+_, _-_, _≤_, _<_}
+use native.Mathlib.Omega.{arith}
+use native.Mathlib.Numerals.{add-one}
+use lib.Dec.{eqb, leb}
+use lib.ListN.{getD}
+use borrow.Author.Tests.{le-leb, lt-leb, eq-eqb, ne-eqb}
+use Rattle.lineage.specs.Lists.{allBelow}
+use Rattle.lineage.specs.Numbers.{numAt, numbers}
+use Rattle.lineage.specs.Sound.{startsPass}
+use Rattle.numbers.proofs.Numbers.{numbers-at}
+use Rattle.stored.proofs.Starts.{Rising, starts-rise, starts-low}
+use Rattle.sound_groups.specs.Fit.{Starts, Rows, Row}
+use Rattle.sound_groups.proofs.Read.{was-read}
+
+-- the start of p is not above the next
+abbrev pub notFalling : List ℕ → ℕ → Bool
+notFalling starts p = leb (getD starts p 0) (getD starts (suc p) 0)
+
+module _ {w k : ℕ} {starts : List ℕ} (S : Starts w starts k) where
+  module _ {p a b : ℕ} (low : p < k) (this : a ≡ numAt w starts p) (next : b ≡ numAt w starts (p + 1)) where
+    these : notFalling (numbers w starts (k + 1)) p ≡ leb a b
+    these = rw (← (was-read (S .held) {i = p} (omega arith) this), ← (was-read (S .held) {i = suc p} (omega arith) (rw (add-one p) at next)))
+
+    pub start-keeps : a ≤ b → notFalling (numbers w starts (k + 1)) p ≡ true
+    start-keeps h = these ∙ le-leb a b h
+
+    pub start-falls : b < a → notFalling (numbers w starts (k + 1)) p ≡ false
+    start-falls h = these ∙ lt-leb a b h
+
+  module _ {a : ℕ} (c : ℕ) (first : a ≡ numAt w starts 0) where
+    zeroth : a ≡ getD (numbers w starts (k + 1)) 0 0
+    zeroth = was-read (S .held) {i = 0} (omega arith) first
+
+    pub starts-wrong : (a ≡ 0 → ⊥) → false ≡ startsPass (numbers w starts (k + 1)) k c
+    starts-wrong f = rw (← zeroth, ne-eqb a 0 f)
+
+    pub starts-fall : a ≡ 0 → allBelow k (notFalling (numbers w starts (k + 1))) ≡ false → false ≡ startsPass (numbers w starts (k + 1)) k c
+    starts-fall z f = rw (← zeroth, eq-eqb a 0 z, f)
+
+    pub starts-end : {b : ℕ} → a ≡ 0 → allBelow k (notFalling (numbers w starts (k + 1))) ≡ true → b ≡ numAt w starts k → eqb b c ≡ startsPass (numbers w starts (k + 1)) k c
+    starts-end z t e = rw (← zeroth, eq-eqb a 0 z, t, ← (was-read (S .held) {i = k} (omega arith) e))
+
+-- Starts that have passed: none falls, and none is above c.
+module _ {w k c : ℕ} {starts : List ℕ} (R : Rows w starts k c) where
+  rising : Rising (numbers w starts (k + 1)) k c
+  rising = starts-rise (numbers w starts (k + 1)) k c (R .passed)
+
+  start-at : (p : ℕ) → p ≤ k → getD (numbers w starts (k + 1)) p 0 ≡ numAt w starts p
+  start-at p h = numbers-at w starts (k + 1) p (omega arith)
+
+  pub row-rises : (p : ℕ) → p < k → numAt w starts p ≤ numAt w starts (p + 1)
+  row-rises p h = omega (arith, rising .rise p h, start-at p (omega arith), start-at (suc p) h, ap (numAt w starts) (add-one p))
+
+  pub row-within : (p : ℕ) → p ≤ k → numAt w starts p ≤ c
+  row-within p h = omega (arith, starts-low rising p h, start-at p h)
+
+  -- the row between two starts that were read
+  pub row-between : {p a b : ℕ} → p < k → a ≡ numAt w starts p → b ≡ numAt w starts (p + 1) → Row w starts k c p a (b - a)
+  row-between {p} {a} {b} h ea eb = record {
+    low = h;
+    begins = ea;
+    ends = omega (arith, row-rises p h);
+    within = omega (arith, row-rises p h, row-within (p + 1) (omega arith));
+  }

@@ -1,0 +1,76 @@
+-- `sound_groups::starts_pass` meets its contract. The invariant: no start passed falls.
+use Prim.Native.Nat.{_+_, _-_}
+use native.Mathlib.Omega.{arith}
+use Rattle.lineage.specs.Numbers.{numbers}
+use Rattle.sound_groups.proofs.Passed.{Passed, all-broken, passed-none, passed-next, passed-all}
+use Rattle.sound_groups.proofs.Read.{can-read}
+use Rattle.sound_groups.proofs.Starts.{notFalling, start-keeps, start-falls, starts-wrong, starts-fall, starts-end}
+use Rattle.sound_groups.proofs.starts_pass.Statement.{statement}
+use Rattle.sound_groups.proofs.starts_pass.Tie as tie
+
+abbrev Inv-loop : tie.InvT-loop
+Inv-loop starts w k c p₀ p = Passed (notFalling (numbers w starts (k + 1))) k p
+
+abbrev μ-loop : tie.MeasureT-loop
+μ-loop starts w k c p₀ p = k - p
+
+num-requires : tie.Need-num-requires Inv-loop μ-loop
+num-requires c κs = can-read (c .before .pre .held) (omega arith)
+
+returns : tie.Need-returns Inv-loop μ-loop
+returns c = starts-wrong (c .before .before .before .pre) _ (c .before .num .ensures .0) (c .if1 .taken)
+
+loop-holds : tie.Need-loop-holds Inv-loop μ-loop
+loop-holds c = passed-none _ _
+
+add-num : tie.Need-add-num Inv-loop μ-loop
+add-num c = omega arith
+
+num-requires-2 : tie.Need-num-requires-2 Inv-loop μ-loop
+num-requires-2 c κs = can-read (c .before .before .before .before .before .pre .held) (omega arith)
+
+num-requires-3 : tie.Need-num-requires-3 Inv-loop μ-loop
+num-requires-3 c κs = can-read (c .before .before .before .before .before .before .pre .held) (omega arith)
+
+returns-2 : tie.Need-returns-2 Inv-loop μ-loop
+returns-2 c =
+    let low = c .before .before .before .loop-test .taken in
+    starts-fall (c .before .before .before .before .before .before .before .before .pre) _ (c .before .before .before .before .before .before .num .ensures .0) (c .before .before .before .before .before .if1 .left)
+    (all-broken _ _ _ low (start-falls (c .before .before .before .before .before .before .before .before .pre) low (c .before .num3 .ensures .0) (c .before .before .num2 .ensures .0) (c .if2 .taken)))
+
+add-p : tie.Need-add-p Inv-loop μ-loop
+add-p c = omega arith
+
+loop-less : tie.Need-loop-less Inv-loop μ-loop
+loop-less c = omega arith
+
+loop-again : tie.Need-loop-again Inv-loop μ-loop
+loop-again c =
+    let low = c .before .before .before .loop-test .taken in
+    passed-next (c .before .before .before .before .loop .inv) low (start-keeps (c .before .before .before .before .before .before .before .before .pre) low (c .before .num3 .ensures .0) (c .before .before .num2 .ensures .0) (c .if2 .left))
+
+num-requires-4 : tie.Need-num-requires-4 Inv-loop μ-loop
+num-requires-4 c κs = can-read (c .before .before .before .before .before .pre .held) (omega arith)
+
+returns-3 : tie.Need-returns-3 Inv-loop μ-loop
+returns-3 c =
+    starts-end (c .before .before .before .before .before .before .pre) _ (c .before .before .before .before .num .ensures .0) (c .before .before .before .if1 .left) (passed-all (c .before .before .loop .inv) (c .before .loop-test .left)) (c .num4 .ensures .0)
+
+pub starts-pass-spec : {M : Type 1} → statement M
+starts-pass-spec =
+    tie.close
+    (tie.spec
+    Inv-loop
+    μ-loop
+    num-requires
+    returns
+    loop-holds
+    add-num
+    num-requires-2
+    num-requires-3
+    returns-2
+    add-p
+    loop-less
+    loop-again
+    num-requires-4
+    returns-3)

@@ -1,0 +1,248 @@
+// The tests of names, group list, child starts, children and levels: with those of the labels they decide whether contents are sound.
+ghost use mathlib.Core.Bool.{_&&_};
+ghost use mathlib.Core.Path.{_≡_};
+ghost use Prim.Native.Nat.{_+_, _<_, max};
+ghost use Rattle.lineage.specs.Lists.{allBelow, sameList};
+ghost use Rattle.lineage.specs.Graph.{groupList};
+ghost use Rattle.lineage.specs.Numbers.{numbers};
+ghost use Rattle.lineage.specs.Sound.{namesPass, startsPass, rowPasses, levelPasses, groupsPass};
+ghost use Rattle.sections.specs.Sections.{childrenIn};
+ghost use Rattle.sound_groups.specs.Fit.{Holds, Starts, Rows, Row, Children, Places, Groups};
+ghost use Rattle.sound_groups.specs.Tests.{ownName, levelAbove};
+use numbers::num;
+
+// Whether the name of v is not above v and is its own name.
+fn own_name(names: &[u8], w: usize, n: usize, v: usize) -> bool
+    requires { ⌜ Holds w (now names) n ⌝ }
+    requires { ⌜ v < n ⌝ }
+    ensures { λ r. ⌜ r ≡ ownName (numbers w (now (names .entry)) n) v ⌝ }
+{
+    let name = num(names, w, v);
+    if v < name {
+        return false;
+    }
+    num(names, w, name) == name
+}
+
+// Whether each of n names is so.
+fn own_names(names: &[u8], w: usize, n: usize) -> bool
+    requires { ⌜ Holds w (now names) n ⌝ }
+    ensures { λ r. ⌜ r ≡ allBelow n (ownName (numbers w (now (names .entry)) n)) ⌝ }
+{
+    let mut v = 0;
+    while v < n {
+        if !own_name(names, w, n, v) {
+            return false;
+        }
+        v += 1;
+    }
+    true
+}
+
+// Whether the group list, k names, is all names, rising.
+fn lists_names(names: &[u8], groups: &[u8], w: usize, n: usize, k: usize) -> bool
+    requires { ⌜ Holds w (now names) n ⌝ }
+    requires { ⌜ Holds w (now groups) k ⌝ }
+    ensures { λ r. ⌜ r ≡ sameList (numbers w (now (groups .entry)) k) (groupList (numbers w (now (names .entry)) n)) ⌝ }
+{
+    let mut v = 0;
+    let mut p = 0;
+    while v < n {
+        if num(names, w, v) == v {
+            if p == k {
+                return false;
+            }
+            if num(groups, w, p) != v {
+                return false;
+            }
+            p += 1;
+        }
+        v += 1;
+    }
+    p == k
+}
+
+// Whether names and group list are by the rules.
+fn names_pass(names: &[u8], groups: &[u8], w: usize, n: usize, k: usize) -> bool
+    requires { ⌜ Holds w (now names) n ⌝ }
+    requires { ⌜ Holds w (now groups) k ⌝ }
+    ensures { λ r. ⌜ r ≡ namesPass (numbers w (now (names .entry)) n) (numbers w (now (groups .entry)) k) ⌝ }
+{
+    if !own_names(names, w, n) {
+        return false;
+    }
+    lists_names(names, groups, w, n, k)
+}
+
+// Whether the child starts are first 0, never falling, last c.
+fn starts_pass(starts: &[u8], w: usize, k: usize, c: usize) -> bool
+    requires { ⌜ Starts w (now starts) k ⌝ }
+    ensures { λ r. ⌜ r ≡ startsPass (numbers w (now (starts .entry)) (k + 1)) k c ⌝ }
+{
+    if num(starts, w, 0) != 0 {
+        return false;
+    }
+    let mut p = 0;
+    while p < k {
+        if num(starts, w, p + 1) < num(starts, w, p) {
+            return false;
+        }
+        p += 1;
+    }
+    num(starts, w, k) == c
+}
+
+// Where the children of a group stand: from which position on, and how many they are.
+pub struct Span {
+    pub from: usize,
+    pub len: usize,
+}
+
+// Where the children of group p stand.
+pub fn row_span(starts: &[u8], w: usize, k: usize, c: usize, p: usize) -> Span
+    requires { ⌜ Rows w (now starts) k c ⌝ }
+    requires { ⌜ p < k ⌝ }
+    ensures { λ r. ⌜ Row w (now (starts .entry)) k c p (r .from) (r .len) ⌝ }
+{
+    let from = num(starts, w, p);
+    let to = num(starts, w, p + 1);
+    Span {
+        from,
+        len: to - from,
+    }
+}
+
+// Whether the children of group p are places, strictly rising.
+fn row_passes(starts: &[u8], children: &[u8], w: usize, k: usize, c: usize, p: usize) -> bool
+    requires { ⌜ Children w (now starts) (now children) k c ⌝ }
+    requires { ⌜ p < k ⌝ }
+    ensures { λ r. ⌜ r ≡ rowPasses (childrenIn w (now (starts .entry)) (now (children .entry)) k c) p ⌝ }
+{
+    let row = row_span(starts, w, k, c, p);
+    let from = row.from;
+    let len = row.len;
+    let mut i = 0;
+    let mut next = 0;
+    while i < len {
+        let q = num(children, w, from + i);
+        if k <= q {
+            return false;
+        }
+        if q < next {
+            return false;
+        }
+        next = q + 1;
+        i += 1;
+    }
+    true
+}
+
+// Whether the children of every group are.
+fn rows_pass(starts: &[u8], children: &[u8], w: usize, k: usize, c: usize) -> bool
+    requires { ⌜ Children w (now starts) (now children) k c ⌝ }
+    ensures { λ r. ⌜ r ≡ allBelow k (rowPasses (childrenIn w (now (starts .entry)) (now (children .entry)) k c)) ⌝ }
+{
+    let mut p = 0;
+    while p < k {
+        if !row_passes(starts, children, w, k, c, p) {
+            return false;
+        }
+        p += 1;
+    }
+    true
+}
+
+fn larger(a: usize, b: usize) -> usize
+    ensures { λ r. ⌜ r ≡ max a b ⌝ }
+{
+    if a < b { b } else { a }
+}
+
+// 0 without children, otherwise one more than the greatest level among the children of group p.
+fn level_above(
+    starts: &[u8],
+    children: &[u8],
+    levels: &[u8],
+    w: usize,
+    k: usize,
+    c: usize,
+    p: usize,
+) -> usize
+    requires { ⌜ Places w (now starts) (now children) k c ⌝ }
+    requires { ⌜ Holds w (now levels) k ⌝ }
+    requires { ⌜ p < k ⌝ }
+    ensures { λ r. ⌜ r ≡ levelAbove (childrenIn w (now (starts .entry)) (now (children .entry)) k c) (numbers w (now (levels .entry)) k) p ⌝ }
+{
+    let row = row_span(starts, w, k, c, p);
+    let from = row.from;
+    let len = row.len;
+    let mut i = 0;
+    let mut level = 0;
+    while i < len {
+        let q = num(children, w, from + i);
+        level = larger(level, num(levels, w, q) + 1);
+        i += 1;
+    }
+    level
+}
+
+// Whether the level of group p is that.
+fn level_passes(
+    starts: &[u8],
+    children: &[u8],
+    levels: &[u8],
+    w: usize,
+    k: usize,
+    c: usize,
+    p: usize,
+) -> bool
+    requires { ⌜ Places w (now starts) (now children) k c ⌝ }
+    requires { ⌜ Holds w (now levels) k ⌝ }
+    requires { ⌜ p < k ⌝ }
+    ensures { λ r. ⌜ r ≡ levelPasses (childrenIn w (now (starts .entry)) (now (children .entry)) k c) (numbers w (now (levels .entry)) k) p ⌝ }
+{
+    num(levels, w, p) == level_above(starts, children, levels, w, k, c, p)
+}
+
+// Whether the level of every group is.
+fn levels_pass(starts: &[u8], children: &[u8], levels: &[u8], w: usize, k: usize, c: usize) -> bool
+    requires { ⌜ Places w (now starts) (now children) k c ⌝ }
+    requires { ⌜ Holds w (now levels) k ⌝ }
+    ensures { λ r. ⌜ r ≡ allBelow k (levelPasses (childrenIn w (now (starts .entry)) (now (children .entry)) k c) (numbers w (now (levels .entry)) k)) ⌝ }
+{
+    let mut p = 0;
+    while p < k {
+        if !level_passes(starts, children, levels, w, k, c, p) {
+            return false;
+        }
+        p += 1;
+    }
+    true
+}
+
+// Whether names, group list, child starts, children and levels agree.
+pub fn groups_pass(
+    names: &[u8],
+    groups: &[u8],
+    levels: &[u8],
+    starts: &[u8],
+    children: &[u8],
+    w: usize,
+    n: usize,
+    k: usize,
+    c: usize,
+) -> bool
+    requires { ⌜ Groups w n k c (now names) (now groups) (now levels) (now starts) (now children) ⌝ }
+    ensures { λ r. ⌜ r ≡ (startsPass (numbers w (now (starts .entry)) (k + 1)) k c && groupsPass (numbers w (now (names .entry)) n) (numbers w (now (groups .entry)) k) (numbers w (now (levels .entry)) k) (childrenIn w (now (starts .entry)) (now (children .entry)) k c)) ⌝ }
+{
+    if !starts_pass(starts, w, k, c) {
+        return false;
+    }
+    if !names_pass(names, groups, w, n, k) {
+        return false;
+    }
+    if !rows_pass(starts, children, w, k, c) {
+        return false;
+    }
+    levels_pass(starts, children, levels, w, k, c)
+}

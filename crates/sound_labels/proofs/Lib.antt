@@ -1,0 +1,12 @@
+pub mod Read
+pub mod Ranks
+pub mod Falls
+pub mod Least
+pub mod Search
+pub mod Walk
+pub mod Ranked
+pub mod Blocks
+pub mod Marks
+pub mod Labels
+pub mod Labellings
+pub mod Nobody

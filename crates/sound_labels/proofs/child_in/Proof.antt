@@ -1,0 +1,92 @@
+-- `sound_labels::child_in` meets its contract. The invariant: in the row, which rises, q can only stand from `low` to `high`.
+use mathlib.Core.List.{[]}
+use Prim.Native.Nat.{_-_}
+use native.Mathlib.Omega.{arith}
+use lib.ListN.{getD}
+use Rattle.sections.specs.Sections.{childrenIn}
+use Rattle.sound_groups.proofs.Row.{can-read-child, row-has, child-was}
+use Rattle.sound_labels.proofs.Search.{Between, between-all, between-right, between-left, between-here, between-none, row-climbs}
+use Rattle.sound_labels.proofs.child_in.Statement.{statement}
+use Rattle.sound_labels.proofs.child_in.Tie as tie
+
+abbrev Inv-loop : tie.InvT-loop
+Inv-loop starts children w k c p q from low₀ high₀ low high = Between (getD (childrenIn w starts children k c) p []) q low high
+
+abbrev μ-loop : tie.MeasureT-loop
+μ-loop starts children w k c p q from low₀ high₀ low high = high - low
+
+row-span-requires : tie.Need-row-span-requires Inv-loop μ-loop
+row-span-requires c κs = (c .before .before .pre .0 .entries .rows, c .before .before .pre .1)
+
+loop-holds : tie.Need-loop-holds Inv-loop μ-loop
+loop-holds c = between-all _ _ _ (row-has (c .before .before .before .pre .0 .entries) (c .row-span .ensures))
+
+sub-middle : tie.Need-sub-middle Inv-loop μ-loop
+sub-middle c = omega arith
+
+add-middle : tie.Need-add-middle Inv-loop μ-loop
+add-middle c = omega (arith, row-has (c .before .before .before .before .before .pre .0 .entries) (c .before .before .row-span .ensures), c .before .before .row-span .ensures)
+
+add-num : tie.Need-add-num Inv-loop μ-loop
+add-num c = omega (arith, row-has (c .before .before .before .before .before .pre .0 .entries) (c .before .before .row-span .ensures), c .before .before .row-span .ensures)
+
+num-requires : tie.Need-num-requires Inv-loop μ-loop
+num-requires c κs =
+    let P = c .before .before .before .before .before .pre .0 in
+    can-read-child (P .entries) (c .before .before .row-span .ensures) (omega (arith, row-has (P .entries) (c .before .before .row-span .ensures)))
+
+returns : tie.Need-returns Inv-loop μ-loop
+returns c =
+    let P = c .before .before .before .before .before .before .before .pre .0 in
+    let R = c .before .before .before .before .row-span .ensures in
+    let B = c .before .before .before .loop .inv in
+    between-here (row-climbs P (c .before .before .before .before .before .before .before .pre .1)) B (omega arith) (omega arith)
+    (child-was (P .entries) R (omega (arith, row-has (P .entries) R)) (c .before .num .ensures .0)) (c .if1 .taken)
+
+add-low : tie.Need-add-low Inv-loop μ-loop
+add-low c = omega (arith, row-has (c .before .before .before .before .before .before .before .before .pre .0 .entries) (c .before .before .before .before .before .row-span .ensures), c .before .before .before .before .before .row-span .ensures)
+
+loop-less : tie.Need-loop-less Inv-loop μ-loop
+loop-less c = omega arith
+
+loop-again : tie.Need-loop-again Inv-loop μ-loop
+loop-again c =
+    let P = c .before .before .before .before .before .before .before .before .pre .0 in
+    let R = c .before .before .before .before .before .row-span .ensures in
+    let B = c .before .before .before .before .loop .inv in
+    between-right (row-climbs P (c .before .before .before .before .before .before .before .before .pre .1)) B (omega arith) (omega arith)
+    (child-was (P .entries) R (omega (arith, row-has (P .entries) R)) (c .before .before .num .ensures .0)) (c .if2 .taken)
+
+loop-less-2 : tie.Need-loop-less-2 Inv-loop μ-loop
+loop-less-2 c = omega arith
+
+loop-again-2 : tie.Need-loop-again-2 Inv-loop μ-loop
+loop-again-2 c =
+    let P = c .before .before .before .before .before .before .before .before .pre .0 in
+    let R = c .before .before .before .before .before .row-span .ensures in
+    let B = c .before .before .before .before .loop .inv in
+    between-left (row-climbs P (c .before .before .before .before .before .before .before .before .pre .1)) B (omega arith) (omega arith)
+    (child-was (P .entries) R (omega (arith, row-has (P .entries) R)) (c .before .before .num .ensures .0)) (omega arith)
+
+returns-2 : tie.Need-returns-2 Inv-loop μ-loop
+returns-2 c = between-none (c .before .loop .inv) (c .loop-test .left)
+
+pub child-in-spec : {M : Type 1} → statement M
+child-in-spec =
+    tie.close
+    (tie.spec
+    Inv-loop
+    μ-loop
+    row-span-requires
+    loop-holds
+    sub-middle
+    add-middle
+    add-num
+    num-requires
+    returns
+    add-low
+    loop-less
+    loop-again
+    loop-less-2
+    loop-again-2
+    returns-2)

@@ -1,0 +1,84 @@
+-- `sound_labels::fall_passes` meets its contract. The invariant: e has fallen to every child passed.
+use mathlib.Core.Path.{sym, _∙_}
+use Prim.Native.Nat.{_-_}
+use native.Mathlib.Omega.{arith}
+use Rattle.sections.specs.Sections.{childrenIn, labellingIn}
+use Rattle.sound_groups.proofs.Passed.{Passed, all-broken, passed-none, passed-next, passed-all}
+use Rattle.sound_groups.proofs.Row.{can-read-child, child-low}
+use Rattle.sound_labels.specs.Tests.{fallsTo}
+use Rattle.sound_labels.proofs.Falls.{fall-is, falls, falls-not}
+use Rattle.sound_labels.proofs.fall_passes.Statement.{statement}
+use Rattle.sound_labels.proofs.fall_passes.Tie as tie
+
+abbrev Inv-loop : tie.InvT-loop
+Inv-loop starts children triples places w k c p from len top i₀ i =
+    Passed (fallsTo (childrenIn w starts children k c) (labellingIn w triples places k) p) len i
+
+abbrev μ-loop : tie.MeasureT-loop
+μ-loop starts children triples places w k c p from len top i₀ i = len - i
+
+-- where the function starts, from its loop
+abbrev start : tie.At-loop Inv-loop μ-loop → tie.Start Inv-loop μ-loop
+start l = l .before .before .before .before .before .before .before
+
+row-span-requires : tie.Need-row-span-requires Inv-loop μ-loop
+row-span-requires c κs = (c .before .before .before .before .pre .0 .below .entries .rows, c .before .before .before .before .pre .1)
+
+label-requires : tie.Need-label-requires Inv-loop μ-loop
+label-requires c κs = (c .before .before .before .before .before .pre .0 .labels .triples-held, omega arith)
+
+loop-holds : tie.Need-loop-holds Inv-loop μ-loop
+loop-holds c = passed-none _ _
+
+add-num : tie.Need-add-num Inv-loop μ-loop
+add-num c = omega (arith, c .before .before .before .row-span .ensures, start (c .before) .pre)
+
+num-requires : tie.Need-num-requires Inv-loop μ-loop
+num-requires c κs = can-read-child (start (c .before) .pre .0 .below .entries) (c .before .before .before .row-span .ensures) (c .loop-test .taken)
+
+label-requires-2 : tie.Need-label-requires-2 Inv-loop μ-loop
+label-requires-2 c κs =
+    let L = start (c .before .before) .pre .0 in
+    (L .labels .triples-held, (child-low (L .below) (c .before .before .before .before .row-span .ensures) (c .before .loop-test .taken) (c .num .ensures .0), omega arith))
+
+returns : tie.Need-returns Inv-loop μ-loop
+returns c =
+    let L = start (c .before .before .before .before) .pre .0 in
+    let R = c .before .before .before .before .before .before .row-span .ensures in
+    let low = c .before .before .before .loop-test .taken in
+    sym (all-broken _ _ _ low (falls-not L R low (c .before .before .num .ensures .0) (c .before .label2 .ensures .0) (c .before .before .before .before .before .label .ensures .0) (c .if1 .taken)))
+    ∙ fall-is L R
+
+add-i : tie.Need-add-i Inv-loop μ-loop
+add-i c = omega arith
+
+loop-less : tie.Need-loop-less Inv-loop μ-loop
+loop-less c = omega arith
+
+loop-again : tie.Need-loop-again Inv-loop μ-loop
+loop-again c =
+    let L = start (c .before .before .before .before) .pre .0 in
+    let low = c .before .before .before .loop-test .taken in
+    passed-next (c .before .before .before .before .loop .inv) low
+    (falls L (c .before .before .before .before .before .before .row-span .ensures) low (c .before .before .num .ensures .0) (c .before .label2 .ensures .0) (c .before .before .before .before .before .label .ensures .0) (c .if1 .left))
+
+returns-2 : tie.Need-returns-2 Inv-loop μ-loop
+returns-2 c = sym (passed-all (c .before .loop .inv) (c .loop-test .left)) ∙ fall-is (start (c .before) .pre .0) (c .before .before .before .row-span .ensures)
+
+pub fall-passes-spec : {M : Type 1} → statement M
+fall-passes-spec =
+    tie.close
+    (tie.spec
+    Inv-loop
+    μ-loop
+    row-span-requires
+    label-requires
+    loop-holds
+    add-num
+    num-requires
+    label-requires-2
+    returns
+    add-i
+    loop-less
+    loop-again
+    returns-2)

@@ -1,0 +1,22 @@
+-- The parts of lineage's tests that functions of their own compute.
+use mathlib.Core.Bool.{Bool}
+use mathlib.Core.List.{List, [], map}
+use Prim.Native.Nat.{ℕ}
+use lib.Dec.{ltb}
+use lib.ListN.{getD}
+use Rattle.lineage.specs.Lists.{least}
+use Rattle.lineage.specs.Labels.{Labelling}
+use Rattle.lineage.specs.Sound.{labelsPass}
+use Rattle.sections.specs.Sections.{labellingIn, triplesOf, placesOf}
+
+-- e falls from p to child i of its row
+abbrev pub fallsTo : List (List ℕ) → Labelling → ℕ → ℕ → Bool
+fallsTo children l p i = ltb (getD (l .e) (getD (getD children p []) i 0) 0) (getD (l .e) p 0)
+
+-- the least of p's own e and its children's s
+abbrev pub leastBelow : List (List ℕ) → Labelling → ℕ → ℕ
+leastBelow children l p = least (getD (l .e) p 0) (map (λ q. getD (l .s) q 0) (getD children p []))
+
+-- labelling j of a stretch passes its test
+abbrev pub labellingPasses : ℕ → List (List ℕ) → List ℕ → ℕ → ℕ → Bool
+labellingPasses w children labels k j = labelsPass children (labellingIn w (triplesOf w labels k j) (placesOf w labels k j) k)
