@@ -1,0 +1,2 @@
+-- The laws of build.
+pub mod Checks
