@@ -4,18 +4,28 @@ use mathlib.Core.Path.{_≡_, refl, sym, ap, ap₂, _∙_}
 use mathlib.Core.List.{List}
 use Prim.Native.Nat.{ℕ, _≤_, _<_}
 use native.Mathlib.Omega.{arith}
-use lib.Dec.{ltb}
+use lib.Dec.{eqb, ltb}
 use lib.ListN.{length}
-use borrow.Author.Tests.{lt-ltb, le-ltb, not-true, not-false}
+use borrow.Author.Tests.{lt-ltb, le-ltb, ltb-false, eqb-true, not-true, not-false}
 use Rattle.lineage.specs.Lists.{cleared}
-use Rattle.lineage.specs.Stored.{Form, Counts, headerAt, countsIn, formOf, isForm, countsFit, offsetsFit}
+use Rattle.lineage.specs.Stored.{Form, form1, Counts, headerAt, countsIn, formOf, isForm, countsFit, offsetsFit}
 use Rattle.lineage.specs.Sound.{contentsSound}
 use Rattle.lineage.specs.Calls.{Outcome, refused, answered, refuse, outcome, openAnswer, openMarks}
 use Rattle.stored.specs.declared.header.Layout.{Layout}
 use Rattle.stored.proofs.Tests.{neither}
+use Rattle.stored.proofs.Checked.{all-right}
 use Rattle.stored.specs.Header.{layoutIn, headerChecks, Laid}
+use Rattle.open.specs.Yields.{HeaderRight}
 use Rattle.open.specs.Opened.{lateAnswer, lateMarks}
 use Rattle.open.proofs.Contents.{n-is, k-is, c-is, d-is}
+
+-- every number stands for form 1, the only one there is
+pub form-is : (number : ℕ) → formOf number ≡ form1
+form-is number = at (eqb 1 number)
+  where
+    at : (t : Bool) → cond t form1 form1 ≡ form1
+    at true = refl
+    at false = refl
 
 -- three checks refuse what comes after them, or let it through, whatever it is
 module _ {A B : Type 0} where
@@ -53,15 +63,15 @@ marks-pass false false true form l x rest marks after e = cc
 marks-pass false false false form l x rest marks after e = ap (λ (t : Bool). cond t marks after) (sym (or-false rest))
 
 -- where five checks let an answer through, none applies
-five-pass : {A B : Type 0} (s u w t v : Bool) (form n : ℕ) (l : A) (a x : B)
+five-pass : {A : Type 0} (s u w t v : Bool) (form n : ℕ) (a x : A)
     → answered x ≡ refuse s 10 0 (refuse u 11 form (refuse w 12 0 (refuse t 13 n (refuse v 15 0 (answered a)))))
-    → (answered l ≡ refuse s 10 0 (refuse u 11 form (refuse w 12 0 (answered l)))) × ((w ≡ false) × (v ≡ false))
-five-pass true u w t v form n l a x e = let z : _≡_ {A = ℕ} 0 1 = cc in absurd (omega arith)
-five-pass false true w t v form n l a x e = let z : _≡_ {A = ℕ} 0 1 = cc in absurd (omega arith)
-five-pass false false true t v form n l a x e = let z : _≡_ {A = ℕ} 0 1 = cc in absurd (omega arith)
-five-pass false false false true v form n l a x e = let z : _≡_ {A = ℕ} 0 1 = cc in absurd (omega arith)
-five-pass false false false false true form n l a x e = let z : _≡_ {A = ℕ} 0 1 = cc in absurd (omega arith)
-five-pass false false false false false form n l a x e = (refl, (refl, refl))
+    → (s ≡ false) × ((u ≡ false) × ((w ≡ false) × (v ≡ false)))
+five-pass true u w t v form n a x e = let z : _≡_ {A = ℕ} 0 1 = cc in absurd (omega arith)
+five-pass false true w t v form n a x e = let z : _≡_ {A = ℕ} 0 1 = cc in absurd (omega arith)
+five-pass false false true t v form n a x e = let z : _≡_ {A = ℕ} 0 1 = cc in absurd (omega arith)
+five-pass false false false true v form n a x e = let z : _≡_ {A = ℕ} 0 1 = cc in absurd (omega arith)
+five-pass false false false false true form n a x e = let z : _≡_ {A = ℕ} 0 1 = cc in absurd (omega arith)
+five-pass false false false false false form n a x e = (refl, (refl, (refl, refl)))
 
 module _ (b : List ℕ) where
   abbrev short : Bool
@@ -93,23 +103,35 @@ module _ (b : List ℕ) where
     unfolding openMarks lateMarks
     header-marks marks = marks-pass short unknown wrong (headerAt b 0) l (layoutIn b) (ltb (length marks) (countsIn b .n)) marks (cleared (countsIn b .n) marks) e
 
-  -- what opens: its header passes, its counts are within their bounds, its contents are sound
+  -- what opens: its header is right, and its contents are sound
   module _ (m : ℕ) {a : Counts} (e : answered a ≡ openAnswer b m) where
     abbrev F : Form
     F = formOf (headerAt b 0)
 
-    passed : (answered (layoutIn b) ≡ outcome (headerChecks b) (layoutIn b)) × ((wrong ≡ false) × (not (contentsSound (F .width) b) ≡ false))
+    passed : (short ≡ false) × ((unknown ≡ false) × ((wrong ≡ false) × (not (contentsSound (F .width) b) ≡ false)))
     unfolding openAnswer
-    passed = five-pass short unknown wrong (ltb m (countsIn b .n)) _ (headerAt b 0) (countsIn b .n) (layoutIn b) (countsIn b) a e
+    passed = five-pass short unknown wrong (ltb m (countsIn b .n)) _ (headerAt b 0) (countsIn b .n) (countsIn b) a e
 
-    pub opened-header : answered (layoutIn b) ≡ outcome (headerChecks b) (layoutIn b)
-    opened-header = passed .0
-
-    pub opened-counts : countsFit F (countsIn b) ≡ true
-    opened-counts = neither (countsFit F (countsIn b)) (offsetsFit F (countsIn b) b) (passed .1 .0) .0
+    pub opened-right : HeaderRight b
+    opened-right =
+        let known : isForm (headerAt b 0) ≡ true = not-false (isForm (headerAt b 0)) (passed .1 .0) in
+        let fit = neither (countsFit F (countsIn b)) (offsetsFit F (countsIn b) b) (passed .1 .1 .0) in
+        record {
+          long = ltb-false (length b) 48 (passed .0);
+          form = sym (eqb-true (F .number) (headerAt b 0) known) ∙ ap (λ (G : Form). G .number) (form-is (headerAt b 0));
+          counts = ap (λ (G : Form). countsFit G (countsIn b)) (sym (form-is (headerAt b 0))) ∙ fit .0;
+          offsets = ap (λ (G : Form). offsetsFit G (countsIn b) b) (sym (form-is (headerAt b 0))) ∙ fit .1;
+        }
 
     pub opened-contents : contentsSound (F .width) b ≡ true
-    opened-contents = not-false (contentsSound (F .width) b) (passed .1 .1)
+    opened-contents = not-false (contentsSound (F .width) b) (passed .1 .1 .1)
+
+  -- a header that is right passes
+  pub right-passes : HeaderRight b → answered (layoutIn b) ≡ outcome (headerChecks b) (layoutIn b)
+  right-passes R =
+      all-right b (R .long) (ap isForm (R .form))
+      (ap (λ (G : Form). countsFit G (countsIn b)) (form-is (headerAt b 0)) ∙ R .counts)
+      (ap (λ (G : Form). offsetsFit G (countsIn b) b) (form-is (headerAt b 0)) ∙ R .offsets)
 
 -- 13 and 15, of bytes whose header passes
 module _ {b : List ℕ} {l : Layout} (L : Laid b l) where

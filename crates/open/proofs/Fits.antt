@@ -52,7 +52,8 @@ bounds-kept F G ends orders permuted vertices edges least most =
     (and-both (le-leb (a .c) (F .entries) (omega (arith, entries-few G (namesOf G))))
     (and-both (le-leb 1 (a .d) (omega arith)) (le-leb (a .d) 5 (omega arith)))))
 
-full : (children : List (List ℕ)) (k : ℕ) → length children ≡ k → (ls : List Labelling) → Every (SoundLabelling children) ls → Every (Full k) ls
+-- each labelling has its k entries
+pub full : (children : List (List ℕ)) (k : ℕ) → length children ≡ k → (ls : List Labelling) → Every (SoundLabelling children) ls → Every (Full k) ls
 full children k e [] h = tt
 full children k e (l ∷ ls) h =
     (record { s = h .0 .s-long ∙ e; m = h .0 .m-long ∙ e; e = h .0 .e-long ∙ e; byRank = h .0 .at-long ∙ e }, full children k e ls (h .1))

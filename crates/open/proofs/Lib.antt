@@ -5,4 +5,5 @@ pub mod Entries
 pub mod Starts
 pub mod Small
 pub mod Fits
+pub mod Bounds
 pub mod Theorem

@@ -1,18 +1,17 @@
 -- Opening decides exactly what it should: bytes open where some edge list, of any length, and some orders yield exactly these bytes. What opens passes the local
 -- tests, so some graph and orders make the index that it holds, and that index, written, is the bytes again. What a graph and orders yield fits the form, and its
 -- bytes are read again as the index, which passes the tests.
-use mathlib.Core.Bool.{Bool, true, false, cond}
+use mathlib.Core.Bool.{true}
 use mathlib.Core.Logic.{_↔_}
-use mathlib.Core.Path.{_≡_, refl, sym, ap, ap₂, _∙_}
+use mathlib.Core.Path.{_≡_, refl, sym, ap, ap₂, subst, _∙_}
 use mathlib.Core.List.{List}
-use Prim.Native.Nat.{ℕ, _≤_}
+use Prim.Native.Nat.{ℕ, _^_, _≤_, _<_}
 use native.Mathlib.Omega.{arith}
-use lib.Dec.{eqb}
-use lib.ListN.{length}
+use lib.ListN.{length, length-map}
 use Rattle.lineage.specs.Lists.{joined, Every}
 use Rattle.lineage.specs.Graph.{Graph, Ends}
-use Rattle.lineage.specs.Labels.{Order}
-use Rattle.lineage.specs.Index.{Index, indexOf, Made}
+use Rattle.lineage.specs.Labels.{Order, labelling}
+use Rattle.lineage.specs.Index.{Index, indexBy, indexOf, Made}
 use Rattle.lineage.specs.Stored.{Form, form1, Counts, countsOf, countsFit, encode, headerAt, countsIn, formOf, stretch, section, labellingAt, decode}
 use Rattle.lineage.specs.Sound.{startsPass, sound, contentsSound}
 use Rattle.lineage.specs.Calls.{answered, openAnswer, indexIn}
@@ -28,20 +27,13 @@ use Rattle.stored.proofs.Starts.{starts-rise, rows-joined}
 use Rattle.stored.proofs.Laid.{header-laid}
 use Rattle.stored.proofs.Encoded.{counts-read}
 use Rattle.stored.proofs.Decoded.{encode-decode}
-use Rattle.open.specs.Yielded.{Yielded}
-use Rattle.open.proofs.Checks.{opened-header, opened-counts, opened-contents}
+use Rattle.open.specs.Yields.{Yields, HeaderRight}
+use Rattle.open.proofs.Checks.{form-is, opened-right, opened-contents, right-passes}
 use Rattle.open.specs.declared.Opened.{Opened}
 use Rattle.open.specs.declared.Opened.the-variants.{Index as IndexOf, Refused}
 use Rattle.open.specs.Opened.{openedOf}
+use Rattle.open.proofs.Bounds.{counts-again, laid-short}
 use Rattle.open.proofs.Fits.{form1-wide, bounds-kept, yielded-fits, fits-opens}
-
--- every number stands for form 1, the only one there is
-form-is : (number : ℕ) → formOf number ≡ form1
-form-is number = at (eqb 1 number)
-  where
-    at : (t : Bool) → cond t form1 form1 ≡ form1
-    at true = refl
-    at false = refl
 
 -- the counts of the index that bytes hold are the header's, where the child starts pass
 counts-are : (w : ℕ) (b : List ℕ) → startsPass (section w (countsIn b) b 3) (countsIn b .k) (countsIn b .c) ≡ true → countsOf (decode w b) ≡ countsIn b
@@ -67,39 +59,73 @@ module _ (b : List ℕ) (marks : ℕ) {a : Counts} (e : answered a ≡ openAnswe
   pub opened-made : Made (indexIn b)
   opened-made = sound-is-made (indexIn b) .0 (tests .1)
 
-  pub opened-yielded : Bytes b → Yielded form1 b
-  opened-yielded small =
+  opened-counts : countsOf (indexOf (opened-made .graph) (opened-made .orders)) ≡ countsIn b
+  opened-counts = ap countsOf (opened-made .yields) ∙ counts-are (F .width) b (tests .0)
+
+  opened-yields : Bytes b → Yields form1 b
+  opened-yields small =
       let M : Made (indexIn b) = opened-made in
+      let laid = header-laid b (layoutIn b) (right-passes b (opened-right b marks e)) in
       record {
         graph = M .graph;
         ends = M .ends;
         orders = M .orders;
         permuted = M .permuted;
-        bounds =
-            ap₂ countsFit (sym (form-is (headerAt b 0))) (ap countsOf (M .yields) ∙ counts-are (F .width) b (tests .0)) ∙ opened-counts b marks e;
-        yields =
-            ap₂ encode (sym (form-is (headerAt b 0))) (M .yields)
-            ∙ encode-decode (header-laid b (layoutIn b) (opened-header b marks e)) small (tests .0);
+        bytes = ap₂ encode (sym (form-is (headerAt b 0))) (M .yields) ∙ encode-decode laid small (tests .0);
       }
 
 -- What is yielded.
-yielded-opens : (b : List ℕ) (marks : ℕ) → countsIn b .n ≤ marks → Yielded form1 b → answered (countsIn b) ≡ openAnswer b marks
-yielded-opens b marks h Y =
-    let I : Index = indexOf (Y .graph) (Y .orders) in
-    let E : Fits form1 I = yielded-fits form1-wide (Y .graph) (Y .ends) (Y .orders) (Y .permuted) (Y .bounds) in
-    let n : countsIn b .n ≡ length (I .names) = ap (λ (z : List ℕ). countsIn z .n) (sym (Y .yields)) ∙ ap (λ (z : Counts). z .n) (counts-read E) in
-    ap (λ (z : List ℕ). answered (countsIn z)) (sym (Y .yields))
-    ∙ ap answered (counts-read E)
-    ∙ fits-opens E (sound-decides I .1 (made-sound (Y .graph) (Y .ends) (Y .orders) (Y .permuted))) marks (omega arith)
-    ∙ ap (λ (z : List ℕ). openAnswer z marks) (Y .yields)
+module _ {b : List ℕ} (Y : Yields form1 b) where
+  abbrev I : Index
+  I = indexOf (Y .graph) (Y .orders)
 
--- bytes open exactly where some edge list, of any length, and some orders, n, c and d being within form 1's bounds, yield exactly these bytes
-pub opens-exactly : (b : List ℕ) (marks : ℕ) → Bytes b → countsIn b .n ≤ marks → (openAnswer b marks ≡ answered (countsIn b)) ↔ Yielded form1 b
-opens-exactly b marks small room = ((λ e. opened-yielded b marks (sym e) small), λ Y. sym (yielded-opens b marks room Y))
+  passes : sound I ≡ true
+  passes = sound-decides I .1 (made-sound (Y .graph) (Y .ends) (Y .orders) (Y .permuted))
+
+  -- as many labellings as orders
+  labellings : length (I .labels) ≡ length (Y .orders)
+  unfolding indexOf indexBy
+  labellings = length-map (Y .orders) (labelling (I .groups) (I .children))
+
+  yields-open : countsFit form1 (countsOf I) ≡ true → (marks : ℕ) → countsIn b .n ≤ marks → answered (countsIn b) ≡ openAnswer b marks
+  yields-open bounds marks room =
+      let E : Fits form1 I = yielded-fits form1-wide (Y .graph) (Y .ends) (Y .orders) (Y .permuted) bounds in
+      let n : countsIn b .n ≡ length (I .names) = ap (λ (z : List ℕ). countsIn z .n) (sym (Y .bytes)) ∙ ap (λ (z : Counts). z .n) (counts-read E) in
+      ap (λ (z : List ℕ). answered (countsIn z)) (sym (Y .bytes))
+      ∙ ap answered (counts-read E)
+      ∙ fits-opens E passes marks (omega arith)
+      ∙ ap (λ (z : List ℕ). openAnswer z marks) (Y .bytes)
+
+  -- the header's counts are the index's
+  counts-right : HeaderRight b → length (Y .orders) ≡ countsIn b .d → countsFit form1 (countsOf I) ≡ true
+  counts-right R d =
+      let L = header-laid b (layoutIn b) (right-passes b R) in
+      let short : length (encode form1 I) < 2 ^ 31 = subst (λ (z : List ℕ). length z < 2 ^ 31) (sym (Y .bytes)) (laid-short L) in
+      let counts = counts-again (made-sound (Y .graph) (Y .ends) (Y .orders) (Y .permuted)) short (omega (arith, labellings, L .most)) in
+      ap (countsFit form1) (sym counts ∙ ap countsIn (Y .bytes)) ∙ R .counts
+
+-- bytes open exactly where their header is right for form 1 and some edge list, of any length, and d orders yield exactly these bytes
+pub opens-exactly : (b : List ℕ) (marks : ℕ) → Bytes b → countsIn b .n ≤ marks
+    → (openAnswer b marks ≡ answered (countsIn b)) ↔ (HeaderRight b × ((Y : Yields form1 b) × (length (Y .orders) ≡ countsIn b .d)))
+unfolding opened-yields
+opens-exactly b marks small room = (
+  (λ e.
+      (opened-right b marks (sym e), (opened-yields b marks (sym e) small, sym (labellings (opened-yields b marks (sym e) small)) ∙ ap (λ (a : Counts). a .d) (opened-counts b marks (sym e))))),
+  λ (R, (Y, d)). sym (yields-open Y (counts-right Y R d) marks room),
+)
+
+-- the same by the counts of what is yielded: n, c and d are within form 1's bounds
+pub opens-within : (b : List ℕ) (marks : ℕ) → Bytes b → countsIn b .n ≤ marks
+    → (openAnswer b marks ≡ answered (countsIn b)) ↔ ((Y : Yields form1 b) × (countsFit form1 (countsOf (indexOf (Y .graph) (Y .orders))) ≡ true))
+unfolding opened-yields
+opens-within b marks small room = (
+  (λ e. (opened-yields b marks (sym e) small, ap (countsFit form1) (opened-counts b marks (sym e)) ∙ opened-right b marks (sym e) .counts)),
+  λ (Y, bounds). sym (yields-open Y bounds marks room),
+)
 
 -- and so of the code: whatever answer its contract allows
 pub accepts-exactly : (b : List ℕ) (marks : ℕ) → Bytes b → countsIn b .n ≤ marks → (r : Opened) → openedOf r ≡ openAnswer b marks
-    → (openedOf r ≡ answered (countsIn b)) ↔ Yielded form1 b
+    → (openedOf r ≡ answered (countsIn b)) ↔ (HeaderRight b × ((Y : Yields form1 b) × (length (Y .orders) ≡ countsIn b .d)))
 accepts-exactly b marks small room r e = rw e (opens-exactly b marks small room)
 
 -- what a build of accepted input stores opens

@@ -49,7 +49,9 @@ fn parts_sound(
 ) -> bool
     requires { ⌜ Parts w n k c d (now names) (now groups) (now levels) (now starts) (now children) (now labels) ⌝ }
     requires { ⌜ n ≤ length (now marks) ⌝ }
-    ensures { λ r. ⌜ r ≡ (startsPass (numbers w (now (starts .entry)) (k + 1)) k c && sound (indexFrom w n k c d (now (names .entry)) (now (groups .entry)) (now (levels .entry)) (now (starts .entry)) (now (children .entry)) (now (labels .entry)))) ⌝ }
+    ensures { λ r. ⌜ r ≡ (startsPass (numbers w (now (starts .entry)) (k + 1)) k c
+        && sound (indexFrom w n k c d (now (names .entry)) (now (groups .entry)) (now (levels .entry)) (now (starts .entry)) (now (children .entry))
+        (now (labels .entry)))) ⌝ }
     ensures { λ _. ⌜ now (marks .exit) ≡ cleared n (now (marks .entry)) ⌝ }
 {
     if !groups_pass(names, groups, levels, starts, children, w, n, k, c) {

@@ -28,6 +28,7 @@ all-broken p (suc n) i h f = at (ℕ-discrete i n) (all-broken p n i)
     at (yes e) ih = rw (← e, f) (and-false (allBelow i p))
     at (no g) ih = rw (ih (omega arith) f)
 
+-- none is gone through, the next passes, all have passed
 pub passed-none : (p : ℕ → Bool) (n : ℕ) → Passed p n 0
 passed-none p n = record { within = omega arith; all = refl }
 

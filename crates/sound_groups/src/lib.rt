@@ -1,4 +1,5 @@
-// The tests of names, group list, child starts, children and levels: with those of the labels they decide whether contents are sound.
+// The tests of names, group list, child starts, children and levels: with those of the labels they decide whether contents are sound. Each goes once over the
+// vertices, the groups or the child entries.
 ghost use mathlib.Core.Bool.{_&&_};
 ghost use mathlib.Core.Path.{_≡_};
 ghost use Prim.Native.Nat.{_+_, _<_, max};
@@ -24,7 +25,7 @@ fn own_name(names: &[u8], w: usize, n: usize, v: usize) -> bool
     num(names, w, name) == name
 }
 
-// Whether each of n names is so.
+// Whether the name of each of n vertices is.
 fn own_names(names: &[u8], w: usize, n: usize) -> bool
     requires { ⌜ Holds w (now names) n ⌝ }
     ensures { λ r. ⌜ r ≡ allBelow n (ownName (numbers w (now (names .entry)) n)) ⌝ }
@@ -62,7 +63,7 @@ fn lists_names(names: &[u8], groups: &[u8], w: usize, n: usize, k: usize) -> boo
     p == k
 }
 
-// Whether names and group list are by the rules.
+// Whether every name is not above its vertex and is its own name, and the group list is all names, rising.
 fn names_pass(names: &[u8], groups: &[u8], w: usize, n: usize, k: usize) -> bool
     requires { ⌜ Holds w (now names) n ⌝ }
     requires { ⌜ Holds w (now groups) k ⌝ }
@@ -137,7 +138,7 @@ fn row_passes(starts: &[u8], children: &[u8], w: usize, k: usize, c: usize, p: u
     true
 }
 
-// Whether the children of every group are.
+// Whether the children of every group are places, strictly rising.
 fn rows_pass(starts: &[u8], children: &[u8], w: usize, k: usize, c: usize) -> bool
     requires { ⌜ Children w (now starts) (now children) k c ⌝ }
     ensures { λ r. ⌜ r ≡ allBelow k (rowPasses (childrenIn w (now (starts .entry)) (now (children .entry)) k c)) ⌝ }
@@ -186,7 +187,7 @@ fn level_above(
     level
 }
 
-// Whether the level of group p is that.
+// Whether the level of group p is what its children give.
 fn level_passes(
     starts: &[u8],
     children: &[u8],
@@ -204,7 +205,7 @@ fn level_passes(
     num(levels, w, p) == level_above(starts, children, levels, w, k, c, p)
 }
 
-// Whether the level of every group is.
+// Whether the level of every group is what its children give.
 fn levels_pass(starts: &[u8], children: &[u8], levels: &[u8], w: usize, k: usize, c: usize) -> bool
     requires { ⌜ Places w (now starts) (now children) k c ⌝ }
     requires { ⌜ Holds w (now levels) k ⌝ }
@@ -233,7 +234,9 @@ pub fn groups_pass(
     c: usize,
 ) -> bool
     requires { ⌜ Groups w n k c (now names) (now groups) (now levels) (now starts) (now children) ⌝ }
-    ensures { λ r. ⌜ r ≡ (startsPass (numbers w (now (starts .entry)) (k + 1)) k c && groupsPass (numbers w (now (names .entry)) n) (numbers w (now (groups .entry)) k) (numbers w (now (levels .entry)) k) (childrenIn w (now (starts .entry)) (now (children .entry)) k c)) ⌝ }
+    ensures { λ r. ⌜ r ≡ (startsPass (numbers w (now (starts .entry)) (k + 1)) k c
+        && groupsPass (numbers w (now (names .entry)) n) (numbers w (now (groups .entry)) k) (numbers w (now (levels .entry)) k)
+        (childrenIn w (now (starts .entry)) (now (children .entry)) k c)) ⌝ }
 {
     if !starts_pass(starts, w, k, c) {
         return false;

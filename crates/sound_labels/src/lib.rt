@@ -1,4 +1,5 @@
-// The tests of one labelling: with those of the groups they decide whether contents are sound.
+// The tests of labellings: with those of the groups they decide whether contents are sound. Each goes once over the ranks, the groups or the child entries. The walks
+// over the blocks of all groups pass each place at most once, and look a child up in its parent's row by halves.
 ghost use mathlib.Core.Path.{_≡_};
 ghost use Prim.Native.Nat.{_+_, _*_, _^_, _≤_, _<_, min};
 ghost use lib.ListN.{length};
@@ -145,7 +146,7 @@ fn least_below(
     s
 }
 
-// Whether s of group p is that.
+// Whether s of group p is the least of its own e and its children's s.
 fn outer_passes(
     starts: &[u8],
     children: &[u8],
@@ -163,7 +164,7 @@ fn outer_passes(
     label(triples, w, k, p, S) == least_below(starts, children, triples, places, w, k, c, p)
 }
 
-// Whether s of every group is.
+// Whether s of every group is the least of its own e and its children's s.
 fn outers_pass(
     starts: &[u8],
     children: &[u8],
@@ -199,7 +200,7 @@ fn inner_passes(triples: &[u8], places: &[u8], w: usize, k: usize, p: usize) -> 
     m <= label(triples, w, k, p, E)
 }
 
-// Whether m of every group is.
+// Whether m of every group is a rank not above its e.
 fn inners_pass(triples: &[u8], places: &[u8], w: usize, k: usize) -> bool
     requires { ⌜ Labels w (now triples) (now places) k ⌝ }
     ensures { λ a. ⌜ a ≡ allBelow k (innerPasses (labellingIn w (now (triples .entry)) (now (places .entry)) k)) ⌝ }
@@ -275,7 +276,7 @@ fn block_passes(
     rank == low
 }
 
-// Whether the inner interval of every group is.
+// Whether the inner interval of every group is its own rank and, side by side, the inner intervals of its children.
 fn blocks_pass(
     starts: &[u8],
     children: &[u8],
@@ -362,7 +363,7 @@ fn labels_pass(
     roots_pass(triples, places, marks, w, k)
 }
 
-// Whether labelling j of d is.
+// Whether labelling j of d is by the rules over the children.
 fn labelling_passes(
     starts: &[u8],
     children: &[u8],
@@ -385,7 +386,7 @@ fn labelling_passes(
     labels_pass(starts, children, triples, places, marks, w, k, c)
 }
 
-// Whether each of d labellings is.
+// Whether each of d labellings is by the rules over the children.
 fn labellings_pass(
     starts: &[u8],
     children: &[u8],
@@ -411,7 +412,7 @@ fn labellings_pass(
     true
 }
 
-// Whether each of d labellings is by the rules over the children. Marks tell meanwhile who is somebody's child; those below n are 0 afterwards.
+// The same, whatever the marks hold: meanwhile they tell who is somebody's child, and those below n are 0 afterwards.
 pub fn labels_sound(
     starts: &[u8],
     children: &[u8],

@@ -5,6 +5,10 @@ use Rattle.open.proofs.Contents.{contents-are}
 use Rattle.open.proofs.contents_sound.Statement.{statement}
 use Rattle.open.proofs.contents_sound.Tie as tie
 
+-- where the function starts, from where the first part is made
+abbrev entry : tie.After-names → tie.Start
+entry c = c .before .before .before
+
 names-requires : tie.Need-names-requires
 names-requires c κs = search needs
 
@@ -30,11 +34,18 @@ same-length : tie.Need-same-length
 same-length c = search needs
 
 returns : tie.Need-returns
-returns c = (
-  c .before .before .parts-sound .ensures .0
-      ∙ contents-are (c .before .before .before .before .before .before .before .before .before .before .before .before .pre .0) (c .before .before .before .before .before .before .before .before .before .names .ensures) (c .before .before .before .before .before .before .before .before .groups .ensures) (c .before .before .before .before .before .before .before .levels .ensures) (c .before .before .before .before .before .before .starts .ensures) (c .before .before .before .before .before .children .ensures) (c .before .before .before .before .labels .ensures),
-  c .before .before .parts-sound .ensures .1,
-)
+returns c =
+    let p = c .before .before in
+    let l = p .before .before in
+    let ch = l .before in
+    let st = ch .before in
+    let lv = st .before in
+    let gr = lv .before in
+    let nm = gr .before in (
+      p .parts-sound .ensures .0
+          ∙ contents-are (entry nm .pre .0) (nm .names .ensures) (gr .groups .ensures) (lv .levels .ensures) (st .starts .ensures) (ch .children .ensures) (l .labels .ensures),
+      p .parts-sound .ensures .1,
+    )
 
 pub contents-sound-spec : {M : Type 1} → statement M
 contents-sound-spec =

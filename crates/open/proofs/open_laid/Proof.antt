@@ -14,19 +14,21 @@ same-length : tie.Need-same-length
 same-length c = search needs
 
 returns-2 : tie.Need-returns-2
-returns-2 c = (
-  unsound (c .before .before .before .before .before .before .before .before .pre) (c .before .before .before .before .before .if1 .left) (c .before .before .before .contents-sound .ensures .0) (c .if2 .taken),
-  marks-cleared (c .before .before .before .before .before .before .before .before .pre) _ (c .before .before .before .before .before .if1 .left) (c .before .before .before .contents-sound .ensures .1),
-)
+returns-2 c =
+    let r = c .before .before .before in
+    let t = r .before .before in
+    let s = t .before .before .before in
+    (unsound (s .pre) (t .if1 .left) (r .contents-sound .ensures .0) (c .if2 .taken), marks-cleared (s .pre) _ (t .if1 .left) (r .contents-sound .ensures .1))
 
 same-length-2 : tie.Need-same-length-2
 same-length-2 c = search needs
 
 returns-3 : tie.Need-returns-3
-returns-3 c = (
-  opened (c .before .before .before .before .before .before .before .before .pre) (c .before .before .before .before .before .if1 .left) (c .before .before .before .contents-sound .ensures .0) (c .if2 .left),
-  marks-cleared (c .before .before .before .before .before .before .before .before .pre) _ (c .before .before .before .before .before .if1 .left) (c .before .before .before .contents-sound .ensures .1),
-)
+returns-3 c =
+    let r = c .before .before .before in
+    let t = r .before .before in
+    let s = t .before .before .before in
+    (opened (s .pre) (t .if1 .left) (r .contents-sound .ensures .0) (c .if2 .left), marks-cleared (s .pre) _ (t .if1 .left) (r .contents-sound .ensures .1))
 
 pub open-laid-spec : {M : Type 1} → statement M
 open-laid-spec =

@@ -7,8 +7,12 @@ use Rattle.open.proofs.Contents.{parts-is}
 use Rattle.open.proofs.parts_sound.Statement.{statement}
 use Rattle.open.proofs.parts_sound.Tie as tie
 
+-- where the function starts
+abbrev entry : tie.After-slice-known → tie.Start
+entry c = c .before .before .before .before .before .before .before
+
 groups-pass-requires : tie.Need-groups-pass-requires
-groups-pass-requires c κs = c .before .before .before .before .before .before .before .pre .0 .condensed
+groups-pass-requires c κs = entry c .pre .0 .condensed
 
 clear-marks-requires : tie.Need-clear-marks-requires
 clear-marks-requires c κs = search needs
@@ -17,21 +21,25 @@ same-length : tie.Need-same-length
 same-length c = search needs
 
 returns : tie.Need-returns
-returns c = (and-fails (c .before .before .before .before .before .groups-pass .ensures) _ (c .before .before .before .before .if1 .taken) ∙ parts-is _ _ _ _ _ _ _ _ _ _ _, c .before .before .clear-marks .ensures)
+returns c =
+    let t = c .before .before .before .before in
+    (and-fails (t .before .groups-pass .ensures) _ (t .if1 .taken) ∙ parts-is _ _ _ _ _ _ _ _ _ _ _, c .before .before .clear-marks .ensures)
 
 labels-sound-requires : tie.Need-labels-sound-requires
 labels-sound-requires c κs =
-    let P = c .before .before .before .before .before .before .before .before .before .before .pre .0 in
-    (places-passed (P .condensed) (answered (c .before .before .groups-pass .ensures) (c .before .if1 .left)), (P .labelled, (P .fewer, c .before .before .before .before .before .before .before .before .before .before .pre .1)))
+    let t = c .before in
+    let s = entry (t .before .before) in
+    let P = s .pre .0 in
+    (places-passed (P .condensed) (answered (t .before .groups-pass .ensures) (t .if1 .left)), (P .labelled, (P .fewer, s .pre .1)))
 
 same-length-2 : tie.Need-same-length-2
 same-length-2 c = search needs
 
 returns-2 : tie.Need-returns-2
-returns-2 c = (
-  and-goes (c .before .before .before .before .before .groups-pass .ensures) (c .before .before .before .before .if1 .left) (c .before .before .labels-sound .ensures .0) ∙ parts-is _ _ _ _ _ _ _ _ _ _ _,
-  c .before .before .labels-sound .ensures .1,
-)
+returns-2 c =
+    let l = c .before .before in
+    let t = l .before .before in
+    (and-goes (t .before .groups-pass .ensures) (t .if1 .left) (l .labels-sound .ensures .0) ∙ parts-is _ _ _ _ _ _ _ _ _ _ _, l .labels-sound .ensures .1)
 
 pub parts-sound-spec : {M : Type 1} → statement M
 parts-sound-spec =

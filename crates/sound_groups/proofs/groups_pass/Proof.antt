@@ -5,39 +5,52 @@ use Rattle.sound_groups.proofs.Groups.{groups-is, children-after, place
 use Rattle.sound_groups.proofs.groups_pass.Statement.{statement}
 use Rattle.sound_groups.proofs.groups_pass.Tie as tie
 
+-- where the function starts
+abbrev entry : tie.After-shared-slice-known5 → tie.Start
+entry c = c .before .before .before .before .before
+
 starts-pass-requires : tie.Need-starts-pass-requires
-starts-pass-requires c κs = c .before .before .before .before .before .pre .starts-held
+starts-pass-requires c κs = entry c .pre .starts-held
 
 returns : tie.Need-returns
 returns c = and-fails (c .before .starts-pass .ensures) _ (c .if1 .taken)
 
 names-pass-requires : tie.Need-names-pass-requires
-names-pass-requires c κs = (c .before .before .before .before .before .before .before .pre .names-held, c .before .before .before .before .before .before .before .pre .groups-held)
+names-pass-requires c κs = let G = entry (c .before .before) .pre in (G .names-held, G .groups-held)
 
 returns-2 : tie.Need-returns-2
 returns-2 c =
-    and-goes (c .before .before .before .starts-pass .ensures) (c .before .before .if1 .left)
+    let one = c .before .before in
+    and-goes (one .before .starts-pass .ensures) (one .if1 .left)
     (and-fails (c .before .names-pass .ensures) _ (c .if2 .taken) ∙ groups-is _ _ _ _ _ _ _ _ _)
 
 rows-pass-requires : tie.Need-rows-pass-requires
-rows-pass-requires c κs = children-after (c .before .before .before .before .before .before .before .before .before .pre) (answered (c .before .before .before .starts-pass .ensures) (c .before .before .if1 .left))
+rows-pass-requires c κs =
+    let one = c .before .before in
+    children-after (entry (one .before .before) .pre) (answered (one .before .starts-pass .ensures) (one .if1 .left))
 
 returns-3 : tie.Need-returns-3
 returns-3 c =
-    and-goes (c .before .before .before .before .before .starts-pass .ensures) (c .before .before .before .before .if1 .left)
-    (and-goes (c .before .before .before .names-pass .ensures) (c .before .before .if2 .left) (and-fails (c .before .rows-pass .ensures) _ (c .if3 .taken))
+    let two = c .before .before in
+    let one = two .before .before in
+    and-goes (one .before .starts-pass .ensures) (one .if1 .left)
+    (and-goes (two .before .names-pass .ensures) (two .if2 .left) (and-fails (c .before .rows-pass .ensures) _ (c .if3 .taken))
     ∙ groups-is _ _ _ _ _ _ _ _ _)
 
 levels-pass-requires : tie.Need-levels-pass-requires
-levels-pass-requires c κs = (
-  places-after (c .before .before .before .before .before .before .before .before .before .before .before .pre) (answered (c .before .before .before .before .before .starts-pass .ensures) (c .before .before .before .before .if1 .left)) (answered (c .before .rows-pass .ensures) (c .if3 .left)),
-  c .before .before .before .before .before .before .before .before .before .before .before .pre .levels-held,
-)
+levels-pass-requires c κs =
+    let one = c .before .before .before .before in
+    let G = entry (one .before .before) .pre in
+    (places-after G (answered (one .before .starts-pass .ensures) (one .if1 .left)) (answered (c .before .rows-pass .ensures) (c .if3 .left)), G .levels-held)
 
 returns-4 : tie.Need-returns-4
 returns-4 c =
-    and-goes (c .before .before .before .before .before .before .starts-pass .ensures) (c .before .before .before .before .before .if1 .left)
-    (and-goes (c .before .before .before .before .names-pass .ensures) (c .before .before .before .if2 .left) (and-goes (c .before .before .rows-pass .ensures) (c .before .if3 .left) (c .levels-pass .ensures))
+    let three = c .before in
+    let two = three .before .before in
+    let one = two .before .before in
+    and-goes (one .before .starts-pass .ensures) (one .if1 .left)
+    (and-goes (two .before .names-pass .ensures) (two .if2 .left)
+    (and-goes (three .before .rows-pass .ensures) (three .if3 .left) (c .levels-pass .ensures))
     ∙ groups-is _ _ _ _ _ _ _ _ _)
 
 pub groups-pass-spec : {M : Type 1} → statement M

@@ -20,6 +20,10 @@ Inv-loop starts children levels w k c p from len i₀ level₀ i level =
 abbrev μ-loop : tie.MeasureT-loop
 μ-loop starts children levels w k c p from len i₀ level₀ i level = len - i
 
+-- where the function starts, from its loop
+abbrev start : tie.At-loop Inv-loop μ-loop → tie.Start Inv-loop μ-loop
+start l = l .before .before .before .before .before
+
 row-span-requires : tie.Need-row-span-requires Inv-loop μ-loop
 row-span-requires c κs = (c .before .before .before .pre .0 .entries .rows, c .before .before .before .pre .1 .1)
 
@@ -30,10 +34,12 @@ add-num : tie.Need-add-num Inv-loop μ-loop
 add-num c = omega (arith, c .before .before .row-span .ensures)
 
 num-requires : tie.Need-num-requires Inv-loop μ-loop
-num-requires c κs = can-read-child (c .before .before .before .before .before .before .pre .0 .entries) (c .before .before .row-span .ensures) (c .loop-test .taken)
+num-requires c κs = let l = c .before in can-read-child (start l .pre .0 .entries) (l .before .row-span .ensures) (c .loop-test .taken)
 
 num-requires-2 : tie.Need-num-requires-2 Inv-loop μ-loop
-num-requires-2 c κs = can-read (c .before .before .before .before .before .before .before .pre .1 .0) (child-low (c .before .before .before .before .before .before .before .pre .0) (c .before .before .before .row-span .ensures) (c .before .loop-test .taken) (c .num .ensures .0))
+num-requires-2 c κs =
+    let l = c .before .before in
+    can-read (start l .pre .1 .0) (child-low (start l .pre .0) (l .before .row-span .ensures) (c .before .loop-test .taken) (c .num .ensures .0))
 
 add-larger : tie.Need-add-larger Inv-loop μ-loop
 add-larger c = omega arith
@@ -49,16 +55,19 @@ loop-less c = omega arith
 
 loop-again : tie.Need-loop-again Inv-loop μ-loop
 loop-again c =
-    let P = c .before .before .before .before .before .before .before .before .before .pre .0 in
-    let R = c .before .before .before .before .before .row-span .ensures in
-    let low = c .before .before .before .loop-test .taken in
-    let q = c .before .before .num .ensures .0 in
-    greatest-more (c .before .before .before .before .loop .inv) (omega (arith, row-has (P .entries) R)) (child-was (P .entries) R low q)
-    (add-one _ ∙ ap suc (was-read (c .before .before .before .before .before .before .before .before .before .pre .1 .0) (child-low P R low q) (c .before .num2 .ensures .0)))
-    (c .larger .ensures)
+    let n = c .before .before in
+    let l = n .before .before in
+    let P = start l .pre .0 in
+    let R = l .before .row-span .ensures in
+    let low = n .before .loop-test .taken in
+    let q = n .num .ensures .0 in
+    greatest-more (l .loop .inv) (omega (arith, row-has (P .entries) R)) (child-was (P .entries) R low q)
+    (add-one _ ∙ ap suc (was-read (start l .pre .1 .0) (child-low P R low q) (c .before .num2 .ensures .0))) (c .larger .ensures)
 
 returns : tie.Need-returns Inv-loop μ-loop
-returns c = greatest-all (c .before .loop .inv) (omega (arith, row-has (c .before .before .before .before .before .before .pre .0 .entries) (c .before .before .row-span .ensures)))
+returns c =
+    let l = c .before in
+    greatest-all (l .loop .inv) (omega (arith, row-has (start l .pre .0 .entries) (l .before .row-span .ensures)))
 
 pub level-above-spec : {M : Type 1} → statement M
 level-above-spec =

@@ -15,22 +15,31 @@ Inv-loop names groups w n k v₀ p₀ v p = Listed (numbers w names n) (numbers 
 abbrev μ-loop : tie.MeasureT-loop
 μ-loop names groups w n k v₀ p₀ v p = n - v
 
+-- where the function starts, from its loop
+abbrev start : tie.At-loop Inv-loop μ-loop → tie.Start Inv-loop μ-loop
+start l = l .before .before .before
+
 loop-holds : tie.Need-loop-holds Inv-loop μ-loop
 loop-holds c = listed-none _ _ _ _ _
 
 num-requires : tie.Need-num-requires Inv-loop μ-loop
-num-requires c κs = can-read (c .before .before .before .before .pre .0) (c .loop-test .taken)
+num-requires c κs = can-read (start (c .before) .pre .0) (c .loop-test .taken)
 
 returns : tie.Need-returns Inv-loop μ-loop
-returns c = listed-over (c .before .before .before .before .before .before .before .pre .0) (c .before .before .before .before .before .before .before .pre .1) (c .before .before .before .before .loop .inv) (c .before .before .before .loop-test .taken) (c .before .before .num .ensures .0) (c .before .if1 .taken) (c .if2 .taken)
+returns c =
+    let n = c .before .before in
+    let l = n .before .before in
+    listed-over (start l .pre .0) (start l .pre .1) (l .loop .inv) (n .before .loop-test .taken) (n .num .ensures .0) (c .before .if1 .taken) (c .if2 .taken)
 
 num-requires-2 : tie.Need-num-requires-2 Inv-loop μ-loop
-num-requires-2 c κs = can-read (c .before .before .before .before .before .before .before .pre .1) (omega arith)
+num-requires-2 c κs = can-read (start (c .before .before .before .before) .pre .1) (omega arith)
 
 returns-2 : tie.Need-returns-2 Inv-loop μ-loop
 returns-2 c =
-    listed-other (c .before .before .before .before .before .before .before .before .before .pre .0) (c .before .before .before .before .before .before .before .before .before .pre .1) (c .before .before .before .before .before .before .loop .inv) (c .before .before .before .before .before .loop-test .taken) (c .before .before .before .before .num .ensures .0) (c .before .before .before .if1 .taken) (omega arith)
-    (c .before .num2 .ensures .0) (c .if3 .taken)
+    let m = c .before in
+    let n = m .before .before .before in
+    let l = n .before .before in
+    listed-other (start l .pre .0) (start l .pre .1) (l .loop .inv) (n .before .loop-test .taken) (n .num .ensures .0) (m .before .before .if1 .taken) (omega arith) (m .num2 .ensures .0) (c .if3 .taken)
 
 add-p : tie.Need-add-p Inv-loop μ-loop
 add-p c = omega arith
@@ -43,13 +52,14 @@ loop-less c = omega arith
 
 loop-again : tie.Need-loop-again Inv-loop μ-loop
 loop-again c =
-    let s = c .before .before .before .before .before .before in
-    let L = c .before .before .before .loop .inv in
+    let n = c .before in
+    let l = n .before .before in
+    let N = start l .pre .0 in
+    let G = start l .pre .1 in
+    let low = n .before .loop-test .taken in
     ⊎-elim
-    (λ b. rw (b .4)
-    (listed-next (s .pre .0) (s .pre .1) L (c .before .before .loop-test .taken) (c .before .num .ensures .0) (b .0 .taken) (omega arith) (b .2 .ensures .0)
-    (b .3 .left)))
-    (λ b. rw (b .1) (listed-skip (s .pre .0) (s .pre .1) L (c .before .before .loop-test .taken) (c .before .num .ensures .0) (b .0 .left)))
+    (λ b. rw (b .4) (listed-next N G (l .loop .inv) low (n .num .ensures .0) (b .0 .taken) (omega arith) (b .2 .ensures .0) (b .3 .left)))
+    (λ b. rw (b .1) (listed-skip N G (l .loop .inv) low (n .num .ensures .0) (b .0 .left)))
     (c .if1 .came)
 
 returns-3 : tie.Need-returns-3 Inv-loop μ-loop

@@ -16,6 +16,10 @@ Inv-loop starts children w k c p from len i₀ next₀ i next = Rising k (getD (
 abbrev μ-loop : tie.MeasureT-loop
 μ-loop starts children w k c p from len i₀ next₀ i next = len - i
 
+-- where the function starts, from its loop
+abbrev start : tie.At-loop Inv-loop μ-loop → tie.Start Inv-loop μ-loop
+start l = l .before .before .before .before
+
 row-span-requires : tie.Need-row-span-requires Inv-loop μ-loop
 row-span-requires c κs = (c .before .before .pre .0 .rows, c .before .before .pre .1)
 
@@ -26,21 +30,25 @@ add-num : tie.Need-add-num Inv-loop μ-loop
 add-num c = omega (arith, c .before .before .row-span .ensures)
 
 num-requires : tie.Need-num-requires Inv-loop μ-loop
-num-requires c κs = can-read-child (c .before .before .before .before .before .pre .0) (c .before .before .row-span .ensures) (c .loop-test .taken)
+num-requires c κs = let l = c .before in can-read-child (start l .pre .0) (l .before .row-span .ensures) (c .loop-test .taken)
 
 returns : tie.Need-returns Inv-loop μ-loop
 returns c =
-    let K = c .before .before .before .before .before .before .before .pre .0 in
-    let R = c .before .before .before .before .row-span .ensures in
-    let low = c .before .before .loop-test .taken in
-    sym (rising-high (c .before .before .before .loop .inv) low (child-was K R low (c .before .num .ensures .0)) (c .if1 .taken)) ∙ row-passes-is K R
+    let n = c .before in
+    let l = n .before .before in
+    let K = start l .pre .0 in
+    let R = l .before .row-span .ensures in
+    let low = n .before .loop-test .taken in
+    sym (rising-high (l .loop .inv) low (child-was K R low (n .num .ensures .0)) (c .if1 .taken)) ∙ row-passes-is K R
 
 returns-2 : tie.Need-returns-2 Inv-loop μ-loop
 returns-2 c =
-    let K = c .before .before .before .before .before .before .before .before .pre .0 in
-    let R = c .before .before .before .before .before .row-span .ensures in
-    let low = c .before .before .before .loop-test .taken in
-    sym (rising-back (c .before .before .before .before .loop .inv) low (child-was K R low (c .before .before .num .ensures .0)) (c .if2 .taken)) ∙ row-passes-is K R
+    let n = c .before .before in
+    let l = n .before .before in
+    let K = start l .pre .0 in
+    let R = l .before .row-span .ensures in
+    let low = n .before .loop-test .taken in
+    sym (rising-back (l .loop .inv) low (child-was K R low (n .num .ensures .0)) (c .if2 .taken)) ∙ row-passes-is K R
 
 add-next : tie.Need-add-next Inv-loop μ-loop
 add-next c = omega arith
@@ -53,11 +61,15 @@ loop-less c = omega arith
 
 loop-again : tie.Need-loop-again Inv-loop μ-loop
 loop-again c =
-    let low = c .before .before .before .loop-test .taken in
-    rising-more (c .before .before .before .before .loop .inv) low (child-was (c .before .before .before .before .before .before .before .before .pre .0) (c .before .before .before .before .before .row-span .ensures) low (c .before .before .num .ensures .0)) (c .before .if1 .left) (c .if2 .left)
+    let n = c .before .before in
+    let l = n .before .before in
+    let low = n .before .loop-test .taken in
+    rising-more (l .loop .inv) low (child-was (start l .pre .0) (l .before .row-span .ensures) low (n .num .ensures .0)) (c .before .if1 .left) (c .if2 .left)
 
 returns-3 : tie.Need-returns-3 Inv-loop μ-loop
-returns-3 c = sym (rising-all (c .before .loop .inv) (c .loop-test .left)) ∙ row-passes-is (c .before .before .before .before .before .pre .0) (c .before .before .row-span .ensures)
+returns-3 c =
+    let l = c .before in
+    sym (rising-all (l .loop .inv) (c .loop-test .left)) ∙ row-passes-is (start l .pre .0) (l .before .row-span .ensures)
 
 pub row-passes-spec : {M : Type 1} → statement M
 row-passes-spec =

@@ -14,6 +14,13 @@ Inv-loop starts w k c p₀ p = Passed (notFalling (numbers w starts (k + 1))) k 
 abbrev μ-loop : tie.MeasureT-loop
 μ-loop starts w k c p₀ p = k - p
 
+-- where the function has read the first start, and where it starts, from its loop
+abbrev first : tie.At-loop Inv-loop μ-loop → tie.After-num Inv-loop μ-loop
+first l = l .before .before
+
+abbrev start : tie.At-loop Inv-loop μ-loop → tie.Start Inv-loop μ-loop
+start l = first l .before .before
+
 num-requires : tie.Need-num-requires Inv-loop μ-loop
 num-requires c κs = can-read (c .before .pre .held) (omega arith)
 
@@ -27,16 +34,19 @@ add-num : tie.Need-add-num Inv-loop μ-loop
 add-num c = omega arith
 
 num-requires-2 : tie.Need-num-requires-2 Inv-loop μ-loop
-num-requires-2 c κs = can-read (c .before .before .before .before .before .pre .held) (omega arith)
+num-requires-2 c κs = can-read (start (c .before) .pre .held) (omega arith)
 
 num-requires-3 : tie.Need-num-requires-3 Inv-loop μ-loop
-num-requires-3 c κs = can-read (c .before .before .before .before .before .before .pre .held) (omega arith)
+num-requires-3 c κs = can-read (start (c .before .before) .pre .held) (omega arith)
 
 returns-2 : tie.Need-returns-2 Inv-loop μ-loop
 returns-2 c =
-    let low = c .before .before .before .loop-test .taken in
-    starts-fall (c .before .before .before .before .before .before .before .before .pre) _ (c .before .before .before .before .before .before .num .ensures .0) (c .before .before .before .before .before .if1 .left)
-    (all-broken _ _ _ low (start-falls (c .before .before .before .before .before .before .before .before .pre) low (c .before .num3 .ensures .0) (c .before .before .num2 .ensures .0) (c .if2 .taken)))
+    let t = c .before .before .before in
+    let l = t .before in
+    let S = start l .pre in
+    starts-fall S _ (first l .num .ensures .0) (l .before .if1 .left)
+    (all-broken _ _ _ (t .loop-test .taken)
+    (start-falls S (t .loop-test .taken) (c .before .num3 .ensures .0) (c .before .before .num2 .ensures .0) (c .if2 .taken)))
 
 add-p : tie.Need-add-p Inv-loop μ-loop
 add-p c = omega arith
@@ -46,15 +56,19 @@ loop-less c = omega arith
 
 loop-again : tie.Need-loop-again Inv-loop μ-loop
 loop-again c =
-    let low = c .before .before .before .loop-test .taken in
-    passed-next (c .before .before .before .before .loop .inv) low (start-keeps (c .before .before .before .before .before .before .before .before .pre) low (c .before .num3 .ensures .0) (c .before .before .num2 .ensures .0) (c .if2 .left))
+    let t = c .before .before .before in
+    let l = t .before in
+    passed-next (l .loop .inv) (t .loop-test .taken)
+    (start-keeps (start l .pre) (t .loop-test .taken) (c .before .num3 .ensures .0) (c .before .before .num2 .ensures .0) (c .if2 .left))
 
 num-requires-4 : tie.Need-num-requires-4 Inv-loop μ-loop
-num-requires-4 c κs = can-read (c .before .before .before .before .before .pre .held) (omega arith)
+num-requires-4 c κs = can-read (start (c .before) .pre .held) (omega arith)
 
 returns-3 : tie.Need-returns-3 Inv-loop μ-loop
 returns-3 c =
-    starts-end (c .before .before .before .before .before .before .pre) _ (c .before .before .before .before .num .ensures .0) (c .before .before .before .if1 .left) (passed-all (c .before .before .loop .inv) (c .before .loop-test .left)) (c .num4 .ensures .0)
+    let t = c .before in
+    let l = t .before in
+    starts-end (start l .pre) _ (first l .num .ensures .0) (l .before .if1 .left) (passed-all (l .loop .inv) (t .loop-test .left)) (c .num4 .ensures .0)
 
 pub starts-pass-spec : {M : Type 1} → statement M
 starts-pass-spec =

@@ -50,40 +50,49 @@ child-in-requires c κs = let s = start (c .before .before) in (s .pre .0, s .pr
 
 returns : tie.Need-returns Inv-loop μ-loop
 returns c =
-    let s = start (c .before .before .before .before) in
+    let n = c .before .before in
+    let l = n .before .before in
+    let s = start l in
     let N = s .pre .1 .0 in
-    walks-stop (c .before .before .before .before .loop .inv) (goes-left N) (c .before .before .before .loop-test .taken) (place-was (N .labels) (omega arith) (c .before .before .num .ensures .0))
+    walks-stop (l .loop .inv) (goes-left N) (n .before .loop-test .taken) (place-was (N .labels) (omega arith) (n .num .ensures .0))
     (refused (c .before .child-in .ensures) (c .if1 .taken))
-    ∙ block-is (s .pre .0) N (s .pre .1 .1) (c .before .before .before .before .before .before .label .ensures .0) (c .before .before .before .before .before .label2 .ensures .0)
+    ∙ block-is (s .pre .0) N (s .pre .1 .1) (l .before .before .label .ensures .0) (l .before .label2 .ensures .0)
 
 label-requires-3 : tie.Need-label-requires-3 Inv-loop μ-loop
 label-requires-3 c κs =
-    let N = start (c .before .before .before .before) .pre .1 .0 in
-    (N .labels .triples-held, (place-low N (omega arith) (c .before .before .num .ensures .0), omega arith))
+    let n = c .before .before in
+    let N = start (n .before .before) .pre .1 .0 in
+    (N .labels .triples-held, (place-low N (omega arith) (n .num .ensures .0), omega arith))
 
 sub-rank-2 : tie.Need-sub-rank-2 Inv-loop μ-loop
 sub-rank-2 c =
-    let N = start (c .before .before .before .before .before) .pre .1 .0 in
-    omega (arith, m-some N (place-low N (omega arith) (c .before .before .before .num .ensures .0)) (c .label3 .ensures .0))
+    let n = c .before .before .before in
+    let N = start (n .before .before) .pre .1 .0 in
+    omega (arith, m-some N (place-low N (omega arith) (n .num .ensures .0)) (c .label3 .ensures .0))
 
 loop-less : tie.Need-loop-less Inv-loop μ-loop
 loop-less c =
-    let N = start (c .before .before .before .before .before) .pre .1 .0 in
-    walks-less (c .before .before .before .before .before .loop .inv) (goes-left N) (c .before .before .before .before .loop-test .taken) (place-was (N .labels) (omega arith) (c .before .before .before .num .ensures .0))
-    (m-was (N .labels) (place-low N (omega arith) (c .before .before .before .num .ensures .0)) (c .label3 .ensures .0))
+    let n = c .before .before .before in
+    let l = n .before .before in
+    let N = start l .pre .1 .0 in
+    walks-less (l .loop .inv) (goes-left N) (n .before .loop-test .taken) (place-was (N .labels) (omega arith) (n .num .ensures .0))
+    (m-was (N .labels) (place-low N (omega arith) (n .num .ensures .0)) (c .label3 .ensures .0))
 
 loop-again : tie.Need-loop-again Inv-loop μ-loop
 loop-again c =
-    let N = start (c .before .before .before .before .before) .pre .1 .0 in
-    walks-left (c .before .before .before .before .before .loop .inv) (goes-left N) (c .before .before .before .before .loop-test .taken) (place-was (N .labels) (omega arith) (c .before .before .before .num .ensures .0))
-    (m-was (N .labels) (place-low N (omega arith) (c .before .before .before .num .ensures .0)) (c .label3 .ensures .0))
+    let n = c .before .before .before in
+    let l = n .before .before in
+    let N = start l .pre .1 .0 in
+    walks-left (l .loop .inv) (goes-left N) (n .before .loop-test .taken) (place-was (N .labels) (omega arith) (n .num .ensures .0))
+    (m-was (N .labels) (place-low N (omega arith) (n .num .ensures .0)) (c .label3 .ensures .0))
     (answered (c .before .before .child-in .ensures) (c .before .if1 .left))
 
 returns-2 : tie.Need-returns-2 Inv-loop μ-loop
 returns-2 c =
-    let s = start (c .before) in
-    walks-end (c .before .loop .inv) (c .loop-test .left)
-    ∙ block-is (s .pre .0) (s .pre .1 .0) (s .pre .1 .1) (c .before .before .before .label .ensures .0) (c .before .before .label2 .ensures .0)
+    let l = c .before in
+    let s = start l in
+    walks-end (l .loop .inv) (c .loop-test .left)
+    ∙ block-is (s .pre .0) (s .pre .1 .0) (s .pre .1 .1) (l .before .before .label .ensures .0) (l .before .label2 .ensures .0)
 
 pub block-passes-spec : {M : Type 1} → statement M
 block-passes-spec =

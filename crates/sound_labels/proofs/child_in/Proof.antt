@@ -15,6 +15,10 @@ Inv-loop starts children w k c p q from low₀ high₀ low high = Between (getD 
 abbrev μ-loop : tie.MeasureT-loop
 μ-loop starts children w k c p q from low₀ high₀ low high = high - low
 
+-- where the function starts, from its loop
+abbrev start : tie.At-loop Inv-loop μ-loop → tie.Start Inv-loop μ-loop
+start l = l .before .before .before .before
+
 row-span-requires : tie.Need-row-span-requires Inv-loop μ-loop
 row-span-requires c κs = (c .before .before .pre .0 .entries .rows, c .before .before .pre .1)
 
@@ -25,48 +29,55 @@ sub-middle : tie.Need-sub-middle Inv-loop μ-loop
 sub-middle c = omega arith
 
 add-middle : tie.Need-add-middle Inv-loop μ-loop
-add-middle c = omega (arith, row-has (c .before .before .before .before .before .pre .0 .entries) (c .before .before .row-span .ensures), c .before .before .row-span .ensures)
+add-middle c = let l = c .before in omega (arith, row-has (start l .pre .0 .entries) (l .before .row-span .ensures), l .before .row-span .ensures)
 
 add-num : tie.Need-add-num Inv-loop μ-loop
-add-num c = omega (arith, row-has (c .before .before .before .before .before .pre .0 .entries) (c .before .before .row-span .ensures), c .before .before .row-span .ensures)
+add-num c = let l = c .before in omega (arith, row-has (start l .pre .0 .entries) (l .before .row-span .ensures), l .before .row-span .ensures)
 
 num-requires : tie.Need-num-requires Inv-loop μ-loop
 num-requires c κs =
-    let P = c .before .before .before .before .before .pre .0 in
-    can-read-child (P .entries) (c .before .before .row-span .ensures) (omega (arith, row-has (P .entries) (c .before .before .row-span .ensures)))
+    let l = c .before in
+    let P = start l .pre .0 in
+    let R = l .before .row-span .ensures in
+    can-read-child (P .entries) R (omega (arith, row-has (P .entries) R))
 
 returns : tie.Need-returns Inv-loop μ-loop
 returns c =
-    let P = c .before .before .before .before .before .before .before .pre .0 in
-    let R = c .before .before .before .before .row-span .ensures in
-    let B = c .before .before .before .loop .inv in
-    between-here (row-climbs P (c .before .before .before .before .before .before .before .pre .1)) B (omega arith) (omega arith)
-    (child-was (P .entries) R (omega (arith, row-has (P .entries) R)) (c .before .num .ensures .0)) (c .if1 .taken)
+    let n = c .before in
+    let l = n .before .before in
+    let P = start l .pre .0 in
+    let R = l .before .row-span .ensures in
+    between-here (row-climbs P (start l .pre .1)) (l .loop .inv) (omega arith) (omega arith)
+    (child-was (P .entries) R (omega (arith, row-has (P .entries) R)) (n .num .ensures .0)) (c .if1 .taken)
 
 add-low : tie.Need-add-low Inv-loop μ-loop
-add-low c = omega (arith, row-has (c .before .before .before .before .before .before .before .before .pre .0 .entries) (c .before .before .before .before .before .row-span .ensures), c .before .before .before .before .before .row-span .ensures)
+add-low c =
+    let l = c .before .before .before .before in
+    omega (arith, row-has (start l .pre .0 .entries) (l .before .row-span .ensures), l .before .row-span .ensures)
 
 loop-less : tie.Need-loop-less Inv-loop μ-loop
 loop-less c = omega arith
 
 loop-again : tie.Need-loop-again Inv-loop μ-loop
 loop-again c =
-    let P = c .before .before .before .before .before .before .before .before .pre .0 in
-    let R = c .before .before .before .before .before .row-span .ensures in
-    let B = c .before .before .before .before .loop .inv in
-    between-right (row-climbs P (c .before .before .before .before .before .before .before .before .pre .1)) B (omega arith) (omega arith)
-    (child-was (P .entries) R (omega (arith, row-has (P .entries) R)) (c .before .before .num .ensures .0)) (c .if2 .taken)
+    let n = c .before .before in
+    let l = n .before .before in
+    let P = start l .pre .0 in
+    let R = l .before .row-span .ensures in
+    between-right (row-climbs P (start l .pre .1)) (l .loop .inv) (omega arith) (omega arith)
+    (child-was (P .entries) R (omega (arith, row-has (P .entries) R)) (n .num .ensures .0)) (c .if2 .taken)
 
 loop-less-2 : tie.Need-loop-less-2 Inv-loop μ-loop
 loop-less-2 c = omega arith
 
 loop-again-2 : tie.Need-loop-again-2 Inv-loop μ-loop
 loop-again-2 c =
-    let P = c .before .before .before .before .before .before .before .before .pre .0 in
-    let R = c .before .before .before .before .before .row-span .ensures in
-    let B = c .before .before .before .before .loop .inv in
-    between-left (row-climbs P (c .before .before .before .before .before .before .before .before .pre .1)) B (omega arith) (omega arith)
-    (child-was (P .entries) R (omega (arith, row-has (P .entries) R)) (c .before .before .num .ensures .0)) (omega arith)
+    let n = c .before .before in
+    let l = n .before .before in
+    let P = start l .pre .0 in
+    let R = l .before .row-span .ensures in
+    between-left (row-climbs P (start l .pre .1)) (l .loop .inv) (omega arith) (omega arith)
+    (child-was (P .entries) R (omega (arith, row-has (P .entries) R)) (n .num .ensures .0)) (omega arith)
 
 returns-2 : tie.Need-returns-2 Inv-loop μ-loop
 returns-2 c = between-none (c .before .loop .inv) (c .loop-test .left)

@@ -17,9 +17,12 @@ Inv-loop starts children triples places w k c p from len top i₀ i =
 abbrev μ-loop : tie.MeasureT-loop
 μ-loop starts children triples places w k c p from len top i₀ i = len - i
 
--- where the function starts, from its loop
+-- where the row is found, and where the function starts, from its loop
+abbrev spanned : tie.At-loop Inv-loop μ-loop → tie.After-row-span Inv-loop μ-loop
+spanned l = l .before .before
+
 abbrev start : tie.At-loop Inv-loop μ-loop → tie.Start Inv-loop μ-loop
-start l = l .before .before .before .before .before .before .before
+start l = spanned l .before .before .before .before .before
 
 row-span-requires : tie.Need-row-span-requires Inv-loop μ-loop
 row-span-requires c κs = (c .before .before .before .before .pre .0 .below .entries .rows, c .before .before .before .before .pre .1)
@@ -31,22 +34,25 @@ loop-holds : tie.Need-loop-holds Inv-loop μ-loop
 loop-holds c = passed-none _ _
 
 add-num : tie.Need-add-num Inv-loop μ-loop
-add-num c = omega (arith, c .before .before .before .row-span .ensures, start (c .before) .pre)
+add-num c = let l = c .before in omega (arith, spanned l .row-span .ensures, start l .pre)
 
 num-requires : tie.Need-num-requires Inv-loop μ-loop
-num-requires c κs = can-read-child (start (c .before) .pre .0 .below .entries) (c .before .before .before .row-span .ensures) (c .loop-test .taken)
+num-requires c κs = let l = c .before in can-read-child (start l .pre .0 .below .entries) (spanned l .row-span .ensures) (c .loop-test .taken)
 
 label-requires-2 : tie.Need-label-requires-2 Inv-loop μ-loop
 label-requires-2 c κs =
-    let L = start (c .before .before) .pre .0 in
-    (L .labels .triples-held, (child-low (L .below) (c .before .before .before .before .row-span .ensures) (c .before .loop-test .taken) (c .num .ensures .0), omega arith))
+    let l = c .before .before in
+    let L = start l .pre .0 in
+    (L .labels .triples-held, (child-low (L .below) (spanned l .row-span .ensures) (c .before .loop-test .taken) (c .num .ensures .0), omega arith))
 
 returns : tie.Need-returns Inv-loop μ-loop
 returns c =
-    let L = start (c .before .before .before .before) .pre .0 in
-    let R = c .before .before .before .before .before .before .row-span .ensures in
-    let low = c .before .before .before .loop-test .taken in
-    sym (all-broken _ _ _ low (falls-not L R low (c .before .before .num .ensures .0) (c .before .label2 .ensures .0) (c .before .before .before .before .before .label .ensures .0) (c .if1 .taken)))
+    let n = c .before .before in
+    let l = n .before .before in
+    let L = start l .pre .0 in
+    let R = spanned l .row-span .ensures in
+    let low = n .before .loop-test .taken in
+    sym (all-broken _ _ _ low (falls-not L R low (n .num .ensures .0) (c .before .label2 .ensures .0) (l .before .label .ensures .0) (c .if1 .taken)))
     ∙ fall-is L R
 
 add-i : tie.Need-add-i Inv-loop μ-loop
@@ -57,13 +63,16 @@ loop-less c = omega arith
 
 loop-again : tie.Need-loop-again Inv-loop μ-loop
 loop-again c =
-    let L = start (c .before .before .before .before) .pre .0 in
-    let low = c .before .before .before .loop-test .taken in
-    passed-next (c .before .before .before .before .loop .inv) low
-    (falls L (c .before .before .before .before .before .before .row-span .ensures) low (c .before .before .num .ensures .0) (c .before .label2 .ensures .0) (c .before .before .before .before .before .label .ensures .0) (c .if1 .left))
+    let n = c .before .before in
+    let l = n .before .before in
+    let low = n .before .loop-test .taken in
+    passed-next (l .loop .inv) low
+    (falls (start l .pre .0) (spanned l .row-span .ensures) low (n .num .ensures .0) (c .before .label2 .ensures .0) (l .before .label .ensures .0) (c .if1 .left))
 
 returns-2 : tie.Need-returns-2 Inv-loop μ-loop
-returns-2 c = sym (passed-all (c .before .loop .inv) (c .loop-test .left)) ∙ fall-is (start (c .before) .pre .0) (c .before .before .before .row-span .ensures)
+returns-2 c =
+    let l = c .before in
+    sym (passed-all (l .loop .inv) (c .loop-test .left)) ∙ fall-is (start l .pre .0) (spanned l .row-span .ensures)
 
 pub fall-passes-spec : {M : Type 1} → statement M
 fall-passes-spec =

@@ -6,14 +6,27 @@ use Rattle.sound_labels.proofs.Nobody.{entry-low, tells, told-cleared}
 use Rattle.sound_labels.proofs.labels_sound.Statement.{statement}
 use Rattle.sound_labels.proofs.labels_sound.Tie as tie
 
+-- where the marks are cleared at first, from where the children are to be marked; and where the function starts
+abbrev clearing : tie.After-mark-children-arg → tie.After-clear-marks
+clearing c = c .before .before .before
+
+abbrev entry : tie.After-clear-marks → tie.Start
+entry c = c .before .before .before .before .before .before
+
 clear-marks-requires : tie.Need-clear-marks-requires
 clear-marks-requires c κs = search needs
 
 mark-children-requires : tie.Need-mark-children-requires
-mark-children-requires c κs = record { held = c .before .before .before .before .before .before .before .before .before .pre .0 .entries .held; low = λ j h. omega (arith, entry-low (c .before .before .before .before .before .before .before .before .before .pre .0) j h) }
+mark-children-requires c κs =
+    let P = entry (clearing c) .pre .0 in
+    record { held = P .entries .held; low = λ j h. omega (arith, entry-low P j h) }
 
 labellings-pass-requires : tie.Need-labellings-pass-requires
-labellings-pass-requires c κs = let s = c .before .before .before .before .before .before .before .before .before .before .before .before .before in (s .pre .0, (s .pre .1 .0, tells (s .pre .0) _ (s .pre .1 .1 .0) (s .pre .1 .1 .1) (c .before .before .before .before .before .before .before .clear-marks .ensures) (c .before .before .before .mark-children .ensures)))
+labellings-pass-requires c κs =
+    let m = c .before .before .before in
+    let cleared = clearing (m .before) in
+    let s = entry cleared in
+    (s .pre .0, (s .pre .1 .0, tells (s .pre .0) _ (s .pre .1 .1 .0) (s .pre .1 .1 .1) (cleared .clear-marks .ensures) (m .mark-children .ensures)))
 
 clear-marks-requires-2 : tie.Need-clear-marks-requires-2
 clear-marks-requires-2 c κs = search needs
@@ -22,7 +35,15 @@ same-length : tie.Need-same-length
 same-length c = search needs
 
 returns : tie.Need-returns
-returns c = (c .before .before .before .before .labellings-pass .ensures, told-cleared (c .before .before .before .before .before .before .before .before .before .before .before .before .before .before .before .before .before .before .pre .0) _ (c .before .before .before .before .before .before .before .before .before .before .before .before .before .before .before .before .before .before .pre .1 .1 .0) (c .before .before .before .before .before .before .before .before .before .before .before .before .before .before .before .before .before .before .pre .1 .1 .1) (c .before .before .before .before .before .before .before .before .before .before .before .before .clear-marks .ensures) (c .before .before .before .before .before .before .before .before .mark-children .ensures) (c .before .before .clear-marks2 .ensures))
+returns c =
+    let last = c .before .before in
+    let t = last .before .before in
+    let m = t .before .before .before .before in
+    let cleared = clearing (m .before) in
+    let s = entry cleared in (
+      t .labellings-pass .ensures,
+      told-cleared (s .pre .0) _ (s .pre .1 .1 .0) (s .pre .1 .1 .1) (cleared .clear-marks .ensures) (m .mark-children .ensures) (last .clear-marks2 .ensures),
+    )
 
 pub labels-sound-spec : {M : Type 1} → statement M
 labels-sound-spec =

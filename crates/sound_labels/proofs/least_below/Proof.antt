@@ -17,9 +17,12 @@ Inv-loop starts children triples places w k c p from len s₀ i₀ s i =
 abbrev μ-loop : tie.MeasureT-loop
 μ-loop starts children triples places w k c p from len s₀ i₀ s i = len - i
 
--- where the function starts, from its loop
+-- where the row is found, and where the function starts, from its loop
+abbrev spanned : tie.At-loop Inv-loop μ-loop → tie.After-row-span Inv-loop μ-loop
+spanned l = l .before .before
+
 abbrev start : tie.At-loop Inv-loop μ-loop → tie.Start Inv-loop μ-loop
-start l = l .before .before .before .before .before .before .before
+start l = spanned l .before .before .before .before .before
 
 row-span-requires : tie.Need-row-span-requires Inv-loop μ-loop
 row-span-requires c κs = (c .before .before .before .before .pre .0 .below .entries .rows, c .before .before .before .before .pre .1)
@@ -31,15 +34,16 @@ loop-holds : tie.Need-loop-holds Inv-loop μ-loop
 loop-holds c = let s = c .before .before .before .before .before .before in least-none _ _ (e-was (s .pre .0 .labels) (s .pre .1) (c .label .ensures .0))
 
 add-num : tie.Need-add-num Inv-loop μ-loop
-add-num c = omega (arith, c .before .before .before .row-span .ensures, start (c .before) .pre)
+add-num c = let l = c .before in omega (arith, spanned l .row-span .ensures, start l .pre)
 
 num-requires : tie.Need-num-requires Inv-loop μ-loop
-num-requires c κs = can-read-child (start (c .before) .pre .0 .below .entries) (c .before .before .before .row-span .ensures) (c .loop-test .taken)
+num-requires c κs = let l = c .before in can-read-child (start l .pre .0 .below .entries) (spanned l .row-span .ensures) (c .loop-test .taken)
 
 label-requires-2 : tie.Need-label-requires-2 Inv-loop μ-loop
 label-requires-2 c κs =
-    let L = start (c .before .before) .pre .0 in
-    (L .labels .triples-held, (child-low (L .below) (c .before .before .before .before .row-span .ensures) (c .before .loop-test .taken) (c .num .ensures .0), omega arith))
+    let l = c .before .before in
+    let L = start l .pre .0 in
+    (L .labels .triples-held, (child-low (L .below) (spanned l .row-span .ensures) (c .before .loop-test .taken) (c .num .ensures .0), omega arith))
 
 smaller-requires : tie.Need-smaller-requires Inv-loop μ-loop
 smaller-requires c κs = tt
@@ -52,15 +56,19 @@ loop-less c = omega arith
 
 loop-again : tie.Need-loop-again Inv-loop μ-loop
 loop-again c =
-    let L = start (c .before .before .before .before) .pre .0 in
-    let R = c .before .before .before .before .before .before .row-span .ensures in
-    let low = c .before .before .before .loop-test .taken in
-    let q = c .before .before .num .ensures .0 in
-    least-more (c .before .before .before .before .loop .inv) (omega (arith, row-has (L .below .entries) R)) (child-was (L .below .entries) R low q)
+    let n = c .before .before in
+    let l = n .before .before in
+    let L = start l .pre .0 in
+    let R = spanned l .row-span .ensures in
+    let low = n .before .loop-test .taken in
+    let q = n .num .ensures .0 in
+    least-more (l .loop .inv) (omega (arith, row-has (L .below .entries) R)) (child-was (L .below .entries) R low q)
     (s-was (L .labels) (child-low (L .below) R low q) (c .before .label2 .ensures .0)) (c .smaller .ensures)
 
 returns : tie.Need-returns Inv-loop μ-loop
-returns c = least-all (c .before .loop .inv) (omega (arith, row-has (start (c .before) .pre .0 .below .entries) (c .before .before .before .row-span .ensures)))
+returns c =
+    let l = c .before in
+    least-all (l .loop .inv) (omega (arith, row-has (start l .pre .0 .below .entries) (spanned l .row-span .ensures)))
 
 pub least-below-spec : {M : Type 1} → statement M
 least-below-spec =

@@ -17,6 +17,10 @@ Inv-loop triples places marks w k rank₀ rank = Walks (labellingIn w triples pl
 abbrev μ-loop : tie.MeasureT-loop
 μ-loop triples places marks w k rank₀ rank = rank
 
+-- where the function starts, from its loop
+abbrev start : tie.At-loop Inv-loop μ-loop → tie.Start Inv-loop μ-loop
+start l = l .before .before .before .before
+
 loop-holds : tie.Need-loop-holds Inv-loop μ-loop
 loop-holds c = walks-none _ _ _ _ _ (omega arith)
 
@@ -24,38 +28,50 @@ sub-num : tie.Need-sub-num Inv-loop μ-loop
 sub-num c = omega arith
 
 num-requires : tie.Need-num-requires Inv-loop μ-loop
-num-requires c κs = can-read (c .before .before .before .before .before .pre .0 .labels .places-held) (omega arith)
+num-requires c κs = can-read (start (c .before) .pre .0 .labels .places-held) (omega arith)
 
 shared-slice-read-if1 : tie.Need-shared-slice-read-if1 Inv-loop μ-loop
-shared-slice-read-if1 c = omega (arith, place-low (c .before .before .before .before .before .before .before .pre .0) (omega arith) (c .before .num .ensures .0), c .before .before .before .before .before .before .before .pre .1)
+shared-slice-read-if1 c =
+    let s = start (c .before .before .before) in
+    omega (arith, place-low (s .pre .0) (omega arith) (c .before .num .ensures .0), s .pre .1)
 
 returns : tie.Need-returns Inv-loop μ-loop
 returns c =
-    let N = c .before .before .before .before .before .before .before .before .pre .0 in
-    walks-stop (c .before .before .before .before .loop .inv) (goes-left N) (c .before .before .before .loop-test .taken) (place-was (N .labels) (omega arith) (c .before .before .num .ensures .0)) (ne-eqb _ _ (c .if1 .taken))
+    let n = c .before .before in
+    let l = n .before .before in
+    let N = start l .pre .0 in
+    walks-stop (l .loop .inv) (goes-left N) (n .before .loop-test .taken) (place-was (N .labels) (omega arith) (n .num .ensures .0)) (ne-eqb _ _ (c .if1 .taken))
 
 label-requires : tie.Need-label-requires Inv-loop μ-loop
 label-requires c κs =
-    let N = c .before .before .before .before .before .before .before .before .pre .0 in (N .labels .triples-held, (place-low N (omega arith) (c .before .before .num .ensures .0), omega arith))
+    let n = c .before .before in
+    let N = start (n .before .before) .pre .0 in
+    (N .labels .triples-held, (place-low N (omega arith) (n .num .ensures .0), omega arith))
 
 sub-rank : tie.Need-sub-rank Inv-loop μ-loop
 sub-rank c =
-    let N = c .before .before .before .before .before .before .before .before .before .pre .0 in omega (arith, m-some N (place-low N (omega arith) (c .before .before .before .num .ensures .0)) (c .label .ensures .0))
+    let n = c .before .before .before in
+    let N = start (n .before .before) .pre .0 in
+    omega (arith, m-some N (place-low N (omega arith) (n .num .ensures .0)) (c .label .ensures .0))
 
 loop-less : tie.Need-loop-less Inv-loop μ-loop
 loop-less c =
-    let N = c .before .before .before .before .before .before .before .before .before .pre .0 in
-    walks-less (c .before .before .before .before .before .loop .inv) (goes-left N) (c .before .before .before .before .loop-test .taken) (place-was (N .labels) (omega arith) (c .before .before .before .num .ensures .0))
-    (m-was (N .labels) (place-low N (omega arith) (c .before .before .before .num .ensures .0)) (c .label .ensures .0))
+    let n = c .before .before .before in
+    let l = n .before .before in
+    let N = start l .pre .0 in
+    walks-less (l .loop .inv) (goes-left N) (n .before .loop-test .taken) (place-was (N .labels) (omega arith) (n .num .ensures .0))
+    (m-was (N .labels) (place-low N (omega arith) (n .num .ensures .0)) (c .label .ensures .0))
 
 loop-again : tie.Need-loop-again Inv-loop μ-loop
 loop-again c =
-    let N = c .before .before .before .before .before .before .before .before .before .pre .0 in
-    walks-left (c .before .before .before .before .before .loop .inv) (goes-left N) (c .before .before .before .before .loop-test .taken) (place-was (N .labels) (omega arith) (c .before .before .before .num .ensures .0))
-    (m-was (N .labels) (place-low N (omega arith) (c .before .before .before .num .ensures .0)) (c .label .ensures .0)) (eq-eqb _ _ (c .before .if1 .left))
+    let n = c .before .before .before in
+    let l = n .before .before in
+    let N = start l .pre .0 in
+    walks-left (l .loop .inv) (goes-left N) (n .before .loop-test .taken) (place-was (N .labels) (omega arith) (n .num .ensures .0))
+    (m-was (N .labels) (place-low N (omega arith) (n .num .ensures .0)) (c .label .ensures .0)) (eq-eqb _ _ (c .before .if1 .left))
 
 returns-2 : tie.Need-returns-2 Inv-loop μ-loop
-returns-2 c = sym (eq-eqb (c .before .loop .rank) 0 (omega arith)) ∙ walks-end (c .before .loop .inv) (c .loop-test .left)
+returns-2 c = let l = c .before in sym (eq-eqb (l .loop .rank) 0 (omega arith)) ∙ walks-end (l .loop .inv) (c .loop-test .left)
 
 pub roots-pass-spec : {M : Type 1} → statement M
 roots-pass-spec =

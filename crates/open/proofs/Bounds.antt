@@ -1,0 +1,72 @@
+-- Bytes that some edge list and orders yield keep the form's bounds where their header is right: the header's counts bound the bytes' length, this bounds n, k and c, so
+-- that they are read again, and they are the header's.
+use mathlib.Core.Path.{_≡_, sym, _∙_}
+use mathlib.Core.List.{List, map}
+use Prim.Native.Nat.{ℕ, _+_, _*_, _^_, _≤_, _<_}
+use native.Mathlib.Omega.{arith}
+use native.Mathlib.Nat.{mul-le-mul, mul-le-mul-left}
+use lib.ListN.{length, getD}
+use Rattle.lineage.specs.Lists.{joined}
+use Rattle.lineage.specs.Index.{Index}
+use Rattle.lineage.specs.Numbers.{written}
+use Rattle.lineage.specs.Stored.{form1, Counts, startsFrom, sections, countsOf, header, encode, headerAt, countsIn}
+use Rattle.laws.specs.Sound.{Sound}
+use Rattle.numbers.proofs.Written.{Below, written-long, num-front, written-at}
+use Rattle.stored.specs.declared.header.Layout.{Layout}
+use Rattle.stored.specs.Header.{Laid}
+use Rattle.stored.proofs.Offsets.{offsets-last}
+use Rattle.stored.proofs.Starts.{starts-long}
+use Rattle.stored.proofs.LabelNumbers.{labels-long}
+use Rattle.open.proofs.Fits.{full}
+
+module _ {I : Index} (S : Sound I) (short : length (encode form1 I) < 2 ^ 31) (few : length (I .labels) ≤ 5) where
+  abbrev a : Counts
+  a = countsOf I
+
+  -- the length is that of header and sections
+  long : length (encode form1 I) ≡ 48 + 2 * a .n + 2 * a .k + 2 * a .k + 2 * (a .k + 1) + 2 * a .c + 2 * (a .d * (4 * a .k))
+  unfolding encode
+  long =
+      let G = S .condensed in
+      let levels : length (I .levels) ≡ a .k = G .levels-long ∙ G .children-long in
+      let starts : length (startsFrom 0 (I .children)) ≡ a .k + 1 = omega (arith, starts-long 0 (I .children), G .children-long) in
+      let labels = labels-long (a .k) (I .labels) (full (I .children) (a .k) (G .children-long) (I .labels) (S .labelled)) in
+      omega (arith, offsets-last 2 (written 4 (header form1 a)) (sections I) 48 (sym (written-long 4 (header form1 a))))
+
+  -- so every number of the header is of 32 bits, and is read again
+  header-small : Below (256 ^ 4) (header form1 a)
+  header-small =
+      let l = long in
+      (omega arith, (omega arith, (omega arith, (omega arith, (omega arith, (omega arith, (omega arith, (omega arith, (omega arith, (omega arith, (omega arith, (omega arith, tt))))))))))))
+
+  number-again : (i : ℕ) → i < 12 → headerAt (encode form1 I) i ≡ getD (header form1 a) i 0
+  unfolding encode
+  number-again i h =
+      num-front 4 (written 4 (header form1 a)) (joined (map (written 2) (sections I))) i (omega (arith, written-long 4 (header form1 a)))
+      ∙ written-at 4 (header form1 a) i header-small h
+
+  pub counts-again : countsIn (encode form1 I) ≡ a
+  counts-again = rw (number-again 1 (omega arith), number-again 2 (omega arith), number-again 3 (omega arith), number-again 4 (omega arith))
+
+-- bytes whose header is right are short
+pub laid-short : {b : List ℕ} {l : Layout} → Laid b l → length b < 2 ^ 31
+laid-short {b} {l} L =
+    let w = L .width .high in
+    let k : l .k ≤ 200000 = omega (arith, L .vertices, L .groups) in
+    let k1 : l .k + 1 ≤ 200001 = omega arith in
+    omega (
+      arith,
+      L .long,
+      L .names-at,
+      L .groups-at,
+      L .levels-at,
+      L .starts-at,
+      L .children-at,
+      L .labels-at,
+      L .total-at,
+      mul-le-mul w (L .vertices),
+      mul-le-mul w k,
+      mul-le-mul w k1,
+      mul-le-mul w (L .entries),
+      mul-le-mul w (mul-le-mul (L .most) (mul-le-mul-left 4 k)),
+    )
