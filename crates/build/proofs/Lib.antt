@@ -1,0 +1,3 @@
+-- The laws of build.
+pub mod Checks
+pub mod Stored

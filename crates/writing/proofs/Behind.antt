@@ -1,0 +1,83 @@
+-- Numbers written one behind the other into lent bytes: three of them, blocks of one size, sections.
+use mathlib.Core.Path.{_≡_, sym, ap, ap₂, _∙_}
+use mathlib.Core.List.{List, [], _∷_, _++_, map, append-assoc, append-nil}
+use Prim.Native.Nat.{ℕ, zero, suc, _+_, _*_, _≤_, _<_}
+use native.Mathlib.Omega.{arith}
+use native.Mathlib.Numerals.{add-one}
+use native.Mathlib.Nat.{mul-zero, mul-suc}
+use lib.ListN.{length, length-append}
+use Rattle.lineage.specs.Lists.{upto, joined}
+use Rattle.lineage.specs.Numbers.{leBytes, written}
+use Rattle.numbers.specs.Put.{put}
+use Rattle.numbers.proofs.Put.{put-none, put-next}
+use Rattle.numbers.proofs.Blocks.{joined-more}
+use Rattle.numbers.proofs.Numbers.{bytes-long}
+use Rattle.numbers.proofs.Written.{written-long, written-append}
+use Rattle.stored.proofs.Offsets.{putSections}
+
+-- numbers behind numbers
+pub written-next : (w at : ℕ) (s : List ℕ) (xs ys : List ℕ) (p : ℕ)
+    → p ≡ at + w * length xs
+    → at + w * length xs ≤ length s
+    → put (put s at (written w xs)) p (written w ys) ≡ put s at (written w (xs ++ ys))
+written-next w at s xs ys p e h =
+    let here : p ≡ at + length (written w xs) = omega (arith, written-long w xs) in
+    ap (λ (q : ℕ). put (put s at (written w xs)) q (written w ys)) here
+    ∙ put-next s at (written w xs) (omega (arith, written-long w xs)) (written w ys)
+    ∙ ap (put s at) (sym (written-append w xs ys))
+
+-- one number, as a list of its own
+written-one : (w a : ℕ) → leBytes w a ≡ written w (a ∷ [])
+written-one w a = sym (append-nil (leBytes w a))
+
+-- three numbers, one by one
+pub triple-put : (w at a b c : ℕ) (s t u v : List ℕ)
+    → at + w * 3 ≤ length s
+    → t ≡ put s at (leBytes w a)
+    → u ≡ put t (at + w) (leBytes w b)
+    → v ≡ put u (at + w + w) (leBytes w c)
+    → v ≡ put s at (written w (a ∷ b ∷ c ∷ []))
+triple-put w at a b c s t u v h et eu ev =
+    let one : t ≡ put s at (written w (a ∷ [])) = et ∙ ap (put s at) (written-one w a) in
+    let two : u ≡ put s at (written w (a ∷ b ∷ [])) =
+    eu ∙ ap₂ (λ (z x : List ℕ). put z (at + w) x) one (written-one w b) ∙ written-next w at s (a ∷ []) (b ∷ []) (at + w) (omega arith) (omega arith) in
+    ev ∙ ap₂ (λ (z x : List ℕ). put z (at + w + w) x) two (written-one w c) ∙ written-next w at s (a ∷ b ∷ []) (c ∷ []) (at + w + w) (omega arith) (omega arith)
+
+-- Blocks of one size, one more at a time.
+module _ (w at : ℕ) (block : ℕ → List ℕ) (s : List ℕ) where
+  -- the first i of them written
+  abbrev pub blocksPut : ℕ → List ℕ
+  blocksPut i = put s at (written w (joined (map block (upto i))))
+
+  pub blocks-none : s ≡ blocksPut 0
+  blocks-none = sym (put-none s at)
+
+  module _ (size : ℕ) where
+    pub blocks-long : (i : ℕ) → ((j : ℕ) → j < i → length (block j) ≡ size) → length (joined (map block (upto i))) ≡ size * i
+    blocks-long zero sized = sym (mul-zero size)
+    blocks-long (suc i) sized =
+        ap length (joined-more block i)
+        ∙ omega (arith, length-append (joined (map block (upto i))) (block i), blocks-long i (λ j h. sized j (omega arith)), sized i (omega arith), mul-suc size i)
+
+    pub blocks-more : (t : List ℕ) (p i : ℕ)
+        → ((j : ℕ) → j < i → length (block j) ≡ size)
+        → t ≡ blocksPut i
+        → p ≡ at + w * (size * i)
+        → p ≤ length s
+        → put t p (written w (block i)) ≡ blocksPut (i + 1)
+    blocks-more t p i sized e here fits =
+        let long : w * length (joined (map block (upto i))) ≡ w * (size * i) = ap (λ (n : ℕ). w * n) (blocks-long i sized) in
+        let next : joined (map block (upto i)) ++ block i ≡ joined (map block (upto (i + 1))) =
+        sym (ap (λ (n : ℕ). joined (map block (upto n))) (add-one i) ∙ joined-more block i) in
+        ap (λ (z : List ℕ). put z p (written w (block i))) e
+        ∙ written-next w at s (joined (map block (upto i))) (block i) p (omega arith) (omega arith)
+        ∙ ap (λ (z : List ℕ). put s at (written w z)) next
+
+-- a section at its offset, and then those behind it
+pub section-put : (w : ℕ) (s t r x : List ℕ) (X : List (List ℕ)) (offset at next : ℕ)
+    → t ≡ put s offset (written w x)
+    → offset ≡ at
+    → next ≡ at + w * length x
+    → r ≡ putSections w t next X
+    → r ≡ putSections w s at (x ∷ X)
+section-put w s t r x X offset at next e f g h = h ∙ ap₂ (λ (z : List ℕ) (n : ℕ). putSections w z n X) (e ∙ ap (λ (p : ℕ). put s p (written w x)) f) g
