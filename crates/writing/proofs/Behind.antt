@@ -5,11 +5,12 @@ use Prim.Native.Nat.{ℕ, zero, suc, _+_, _*_, _≤_, _<_}
 use native.Mathlib.Omega.{arith}
 use native.Mathlib.Numerals.{add-one}
 use native.Mathlib.Nat.{mul-zero, mul-suc}
-use lib.ListN.{length, length-append}
+use lib.ListN.{length, take, drop, length-append}
+use lib.Seq.{length-take-le, drop-at}
 use Rattle.lineage.specs.Lists.{upto, joined}
 use Rattle.lineage.specs.Numbers.{leBytes, written}
 use Rattle.numbers.specs.Put.{put}
-use Rattle.numbers.proofs.Put.{put-none, put-next}
+use Rattle.numbers.proofs.Put.{put-none, put-start, put-next}
 use Rattle.numbers.proofs.Blocks.{joined-more}
 use Rattle.numbers.proofs.Numbers.{bytes-long}
 use Rattle.numbers.proofs.Written.{written-long, written-append}
@@ -25,6 +26,17 @@ written-next w at s xs ys p e h =
     ap (λ (q : ℕ). put (put s at (written w xs)) q (written w ys)) here
     ∙ put-next s at (written w xs) (omega (arith, written-long w xs)) (written w ys)
     ∙ ap (put s at) (sym (written-append w xs ys))
+
+-- bytes, and then those that stand before them from the start on
+pub put-before : (s bs cs : List ℕ) → length bs ≤ length s → put (put s (length bs) cs) 0 bs ≡ put s 0 (bs ++ cs)
+unfolding put
+put-before s bs cs h =
+    let past : List ℕ = drop (length bs + length cs) s in
+    put-start (put s (length bs) cs) bs
+    ∙ ap (λ (z : List ℕ). bs ++ z) (drop-at (take (length bs) s) (cs ++ past) (length bs) (length-take-le (length bs) s h))
+    ∙ sym (append-assoc bs cs past)
+    ∙ ap (λ (n : ℕ). (bs ++ cs) ++ drop n s) (sym (length-append bs cs))
+    ∙ sym (put-start s (bs ++ cs))
 
 -- one number, as a list of its own
 written-one : (w a : ℕ) → leBytes w a ≡ written w (a ∷ [])

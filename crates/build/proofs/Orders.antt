@@ -16,9 +16,9 @@ use Rattle.labelled.specs.Fit.{LabelFit}
 use Rattle.stored.specs.declared.header.Layout.{Layout}
 use Rattle.writing.specs.Words.{labellingIn}
 use Rattle.writing.specs.Fit.{LabellingFit}
-use Rattle.build.specs.Memory.{childrenFrom, labelsFrom, labellingBlock, LabelsFit, OrderLabelled}
+use Rattle.build.specs.Memory.{childrenFrom, labelsFrom, labellingBlock, Ready, OrderLabelled}
 
-module _ {out : List ℕ} {l : Layout} {e : ℕ} {orders w : List ℕ} (fit : LabelsFit out l e orders w) where
+module _ {l : Layout} {e : ℕ} {orders w : List ℕ} (fit : Ready l e orders w) where
   -- order j lies in the order list
   pub order-small : (j : ℕ) → j < l .d → j * l .n ≤ 1000000
   order-small j h =

@@ -17,7 +17,7 @@ ghost use Rattle.labelled.specs.Window.{byRankAt, windowSize};
 ghost use Rattle.orders.specs.Input.{graphOf};
 ghost use Rattle.build.specs.Input.{inputOf, boundsOf, writtenAs, formBy, RowFit};
 ghost use Rattle.build.specs.Answers.{checkedOf, builtOf, LateBuilt};
-ghost use Rattle.build.specs.Memory.{childrenFrom, labelsFrom, condensedIn, labellingBlock, CondensedFit, CondensedFound, LabelsFit, OrderLabelled};
+ghost use Rattle.build.specs.Memory.{childrenFrom, labelsFrom, condensedIn, labellingBlock, CondensedFit, CondensedFound, Ready, OrderLabelled};
 ghost use Rattle.build.specs.Admitted.{Admitted};
 
 const MOST_LABELLINGS: usize = 5;
@@ -122,7 +122,7 @@ fn write_order(
     j: usize,
     w: &mut [u32],
 )
-    requires { ⌜ LabelsFit (now out) l edges (now orders) (now w) ⌝ }
+    requires { ⌜ Ready l edges (now orders) (now w) ⌝ }
     requires { ⌜ (j < l .d) × (at + l .width * (4 * l .k) ≤ length (now out)) ⌝ }
     ensures { λ _. ⌜ OrderLabelled l edges (now (orders .entry)) (now (w .entry)) (now (w .exit)) j ⌝ }
     ensures { λ _. ⌜ now (out .exit) ≡ put (now (out .entry)) at (written (l .width) (labellingBlock l edges (now (orders .entry)) (now (w .entry)) j)) ⌝ }
@@ -134,12 +134,23 @@ fn write_order(
     let base = labels_from(n, k, edges);
     let by_rank = by_rank_from(n, k, c, edges);
     labelled::label(orders, j * n, w, n, k, c, 0, 2 * n, 3 * n, children, base);
-    writing::write_labelling(out, at, l.width, w, base + 2 * k, base + k, base, by_rank, k);
+    writing::write_labelling(
+        out,
+        at,
+        l.width,
+        w,
+        base + 2 * k,
+        base + k,
+        base,
+        by_rank,
+        k,
+    );
 }
 
 // Labels the groups under one order after the other, and writes each labelling behind the one before it, at the offset of the labels.
 fn write_labels(out: &mut [u8], l: Layout, edges: usize, orders: &[u32], w: &mut [u32])
-    requires { ⌜ LabelsFit (now out) l edges (now orders) (now w) ⌝ }
+    requires { ⌜ Ready l edges (now orders) (now w) ⌝ }
+    requires { ⌜ l .total ≤ length (now out) ⌝ }
     ensures { λ _. ⌜ OrderLabelled l edges (now (orders .entry)) (now (w .entry)) (now (w .exit)) (l .d - 1) ⌝ }
     ensures { λ _. ⌜ now (out .exit) ≡ put (now (out .entry)) (l .labels) (written (l .width) (joined (map (labellingBlock l edges (now (orders .entry)) (now (w .entry))) (upto (l .d))))) ⌝ }
 {
@@ -155,16 +166,10 @@ fn write_labels(out: &mut [u8], l: Layout, edges: usize, orders: &[u32], w: &mut
 
 // Writes the index of the groups that lie in work memory, under the d orders: the labels first, then the levels from the ranks of the last of them, then all that stands
 // before the labels.
-fn write_index(
-    out: &mut [u8],
-    form: usize,
-    l: Layout,
-    edges: usize,
-    orders: &[u32],
-    w: &mut [u32],
-)
+fn write_index(out: &mut [u8], form: usize, l: Layout, edges: usize, orders: &[u32], w: &mut [u32])
     requires { ⌜ form < 2 ^ 32 ⌝ }
-    requires { ⌜ LabelsFit (now out) l edges (now orders) (now w) ⌝ }
+    requires { ⌜ Ready l edges (now orders) (now w) ⌝ }
+    requires { ⌜ l .total ≤ length (now out) ⌝ }
     ensures { λ _. ⌜ now (out .exit) ≡ encode (writtenAs form (l .width)) (indexBy (condensedIn (now (w .entry)) (l .n) (l .k) (l .c) edges) (map (orderAt (l .n) (now (orders .entry))) (upto (l .d)))) ++ drop (l .total) (now (out .entry)) ⌝ }
     ensures { λ _. ⌜ Kept (now (w .entry)) (now (w .exit)) (labelsFrom (l .n) (l .k) edges) (windowSize (l .n) (l .k) (l .c)) ⌝ }
 {
@@ -175,7 +180,17 @@ fn write_index(
     let base = labels_from(n, k, edges);
     write_labels(out, l, edges, orders, w);
     labelled::levels(w, n, k, c, children, base);
-    writing::write_groups(out, form, l, w, 0, n, base + 3 * k, children, children + k + 1);
+    writing::write_groups(
+        out,
+        form,
+        l,
+        w,
+        0,
+        n,
+        base + 3 * k,
+        children,
+        children + k + 1,
+    );
 }
 
 // A finished build's total length, or a refusal with its number and its extra number.
@@ -238,7 +253,16 @@ fn build_form(
     ensures { λ _. ⌜ now (work .exit) ≡ buildWork (formBy form row) (inputOf n (now (sources .entry)) (now (targets .entry)) d (now (orders .entry))) (now (work .entry)) ⌝ }
     ensures { λ _. ⌜ now (out .exit) ≡ buildOutput (formBy form row) (inputOf n (now (sources .entry)) (now (targets .entry)) d (now (orders .entry))) (length (now (work .entry))) (now (out .entry)) ⌝ }
 {
-    match early(row.vertices, row.edges, n, sources, targets, orders, d, work.len()) {
+    match early(
+        row.vertices,
+        row.edges,
+        n,
+        sources,
+        targets,
+        orders,
+        d,
+        work.len(),
+    ) {
         Checked::Refused(number, extra) => Built::Refused { number, extra },
         Checked::Passed(needed) => {
             let built = late(form, row.width, n, sources, targets, orders, d, work, out);

@@ -96,6 +96,15 @@ all-pass (c ∷ cs) a l e = at (c .applies) e (all-pass cs a l)
     at true e ih = let z : _≡_ {A = ℕ} 0 1 = cc in absurd (omega arith)
     at false e ih = (refl, ih e)
 
+-- and the answer is given
+pub passed-is : (cs : List Check) (a l : ℕ) → outcome cs a ≡ answered l → l ≡ a
+passed-is [] a l e = cc
+passed-is (c ∷ cs) a l e = at (c .applies) e (passed-is cs a l)
+  where
+    at : (t : Bool) → refuse t (c .number) (c .extra) (outcome cs a) ≡ answered l → (outcome cs a ≡ answered l → l ≡ a) → l ≡ a
+    at true e ih = let z : _≡_ {A = ℕ} 0 1 = cc in absurd (omega arith)
+    at false e ih = ih e
+
 -- and all that they ask holds
 pub admitted : (F : Form) (B : Input) (work a l : ℕ) → outcome (buildEarly F B work) a ≡ answered l → Admitted F B work
 admitted F B work a l e =

@@ -13,7 +13,7 @@ use lib.ListN.{length}
 use Rattle.lineage.specs.Lists.{joined, part}
 use Rattle.lineage.specs.Numbers.{Width}
 use Rattle.lineage.specs.Graph.{Graph, Ends, Condensed, condense, groupList}
-use Rattle.lineage.specs.Labels.{Order, labelling}
+use Rattle.lineage.specs.Labels.{Order, Labelling, labelling}
 use Rattle.lineage.specs.Stored.{startsFrom, labelNumbers}
 use Rattle.lineage.specs.Calls.{orderAt, workNeeded}
 use Rattle.numbers.specs.Regions.{Kept}
@@ -56,24 +56,25 @@ pub record CondensedFound (G : Graph) (w w' : List ℕ) (k c : ℕ) : Type 0 whe
   pub stored : GroupsStored w' (G .n) k c (length (G .sources))
   pub is : condensedIn w' (G .n) k c (length (G .sources)) ≡ condense G
 
--- a layout within the bounds of every form, an output that it fits in, orders of its n vertices, and its groups in w
-pub record LabelsFit (out : List ℕ) (l : Layout) (e : ℕ) (orders w : List ℕ) : Type 0 where
+-- a layout within the bounds of every form, orders of its n vertices, and its groups in w
+pub record Ready (l : Layout) (e : ℕ) (orders w : List ℕ) : Type 0 where
   pub width : Width (l .width)
   pub laid : l ≡ layoutBy (l .width) (counts (l .n) (l .k) (l .c) (l .d))
   pub vertices : l .n ≤ 200000
   pub edges : e ≤ 1000000
   pub least : 1 ≤ l .d
   pub most : l .d ≤ 5
-  pub room : l .total ≤ length out
   pub whole : length orders ≡ l .d * l .n
   pub permuted : (j : ℕ) → j < l .d → Order (l .n) (orderAt (l .n) orders j)
   pub stored : GroupsStored w (l .n) (l .k) (l .c) e
 
--- the numbers of labelling j, of the groups that lie in w
+-- the labelling under order j of the groups that lie in w, and its numbers
+abbrev pub labellingUnder : Layout → ℕ → (orders w : List ℕ) → ℕ → Labelling
+labellingUnder l e orders w j =
+    labelling (groupsBy w 0 (l .n)) (childrenBy w (childrenFrom (l .n) (l .k) e) (l .k) (l .c)) (orderAt (l .n) orders j)
+
 abbrev pub labellingBlock : Layout → ℕ → (orders w : List ℕ) → ℕ → List ℕ
-labellingBlock l e orders w j =
-    labelNumbers (l .k)
-    (labelling (groupsBy w 0 (l .n)) (childrenBy w (childrenFrom (l .n) (l .k) e) (l .k) (l .c)) (orderAt (l .n) orders j))
+labellingBlock l e orders w j = labelNumbers (l .k) (labellingUnder l e orders w j)
 
 -- what is left by the labelling under order j
 abbrev pub OrderLabelled : Layout → ℕ → (orders w w' : List ℕ) → ℕ → Type 0

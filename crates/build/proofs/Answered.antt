@@ -1,0 +1,85 @@
+-- A build at a form's row, from its two halves. Where a check of 1 to 7 refuses, it refuses for all, and nothing is altered; where all pass, 8 and 9 and the build behind
+-- them decide, and the needed words are set to 0.
+use mathlib.Core.Bool.{true, false}
+use mathlib.Core.Path.{_≡_, refl, sym, ap, _∙_}
+use mathlib.Core.List.{List, [], _++_}
+use Prim.Native.Nat.{ℕ, _+_, _≤_}
+use native.Mathlib.Omega.{arith}
+use lib.ListN.{length, drop, replicate, length-drop}
+use lib.Seq.{take-all}
+use Rattle.lineage.specs.Lists.{part, cleared}
+use Rattle.lineage.specs.Index.{Index}
+use Rattle.lineage.specs.Stored.{Form, encode}
+use Rattle.lineage.specs.Calls.{Check, Outcome, refused, answered, outcome, anyApplies, Input, workNeeded, built, lengthOf, buildEarly, buildLate, buildAnswer, buildOutput, buildWork}
+use Rattle.numbers.specs.Regions.{Kept}
+use Rattle.stored.specs.declared.header.Row.{Row}
+use Rattle.stored.proofs.Checks.{refused-first, passed-first, refused-applies, passed-applies}
+use Rattle.build.specs.Input.{boundsOf, writtenAs, formBy, RowFit}
+use Rattle.build.specs.Admitted.{Admitted}
+use Rattle.build.specs.Answers.{LateBuilt}
+use Rattle.build.proofs.Checks.{passed-is, admitted}
+
+-- words past the first n are kept: with those at 0 they are what they were
+cleared-kept : {w w' : List ℕ} (n : ℕ) → Kept w w' 0 n → cleared n w' ≡ cleared n w
+unfolding cleared part
+cleared-kept {w} {w'} n K =
+    let same : drop n w' ≡ drop n w =
+    sym (take-all (length w) (drop n w') (omega (arith, length-drop n w', K .long)))
+    ∙ K .above n (length w) (omega arith)
+    ∙ take-all (length w) (drop n w) (omega (arith, length-drop n w)) in
+    ap (λ (z : List ℕ). replicate n 0 ++ z) same
+
+module _ (form : ℕ) (row : Row) (B : Input) (work out : List ℕ) where
+  abbrev F : Form
+  F = formBy form row
+
+  -- what a build answers and leaves
+  abbrev Answers : Outcome ℕ → List ℕ → List ℕ → Type 0
+  Answers said work' out' =
+      (said ≡ buildAnswer F B (length work) (length out)) × ((work' ≡ buildWork F B work) × (out' ≡ buildOutput F B (length work) out))
+
+  abbrev early : List Check
+  early = buildEarly F B (length work)
+
+  pub early-refused : {x y : ℕ} → refused x y ≡ outcome early (workNeeded (B .graph)) → Answers (refused x y) work out
+  unfolding buildAnswer buildWork buildOutput
+  early-refused {x} {y} h =
+      let late : List Check = buildLate F B (length out) in
+      let applies : anyApplies early ≡ true = refused-applies [] (workNeeded (B .graph)) early x y (sym h) in
+      let both : anyApplies (early ++ late) ≡ true = refused-applies late (workNeeded (B .graph)) early x y (sym h) in
+      (sym (refused-first late (workNeeded (B .graph)) (lengthOf F (built B)) early x y (sym h)), (rw applies, rw both))
+
+  module _ {needed : ℕ} (passed : answered needed ≡ outcome early (workNeeded (B .graph))) where
+    needed-is : needed ≡ workNeeded (B .graph)
+    needed-is = passed-is early (workNeeded (B .graph)) needed (sym passed)
+
+    pub admitted-within : RowFit form row → Admitted (boundsOf 200000 1000000) B (length work)
+    admitted-within fit =
+        let A = admitted F B (length work) (workNeeded (B .graph)) needed (sym passed) in
+        record {
+          vertices = omega (arith, A .vertices, fit .vertices);
+          edges = omega (arith, A .edges, fit .edges);
+          ends = A .ends;
+          least = A .least;
+          most = A .most;
+          whole = A .whole;
+          room = A .room;
+        }
+
+    module _ {said : Outcome ℕ} {w₁ out₁ : List ℕ} (L : LateBuilt (writtenAs form (row .width)) B work out said w₁ out₁) where
+      pub needed-there : RowFit form row → needed ≤ length w₁
+      needed-there fit = omega (arith, needed-is, L .kept .long, admitted-within fit .room)
+
+      pub late-answered : {w₂ : List ℕ} → w₂ ≡ cleared needed w₁ → Answers said w₂ out₁
+      unfolding buildAnswer buildWork buildOutput encode
+      late-answered e =
+          let late : List Check = buildLate F B (length out) in
+          let none : anyApplies early ≡ false = passed-applies [] (workNeeded (B .graph)) early needed (sym passed) in
+          let both : anyApplies (early ++ late) ≡ anyApplies late = passed-applies late (workNeeded (B .graph)) early needed (sym passed) in
+          (
+            L .answer ∙ sym (passed-first late (workNeeded (B .graph)) (lengthOf F (built B)) early needed (sym passed)),
+            (
+              e ∙ ap (λ (n : ℕ). cleared n w₁) needed-is ∙ cleared-kept (workNeeded (B .graph)) (L .kept) ∙ rw none,
+              L .output ∙ rw both,
+            ),
+          )
