@@ -75,8 +75,7 @@ module _ (form : ℕ) (row : Row) (B : Input) (work out : List ℕ) where
       late-answered e =
           let late : List Check = buildLate F B (length out) in
           let none : anyApplies early ≡ false = passed-applies [] (workNeeded (B .graph)) early needed (sym passed) in
-          let both : anyApplies (early ++ late) ≡ anyApplies late = passed-applies late (workNeeded (B .graph)) early needed (sym passed) in
-          (
+          let both : anyApplies (early ++ late) ≡ anyApplies late = passed-applies late (workNeeded (B .graph)) early needed (sym passed) in (
             L .answer ∙ sym (passed-first late (workNeeded (B .graph)) (lengthOf F (built B)) early needed (sym passed)),
             (
               e ∙ ap (λ (n : ℕ). cleared n w₁) needed-is ∙ cleared-kept (workNeeded (B .graph)) (L .kept) ∙ rw none,
