@@ -29,19 +29,19 @@ cleared-kept {w} {w'} n K =
     ∙ take-all (length w) (drop n w) (omega (arith, length-drop n w)) in
     ap (λ (z : List ℕ). replicate n 0 ++ z) same
 
+-- what a build at a form answers and leaves
+abbrev pub Answers : Form → Input → (work out : List ℕ) → Outcome ℕ → (work' out' : List ℕ) → Type 0
+Answers F B work out said work' out' =
+    (said ≡ buildAnswer F B (length work) (length out)) × ((work' ≡ buildWork F B work) × (out' ≡ buildOutput F B (length work) out))
+
 module _ (form : ℕ) (row : Row) (B : Input) (work out : List ℕ) where
   abbrev F : Form
   F = formBy form row
 
-  -- what a build answers and leaves
-  abbrev Answers : Outcome ℕ → List ℕ → List ℕ → Type 0
-  Answers said work' out' =
-      (said ≡ buildAnswer F B (length work) (length out)) × ((work' ≡ buildWork F B work) × (out' ≡ buildOutput F B (length work) out))
-
   abbrev early : List Check
   early = buildEarly F B (length work)
 
-  pub early-refused : {x y : ℕ} → refused x y ≡ outcome early (workNeeded (B .graph)) → Answers (refused x y) work out
+  pub early-refused : {x y : ℕ} → refused x y ≡ outcome early (workNeeded (B .graph)) → Answers F B work out (refused x y) work out
   unfolding buildAnswer buildWork buildOutput
   early-refused {x} {y} h =
       let late : List Check = buildLate F B (length out) in
@@ -70,12 +70,13 @@ module _ (form : ℕ) (row : Row) (B : Input) (work out : List ℕ) where
       pub needed-there : RowFit form row → needed ≤ length w₁
       needed-there fit = omega (arith, needed-is, L .kept .long, admitted-within fit .room)
 
-      pub late-answered : {w₂ : List ℕ} → w₂ ≡ cleared needed w₁ → Answers said w₂ out₁
+      pub late-answered : {w₂ : List ℕ} → w₂ ≡ cleared needed w₁ → Answers F B work out said w₂ out₁
       unfolding buildAnswer buildWork buildOutput encode
       late-answered e =
           let late : List Check = buildLate F B (length out) in
           let none : anyApplies early ≡ false = passed-applies [] (workNeeded (B .graph)) early needed (sym passed) in
-          let both : anyApplies (early ++ late) ≡ anyApplies late = passed-applies late (workNeeded (B .graph)) early needed (sym passed) in (
+          let both : anyApplies (early ++ late) ≡ anyApplies late = passed-applies late (workNeeded (B .graph)) early needed (sym passed) in
+          (
             L .answer ∙ sym (passed-first late (workNeeded (B .graph)) (lengthOf F (built B)) early needed (sym passed)),
             (
               e ∙ ap (λ (n : ℕ). cleared n w₁) needed-is ∙ cleared-kept (workNeeded (B .graph)) (L .kept) ∙ rw none,
