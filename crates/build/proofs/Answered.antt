@@ -17,7 +17,7 @@ use Rattle.stored.proofs.Checks.{refused-first, passed-first, refused-applies, 
 use Rattle.build.specs.Input.{boundsOf, writtenAs, formBy, RowFit}
 use Rattle.build.specs.Admitted.{Admitted}
 use Rattle.build.specs.Answers.{LateBuilt}
-use Rattle.build.proofs.Checks.{passed-is, admitted}
+use Rattle.build.proofs.Checks.{all-pass, passed-is, admitted}
 
 -- words past the first n are kept: with those at 0 they are what they were
 cleared-kept : {w w' : List ℕ} (n : ℕ) → Kept w w' 0 n → cleared n w' ≡ cleared n w
@@ -55,7 +55,7 @@ module _ (form : ℕ) (row : Row) (B : Input) (work out : List ℕ) where
 
     pub admitted-within : RowFit form row → Admitted (boundsOf 200000 1000000) B (length work)
     admitted-within fit =
-        let A = admitted F B (length work) (workNeeded (B .graph)) needed (sym passed) in
+        let A = admitted F B (length work) (all-pass early (workNeeded (B .graph)) needed (sym passed)) in
         record {
           vertices = omega (arith, A .vertices, fit .vertices);
           edges = omega (arith, A .edges, fit .edges);
@@ -75,8 +75,7 @@ module _ (form : ℕ) (row : Row) (B : Input) (work out : List ℕ) where
       late-answered e =
           let late : List Check = buildLate F B (length out) in
           let none : anyApplies early ≡ false = passed-applies [] (workNeeded (B .graph)) early needed (sym passed) in
-          let both : anyApplies (early ++ late) ≡ anyApplies late = passed-applies late (workNeeded (B .graph)) early needed (sym passed) in
-          (
+          let both : anyApplies (early ++ late) ≡ anyApplies late = passed-applies late (workNeeded (B .graph)) early needed (sym passed) in (
             L .answer ∙ sym (passed-first late (workNeeded (B .graph)) (lengthOf F (built B)) early needed (sym passed)),
             (
               e ∙ ap (λ (n : ℕ). cleared n w₁) needed-is ∙ cleared-kept (workNeeded (B .graph)) (L .kept) ∙ rw none,

@@ -84,32 +84,35 @@ module _ (F : Form) (B : Input) (work : ℕ) where
     pub edges-right : length (G .sources) ≤ bad → answered (workNeeded G) ≡ behind 6
     edges-right h = rw (none-found (badEdge G) (length (G .sources)) bad found h)
 
--- where all pass, none applies
-all-pass : (cs : List Check) (a l : ℕ) → outcome cs a ≡ answered l → Every (λ c. c .applies ≡ false) cs
-all-pass [] a l e = tt
-all-pass (c ∷ cs) a l e = at (c .applies) e (all-pass cs a l)
-  where
-    at : (t : Bool)
-        → refuse t (c .number) (c .extra) (outcome cs a) ≡ answered l
-        → (outcome cs a ≡ answered l → Every (λ c. c .applies ≡ false) cs)
-        → (t ≡ false) × Every (λ c. c .applies ≡ false) cs
-    at true e ih = let z : _≡_ {A = ℕ} 0 1 = cc in absurd (omega arith)
-    at false e ih = (refl, ih e)
+-- Where an answer is given, no check applies, and it is the one behind the checks; and the other way round.
+module _ {A : Type 0} where
+  pub all-pass : (cs : List Check) (a l : A) → outcome cs a ≡ answered l → Every (λ c. c .applies ≡ false) cs
+  all-pass [] a l e = tt
+  all-pass (c ∷ cs) a l e = at (c .applies) e (all-pass cs a l)
+    where
+      at : (t : Bool)
+          → refuse t (c .number) (c .extra) (outcome cs a) ≡ answered l
+          → (outcome cs a ≡ answered l → Every (λ c. c .applies ≡ false) cs)
+          → (t ≡ false) × Every (λ c. c .applies ≡ false) cs
+      at true e ih = let z : _≡_ {A = ℕ} 0 1 = cc in absurd (omega arith)
+      at false e ih = (refl, ih e)
 
--- and the answer is given
-pub passed-is : (cs : List Check) (a l : ℕ) → outcome cs a ≡ answered l → l ≡ a
-passed-is [] a l e = cc
-passed-is (c ∷ cs) a l e = at (c .applies) e (passed-is cs a l)
-  where
-    at : (t : Bool) → refuse t (c .number) (c .extra) (outcome cs a) ≡ answered l → (outcome cs a ≡ answered l → l ≡ a) → l ≡ a
-    at true e ih = let z : _≡_ {A = ℕ} 0 1 = cc in absurd (omega arith)
-    at false e ih = ih e
+  pub passed-is : (cs : List Check) (a l : A) → outcome cs a ≡ answered l → l ≡ a
+  passed-is [] a l e = cc
+  passed-is (c ∷ cs) a l e = at (c .applies) e (passed-is cs a l)
+    where
+      at : (t : Bool) → refuse t (c .number) (c .extra) (outcome cs a) ≡ answered l → (outcome cs a ≡ answered l → l ≡ a) → l ≡ a
+      at true e ih = let z : _≡_ {A = ℕ} 0 1 = cc in absurd (omega arith)
+      at false e ih = ih e
 
--- and all that they ask holds
-pub admitted : (F : Form) (B : Input) (work a l : ℕ) → outcome (buildEarly F B work) a ≡ answered l → Admitted F B work
-admitted F B work a l e =
+  pub pass-all : (cs : List Check) (a : A) → Every (λ c. c .applies ≡ false) cs → outcome cs a ≡ answered a
+  pass-all [] a h = refl
+  pass-all (c ∷ cs) a h = rw (h .0) (pass-all cs a (h .1))
+
+-- where none of 1 to 7 applies, all that they ask holds
+pub admitted : (F : Form) (B : Input) (work : ℕ) → Every (λ c. c .applies ≡ false) (buildEarly F B work) → Admitted F B work
+admitted F B work p =
     let G : Graph = B .graph in
-    let p = all-pass (buildEarly F B work) a l e in
     let some : B .d ≡ 0 → ⊥ = eqb-false (B .d) 0 (or-false-left (eqb (B .d) 0) (ltb 5 (B .d)) (p .1 .1 .1 .0)) in
     let paired : length (G .sources) ≡ length (G .targets) =
     eqb-true (length (G .sources)) (length (G .targets)) (not-false (eqb (length (G .sources)) (length (G .targets))) (p .1 .0)) in

@@ -7,3 +7,5 @@ pub mod Written
 pub mod Outcomes
 pub mod Answered
 pub mod First
+pub mod Accepted
+pub mod Theorems

@@ -1,0 +1,65 @@
+-- What is lent right is refused by no check: edges between vertices have no bad end, and an order has every vertex.
+use mathlib.Core.Bool.{Bool, true, false, not}
+use mathlib.Core.Path.{_≡_, ap, subst, _∙_}
+use mathlib.Core.List.{List, [], _++_, map}
+use Prim.Native.Nat.{ℕ, _≤_, _<_}
+use native.Mathlib.Omega.{arith}
+use lib.ListN.{length, getD}
+use borrow.Author.Tests.{le-ltb, eq-eqb, ne-eqb}
+use Rattle.lineage.specs.Lists.{upto, any, among, Every}
+use Rattle.lineage.specs.Graph.{Graph, Ends}
+use Rattle.lineage.specs.Labels.{Order}
+use Rattle.lineage.specs.Stored.{Form}
+use Rattle.lineage.specs.Calls.{Check, Input, orderAt, ordersOf, badEdge, badOrder, built, lengthOf, buildEarly, buildLate}
+use Rattle.laws.proofs.Tests.{clash, is-false}
+use Rattle.laws.proofs.Lists.{in-any, upto-low}
+use Rattle.numbers.proofs.Tables.{table-long, table-at}
+use Rattle.numbers.proofs.Blocks.{every-at}
+use Rattle.orders.proofs.Edges.{good-edge}
+use Rattle.children.proofs.Ends.{sources-below, targets-below}
+use Rattle.build.specs.Admitted.{Admitted}
+
+-- where each of the numbers below n fails a test, none passes
+all-fail : (p : ℕ → Bool) (n : ℕ) → ((i : ℕ) → i < n → p i ≡ false) → any p (upto n) ≡ false
+all-fail p n each = is-false (any p (upto n)) (λ t. let (i, j, y) = in-any p (upto n) t in clash y (each i (upto-low n i j)))
+
+edges-good : (G : Graph) → Ends G → any (badEdge G) (upto (length (G .sources))) ≡ false
+edges-good G ends =
+    all-fail (badEdge G) (length (G .sources))
+    (λ i h. good-edge (G .n) (G .sources) (G .targets) i (sources-below G ends i h) (targets-below G ends i (omega (arith, ends .paired))))
+
+orders-good : (n d : ℕ) (orders : List ℕ) → Every (Order n) (map (orderAt n orders) (upto d)) → any (badOrder n orders) (upto d) ≡ false
+orders-good n d orders permuted =
+    all-fail (badOrder n orders) d
+    (λ j h.
+    let order : Order n (orderAt n orders j) =
+    subst (Order n) (table-at (orderAt n orders) d j [] h)
+    (every-at (Order n) (map (orderAt n orders) (upto d)) j [] permuted (omega (arith, table-long (orderAt n orders) d))) in
+    all-fail (λ v. not (among v (orderAt n orders j))) n (λ v l. ap not (order .all v l)))
+
+pub accepted : (F : Form) (B : Input) (work out : ℕ)
+    → Admitted F B work
+    → Every (Order (B .graph .n)) (ordersOf B)
+    → lengthOf F (built B) ≤ out
+    → Every (λ c. c .applies ≡ false) (buildEarly F B work ++ buildLate F B out)
+accepted F B work out A permuted room =
+    let G : Graph = B .graph in
+    let some : B .d ≡ 0 → ⊥ = λ z. omega (arith, A .least) in (
+      le-ltb (F .vertices) (G .n) (A .vertices),
+      (
+        ap not (eq-eqb (length (G .sources)) (length (G .targets)) (A .ends .paired)),
+        (
+          le-ltb (F .edges) (length (G .sources)) (A .edges),
+          (
+            rw (ne-eqb (B .d) 0 some) (le-ltb 5 (B .d) (A .most)),
+            (
+              ap not (eq-eqb (length (B .orders)) _ (A .whole)),
+              (
+                le-ltb work _ (A .room),
+                (edges-good G (A .ends), (orders-good (G .n) (B .d) (B .orders) permuted, (le-ltb out (lengthOf F (built B)) room, tt))),
+              ),
+            ),
+          ),
+        ),
+      ),
+    )

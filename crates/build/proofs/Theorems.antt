@@ -1,0 +1,157 @@
+-- What a build promises, by its contract alone. Two results that it allows are equal. A finished build was lent edges between vertices and d orders, and its output begins
+-- with the stored form of their index: that opens, and every question on it is answered as the edge list says; and it holds d labellings, each the one under its own order.
+use mathlib.Core.Bool.{true, false}
+use mathlib.Core.Logic.{_↔_}
+use mathlib.Core.Path.{_≡_, refl, sym, ap, subst, _∙_}
+use mathlib.Core.List.{List, [], _∷_, _++_, map, map-map}
+use Prim.Native.Nat.{ℕ, _≤_, _<_}
+use native.Mathlib.Omega.{arith}
+use lib.ListN.{length, getD, take, drop, length-map}
+use lib.Seq.{take-at, drop-at}
+use borrow.Author.Tests.{ltb-false, lt-leb}
+use Rattle.lineage.specs.Lists.{upto, Every}
+use Rattle.lineage.specs.Graph.{Graph, Reaches, condense}
+use Rattle.lineage.specs.Labels.{Order, Labelling, labelling}
+use Rattle.lineage.specs.Index.{Index, indexBy, indexOf}
+use Rattle.lineage.specs.Question.{answer}
+use Rattle.lineage.specs.Stored.{form1, Counts, countsOf, encode, countsIn}
+use Rattle.lineage.specs.Calls.{Check, answered, outcome, Input, orderAt, ordersOf, built, lengthOf, buildEarly, buildLate, buildAnswer, buildOutput, buildWork, indexIn, formChecks, contentsCheck, openAnswer, askEarly, Said, saidOf, askAnswer}
+use Rattle.laws.proofs.Sound.{made-sound, made-long}
+use Rattle.laws.proofs.Decides.{sound-decides}
+use Rattle.laws_answers.proofs.Demands.{answer-right}
+use Rattle.numbers.proofs.Tables.{table-long, getD-mapped, table-at}
+use Rattle.orders.proofs.Permutations.{orders-of}
+use Rattle.stored.specs.Fits.{Fits}
+use Rattle.stored.proofs.Checks.{passed-applies}
+use Rattle.stored.proofs.Encoded.{counts-read, encode-long, index-encode}
+use Rattle.open.proofs.Fits.{form1-wide, bounds-kept, yielded-fits}
+use Rattle.open.proofs.Theorem.{built-opens}
+use Rattle.build.specs.declared.Built.{Built}
+use Rattle.build.specs.declared.Built.the-variants.{Total, Refused}
+use Rattle.build.specs.Admitted.{Admitted}
+use Rattle.build.specs.Answers.{builtOf}
+use Rattle.build.proofs.Checks.{all-pass, passed-is, pass-all, admitted}
+use Rattle.build.proofs.Accepted.{accepted}
+
+-- What `build` may answer and leave, by its contract.
+pub record Allowed (B : Input) (work out : List ℕ) (r : Built) (work' out' : List ℕ) : Type 0 where
+  pub answers : builtOf r ≡ buildAnswer form1 B (length work) (length out)
+  pub leaves : work' ≡ buildWork form1 B work
+  pub writes : out' ≡ buildOutput form1 B (length work) out
+
+built-one : (r r' : Built) → builtOf r ≡ builtOf r' → r ≡ r'
+built-one (Total t) (Total t') e = cc
+built-one (Total t) (Refused number extra) e = let z : _≡_ {A = ℕ} 0 1 = cc in absurd (omega arith)
+built-one (Refused number extra) (Total t) e = let z : _≡_ {A = ℕ} 0 1 = cc in absurd (omega arith)
+built-one (Refused number extra) (Refused number' extra') e = cc
+
+-- two results are equal
+pub built-once : {B : Input} {work out : List ℕ} {r r' : Built} {w w' o o' : List ℕ} → Allowed B work out r w o → Allowed B work out r' w' o' → (r ≡ r') × ((w ≡ w') × (o ≡ o'))
+built-once X Y = (built-one _ _ (X .answers ∙ sym (Y .answers)), (X .leaves ∙ sym (Y .leaves), X .writes ∙ sym (Y .writes)))
+
+-- input that is right, with an output that is long enough, is built: no build that refuses it is allowed
+pub build-finishes : {B : Input} {work out : List ℕ} {r : Built} {work' out' : List ℕ} → Allowed B work out r work' out'
+    → Admitted form1 B (length work)
+    → Every (Order (B .graph .n)) (ordersOf B)
+    → lengthOf form1 (built B) ≤ length out
+    → builtOf r ≡ answered (lengthOf form1 (built B))
+unfolding buildAnswer
+build-finishes {B} {work} {out} X A permuted room =
+    X .answers
+    ∙ pass-all (buildEarly form1 B (length work) ++ buildLate form1 B (length out)) (lengthOf form1 (built B)) (accepted form1 B (length work) (length out) A permuted room)
+
+-- A finished build.
+module _ (B : Input) (work out : List ℕ) (r : Built) (work' out' : List ℕ) (X : Allowed B work out r work' out') (total : ℕ) (done : builtOf r ≡ answered total) where
+  abbrev G : Graph
+  G = B .graph
+
+  abbrev checks : List Check
+  checks = buildEarly form1 B (length work) ++ buildLate form1 B (length out)
+
+  said : outcome checks (lengthOf form1 (built B)) ≡ answered total
+  unfolding buildAnswer
+  said = sym (X .answers) ∙ done
+
+  passes : Every (λ c. c .applies ≡ false) checks
+  passes = all-pass checks (lengthOf form1 (built B)) total said
+
+  -- what it was lent
+  pub input-right : Admitted form1 B (length work)
+  input-right =
+      admitted form1 B (length work)
+      (passes .0, (passes .1 .0, (passes .1 .1 .0, (passes .1 .1 .1 .0, (passes .1 .1 .1 .1 .0, (passes .1 .1 .1 .1 .1 .0, (passes .1 .1 .1 .1 .1 .1 .0, tt)))))))
+
+  pub orders-right : Every (Order (G .n)) (ordersOf B)
+  orders-right = orders-of (G .n) (B .d) (B .orders) (input-right .whole) (passes .1 .1 .1 .1 .1 .1 .1 .0)
+
+  orders-many : length (ordersOf B) ≡ B .d
+  orders-many = table-long (orderAt (G .n) (B .orders)) (B .d)
+
+  fits : Fits form1 (built B)
+  fits =
+      yielded-fits form1-wide G (input-right .ends) (ordersOf B) orders-right
+      (bounds-kept form1 G (input-right .ends) (ordersOf B) orders-right (input-right .vertices) (input-right .edges)
+      (omega (arith, orders-many, input-right .least))
+      (omega (arith, orders-many, input-right .most)))
+
+  -- the total length is that of the stored form
+  pub total-right : length (encode form1 (built B)) ≡ total
+  total-right = encode-long fits ∙ sym (passed-is checks (lengthOf form1 (built B)) total said)
+
+  output-is : out' ≡ encode form1 (built B) ++ drop total out
+  unfolding buildOutput
+  output-is =
+      X .writes
+      ∙ rw (passed-applies [] (lengthOf form1 (built B)) checks total said)
+      (ap (λ (n : ℕ). encode form1 (built B) ++ drop n out) (sym (passed-is checks (lengthOf form1 (built B)) total said)))
+
+  -- the output begins with it, and goes on as it was
+  pub build-stores : take total out' ≡ encode form1 (built B)
+  build-stores = rw output-is (take-at (encode form1 (built B)) (drop total out) total total-right)
+
+  pub build-keeps : drop total out' ≡ drop total out
+  build-keeps = rw output-is (drop-at (encode form1 (built B)) (drop total out) total total-right)
+
+  -- what is stored opens
+  pub build-opens : (marks : ℕ) → G .n ≤ marks → openAnswer (take total out') marks ≡ answered (countsOf (built B))
+  build-opens marks room =
+      ap (λ (b : List ℕ). openAnswer b marks) build-stores
+      ∙ built-opens G (input-right .ends) (ordersOf B) orders-right (input-right .vertices) (input-right .edges)
+      (omega (arith, orders-many, input-right .least))
+      (omega (arith, orders-many, input-right .most))
+      marks
+      room
+
+  -- and is the index that was built
+  stored-index : indexIn (take total out') ≡ built B
+  stored-index = ap indexIn build-stores ∙ index-encode fits
+
+  stored-counts : countsIn (take total out') .n ≡ G .n
+  stored-counts =
+      ap (λ (b : List ℕ). countsIn b .n) build-stores
+      ∙ ap (λ (a : Counts). a .n) (counts-read fits)
+      ∙ made-long (record { graph = G; ends = input-right .ends; orders = ordersOf B; permuted = orders-right; yields = refl })
+
+  -- every question on it is answered, and with yes exactly where the edge list has a path
+  module _ (marks u v : ℕ) (room : G .n ≤ marks) (source : u < G .n) (target : v < G .n) where
+    pub build-asks : askAnswer (take total out') u v marks ≡ answered (saidOf (answer (built B) u v))
+    unfolding askAnswer openAnswer
+    build-asks =
+        let b : List ℕ = take total out' in
+        let p = all-pass (formChecks b marks ++ (contentsCheck b ∷ [])) (countsIn b) (countsOf (built B)) (build-opens marks room) in
+        let low-source = lt-leb (countsIn b .n) u (omega (arith, stored-counts)) in
+        let low-target = lt-leb (countsIn b .n) v (omega (arith, stored-counts)) in
+        pass-all (askEarly b u v marks ++ (contentsCheck b ∷ [])) (saidOf (answer (indexIn b) u v))
+        (p .0, (p .1 .0, (p .1 .1 .0, (p .1 .1 .1 .0, (low-source, (low-target, (p .1 .1 .1 .1 .0, tt)))))))
+        ∙ ap (λ (I : Index). answered (saidOf (answer I u v))) stored-index
+
+    pub build-asks-right : (answer (built B) u v .says ≡ true) ↔ Reaches G u v
+    build-asks-right =
+        answer-right G (input-right .ends) (ordersOf B) orders-right (omega (arith, orders-many, input-right .least)) u v source target
+
+  -- it holds d labellings, and each is the labelling under its own order
+  pub build-labellings : indexIn (take total out') .labels ≡ map (λ j. labelling (condense G .groups) (condense G .children) (orderAt (G .n) (B .orders) j)) (upto (B .d))
+  unfolding indexOf indexBy
+  build-labellings =
+      ap (λ (I : Index). I .labels) stored-index
+      ∙ map-map (labelling (condense G .groups) (condense G .children)) (orderAt (G .n) (B .orders)) (upto (B .d))
