@@ -9,12 +9,12 @@ use Rattle.lineage.specs.Stored.{decode}
 use Rattle.lineage.specs.Sound.{startsPass, sound, contentsSound}
 use Rattle.lineage.specs.Calls.{indexIn}
 use Rattle.laws.proofs.Tests.{and-left, and-right}
-use Rattle.sections.proofs.Sections.{decode-is}
 use Rattle.stored.specs.declared.header.Layout.{Layout}
 use Rattle.stored.specs.Header.{Laid}
-use Rattle.stored.specs.Sections.{Section}
+use Rattle.stored.specs.Sections.{Section, indexAt}
+use Rattle.stored.proofs.Sections.{decode-is}
 use Rattle.open.proofs.Contents.{n-is, k-is, c-is, d-is, contents-are}
-use Rattle.ask.specs.Lent.{indexAt, Lent}
+use Rattle.ask.specs.Lent.{Lent}
 
 -- the six sections of bytes
 pub record Six (b : List ℕ) (l : Layout) (names groups levels starts children labels : List ℕ) : Type 0 where

@@ -1,7 +1,7 @@
 -- The labellings of a labels section, one after the other. Each has its triples within the labels; the two bounds that are read off them are those of its
 -- intervals; and the number of the first labelling that passes a test is found by going through them.
 use mathlib.Core.Path.{_≡_, refl, sym, ap, _∙_}
-use mathlib.Core.Bool.{Bool, true, false, not, _&&_, cond}
+use mathlib.Core.Bool.{Bool, true, false, not, _&&_, cond, and-false}
 use mathlib.Core.List.{List, _∷_}
 use Prim.Native.Nat.{ℕ, zero, suc, _+_, _*_, _≤_, _<_}
 use native.Mathlib.Omega.{arith}
@@ -12,10 +12,10 @@ use lib.ListN.{length, drop, drop-of-length-le}
 use lib.Seq.{drop-cons}
 use Rattle.lineage.specs.Labels.{Labelling}
 use Rattle.lineage.specs.Question.{inside, outside, firstFrom, firstLabelling}
+use Rattle.laws.proofs.Lists.{table-at}
 use Rattle.numbers.specs.Regions.{Part}
-use Rattle.numbers.proofs.Tables.{table-at}
-use Rattle.sections.specs.Sections.{labellingIn, triplesOf, placesOf, labelsIn}
-use Rattle.sections.proofs.Sections.{s-at, m-at, e-at, labels-long}
+use Rattle.stored.specs.Sections.{labellingIn, triplesOf, placesOf, labelsIn}
+use Rattle.stored.proofs.Sections.{s-at, m-at, e-at, labels-long}
 use Rattle.ask.specs.Intervals.{innerBound, outerBound}
 
 -- number i of the triple of x lies within l bytes
@@ -30,13 +30,9 @@ in-triples w k x labels triples P h = let own : 3 * x + 3 ≤ 3 * k = omega arit
 both-hold : (p : ℕ → Bool) → ((b : ℕ) → b < 2 → p b ≡ true) → (p 0 && p 1) ≡ true
 both-hold p h = rw (h 0 (omega arith), h 1 (omega arith))
 
-no-second : (a : Bool) → (a && false) ≡ false
-no-second true = refl
-no-second false = refl
-
 one-fails : (p : ℕ → Bool) (b : ℕ) → b < 2 → p b ≡ false → (p 0 && p 1) ≡ false
 one-fails p zero h e = rw e
-one-fails p (suc zero) h e = rw e (no-second (p 0))
+one-fails p (suc zero) h e = rw e (and-false (p 0))
 one-fails p (suc (suc b)) h e = absurd (omega arith)
 
 -- one bound more holds

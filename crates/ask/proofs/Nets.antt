@@ -14,9 +14,8 @@ use Rattle.lineage.specs.Question.{inside, firstLabelling}
 use Rattle.laws_answers.proofs.Marks.{ones-set}
 use Rattle.laws_answers.proofs.Labellings.{first-given}
 use Rattle.numbers.proofs.Numbers.{numbers-at}
-use Rattle.sections.specs.Sections.{childrenIn, labelsIn}
-use Rattle.sections.proofs.Sections.{row-long, row-at}
-use Rattle.stored.specs.Sections.{ChildrenOf}
+use Rattle.stored.specs.Sections.{ChildrenOf, childrenIn, labelsIn}
+use Rattle.stored.proofs.Sections.{row-long, row-at}
 use Rattle.ask.specs.Fit.{count, all, netIn, passedOver, Fit}
 use Rattle.ask.proofs.Rows.{row-all}
 use Rattle.ask.proofs.Counting.{Within, Gains, try-gains, open-gains, ones-low}

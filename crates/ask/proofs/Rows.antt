@@ -7,9 +7,8 @@ use native.Mathlib.Nat.{mul-le-mul-left, mul-div-le, div-eq-of-eq-mul-right, lt-
 use lib.ListN.{length, getD}
 use Rattle.lineage.specs.Numbers.{Width, numAt, numbers}
 use Rattle.numbers.proofs.Numbers.{num-part, numbers-part}
-use Rattle.sections.specs.Sections.{childrenIn}
-use Rattle.sections.proofs.Sections.{row-is}
-use Rattle.stored.specs.Sections.{ChildrenOf}
+use Rattle.stored.specs.Sections.{ChildrenOf, childrenIn}
+use Rattle.stored.proofs.Sections.{row-is}
 use Rattle.ask.specs.Fit.{count, all, Fit, Below}
 
 -- how many whole numbers a stretch holds

@@ -16,8 +16,8 @@ use Rattle.lineage.specs.Walk.{Walked, walked, openAt}
 use Rattle.lineage.specs.Question.{inside, outside, firstFrom, firstLabelling, rule2, rule3, rule4, netOf, walk, byWalk, between}
 use Rattle.laws_answers.proofs.Labellings.{first-given}
 use Rattle.numbers.proofs.Numbers.{numbers-at}
-use Rattle.sections.specs.Sections.{labelsIn}
-use Rattle.sections.proofs.Sections.{labels-long}
+use Rattle.stored.specs.Sections.{labelsIn}
+use Rattle.stored.proofs.Sections.{labels-long}
 use Rattle.ask.specs.declared.question.Reply.{Reply}
 use Rattle.ask.specs.Fit.{groupsIn, netIn, Fit}
 use Rattle.ask.specs.Replies.{answerBy}

@@ -15,15 +15,15 @@ use Rattle.lineage.specs.Question.{between, placeIn, walk, answer}
 use Rattle.laws.specs.Sound.{SoundGroups}
 use Rattle.laws.proofs.Lists.{in-getD}
 use Rattle.laws.proofs.Rising.{Rises}
+use Rattle.laws.proofs.Starts.{pass-rises, pass-low}
 use Rattle.laws.proofs.Grouped.{groups-rise, name-group, group-name, place-low, levels-fall}
 use Rattle.laws.proofs.Decides.{sound-decides}
 use Rattle.numbers.proofs.Numbers.{numbers-long, numbers-at}
-use Rattle.sections.specs.Sections.{childrenIn, indexFrom}
-use Rattle.sections.proofs.Sections.{children-long, row-long, row-at}
 use Rattle.stored.specs.declared.header.Layout.{Layout}
-use Rattle.stored.proofs.Starts.{Rising, starts-rise, starts-low}
+use Rattle.stored.specs.Sections.{childrenIn, indexFrom, indexAt}
+use Rattle.stored.proofs.Sections.{children-long, row-long, row-at}
 use Rattle.ask.specs.Fit.{count, groupsIn, Fit}
-use Rattle.ask.specs.Lent.{indexAt, Lent}
+use Rattle.ask.specs.Lent.{Lent}
 use Rattle.ask.proofs.Rows.{count-is}
 
 module _ {l : Layout} {names groups levels starts children labels : List ℕ} (S : Lent l names groups levels starts children labels) where
@@ -51,17 +51,14 @@ module _ {l : Layout} {names groups levels starts children labels : List ℕ} (S
   rows-long = children-long w starts children k c
 
   -- child starts rise to c
-  starts-rising : Rising (numbers w starts (k + 1)) k c
-  starts-rising = starts-rise (numbers w starts (k + 1)) k c (S .starts-sound)
-
   next-at : (p : ℕ) → p < k → getD (numbers w starts (k + 1)) (suc p) 0 ≡ numAt w starts (p + 1)
   next-at p h = rw (add-one p) (numbers-at w starts (k + 1) (suc p) (omega arith))
 
   rises : (p : ℕ) → p < k → numAt w starts p ≤ numAt w starts (p + 1)
-  rises p h = omega (arith, starts-rising .rise p h, numbers-at w starts (k + 1) p (omega arith), next-at p h)
+  rises p h = omega (arith, pass-rises (numbers w starts (k + 1)) k c (S .starts-sound) p h, numbers-at w starts (k + 1) p (omega arith), next-at p h)
 
   ends : (p : ℕ) → p < k → numAt w starts (p + 1) ≤ c
-  ends p h = omega (arith, starts-low starts-rising (suc p) h, next-at p h)
+  ends p h = omega (arith, pass-low (numbers w starts (k + 1)) k c (S .starts-sound) (suc p) h, next-at p h)
 
   -- number i of the children, in the row of p
   module _ (p i : ℕ) (h : p < k) (from : numAt w starts p ≤ i) (to : i < numAt w starts (p + 1)) where

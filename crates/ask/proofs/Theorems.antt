@@ -19,11 +19,11 @@ use Rattle.lineage.specs.Calls.{answered, indexIn, Said, askAnswer, askMarks}
 use Rattle.laws.proofs.Rising.{Distinct}
 use Rattle.laws.proofs.Grouped.{group-name}
 use Rattle.laws.proofs.Sound.{made-long}
+use Rattle.laws.proofs.Lists.{table-long}
 use Rattle.laws_answers.specs.Answers.{Member, Opened, marksOf, NoMore}
 use Rattle.laws_answers.specs.Walks.{Through}
 use Rattle.laws_answers.proofs.Demands.{answer-right, marks-are-opened, opened-on-a-no, more-orders}
 use Rattle.numbers.proofs.Numbers.{numbers-long}
-use Rattle.numbers.proofs.Tables.{table-long}
 use Rattle.ask.specs.declared.Asked.{Asked}
 use Rattle.ask.specs.declared.Asked.the-variants.{Answer, Refused}
 use Rattle.ask.specs.Asked.{askedOf}

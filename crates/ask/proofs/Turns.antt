@@ -13,7 +13,7 @@ use Rattle.lineage.specs.Walk.{Net, walked, marked, openAt, tryAt}
 use Rattle.lineage.specs.Question.{inside, firstLabelling}
 use Rattle.laws.proofs.Tests.{or-false-left}
 use Rattle.numbers.proofs.Numbers.{count-low, room, numbers-long, numbers-at}
-use Rattle.sections.specs.Sections.{labelsIn}
+use Rattle.stored.specs.Sections.{labelsIn}
 use Rattle.ask.specs.Fit.{count, all, netIn, passedOver, Fit, Below}
 use Rattle.ask.proofs.Rows.{more, no-more}
 use Rattle.ask.proofs.Counting.{Gains, ones-low, open-gains}

@@ -8,7 +8,7 @@ use Rattle.lineage.specs.Numbers.{numAt, numbers}
 use Rattle.lineage.specs.Index.{Index}
 use Rattle.lineage.specs.Walk.{Net, marked}
 use Rattle.lineage.specs.Question.{netOf}
-use Rattle.sections.specs.Sections.{childrenIn, labelsIn}
+use Rattle.stored.specs.Sections.{childrenIn, labelsIn}
 use Rattle.ask.specs.Intervals.{Labelled}
 
 -- how many numbers of w bytes a stretch holds, and all of them

@@ -5,15 +5,9 @@ use mathlib.Core.List.{List}
 use Prim.Native.Nat.{ℕ, _+_, _*_, _≤_}
 use lib.ListN.{length}
 use Rattle.lineage.specs.Numbers.{Width, numbers}
-use Rattle.lineage.specs.Index.{Index}
 use Rattle.lineage.specs.Sound.{startsPass, sound}
-use Rattle.sections.specs.Sections.{indexFrom}
 use Rattle.stored.specs.declared.header.Layout.{Layout}
-
--- the index that they hold
-abbrev pub indexAt : Layout → (names groups levels starts children labels : List ℕ) → Index
-indexAt l names groups levels starts children labels =
-    indexFrom (l .width) (l .n) (l .k) (l .c) (l .d) names groups levels starts children labels
+use Rattle.stored.specs.Sections.{indexAt}
 
 -- each section is as long as the layout says, the counts are within the bounds of every form, and the contents are sound
 pub record Lent (l : Layout) (names groups levels starts children labels : List ℕ) : Type 0 where

@@ -6,7 +6,7 @@ ghost use lib.Dec.{leb};
 ghost use lib.ListN.{length};
 ghost use Rattle.lineage.specs.Numbers.{Width, numAt};
 ghost use Rattle.lineage.specs.Question.{inside, outside, firstLabelling};
-ghost use Rattle.sections.specs.Sections.{labelsIn};
+ghost use Rattle.stored.specs.Sections.{labelsIn};
 ghost use Rattle.ask.specs.Intervals.{Labelled, innerBound, outerBound};
 
 // The numbers of a triple: s, m, e.
@@ -61,7 +61,7 @@ pub fn inner_by(labels: &[u8], w: usize, k: usize, d: usize, x: usize, t: usize)
     let mut l = 0;
     let mut answer = 0;
     'labellings: while l < d {
-        let triples = stored::sections::triples(labels, w, k, d, l);
+        let triples = stored::parts::triples(labels, w, k, d, l);
         let mut b = 0;
         while inner_bound(triples, w, x, t, b) {
             b += 1;
@@ -84,7 +84,7 @@ pub fn outer_by(labels: &[u8], w: usize, k: usize, d: usize, x: usize, t: usize)
     let mut l = 0;
     let mut answer = 0;
     'labellings: while l < d {
-        let triples = stored::sections::triples(labels, w, k, d, l);
+        let triples = stored::parts::triples(labels, w, k, d, l);
         let mut b = 0;
         while b < 2 {
             if !outer_bound(triples, w, x, t, b) {

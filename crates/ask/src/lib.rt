@@ -59,12 +59,12 @@ fn ask_laid(index: &[u8], l: Layout, source: usize, target: usize, marks: &mut [
         };
     }
     let r = question::question(
-        stored::sections::names(index, l),
-        stored::sections::groups(index, l),
-        stored::sections::levels(index, l),
-        stored::sections::starts(index, l),
-        stored::sections::children(index, l),
-        stored::sections::labels(index, l),
+        stored::parts::names(index, l),
+        stored::parts::groups(index, l),
+        stored::parts::levels(index, l),
+        stored::parts::starts(index, l),
+        stored::parts::children(index, l),
+        stored::parts::labels(index, l),
         l,
         source,
         target,

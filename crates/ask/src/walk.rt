@@ -64,7 +64,7 @@ pub fn open_group(
 {
     let name = numbers::num(groups, w, g);
     marks[name] = 1;
-    let row = stored::sections::children_of(starts, children, w, g);
+    let row = stored::parts::children_of(starts, children, w, g);
     let a = try_children(
         groups,
         levels,

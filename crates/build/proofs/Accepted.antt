@@ -12,11 +12,10 @@ use Rattle.lineage.specs.Labels.{Order}
 use Rattle.lineage.specs.Stored.{Form}
 use Rattle.lineage.specs.Calls.{Check, Input, orderAt, ordersOf, badEdge, badOrder, built, lengthOf, buildEarly, buildLate}
 use Rattle.laws.proofs.Tests.{clash, is-false}
-use Rattle.laws.proofs.Lists.{in-any, upto-low}
-use Rattle.numbers.proofs.Tables.{table-long, table-at}
-use Rattle.numbers.proofs.Blocks.{every-at}
+use Rattle.laws.proofs.Lists.{in-any, upto-low, table-long, table-at}
+use Rattle.laws.proofs.Every.{every-at}
+use Rattle.laws.proofs.Edges.{sources-below, targets-below}
 use Rattle.orders.proofs.Edges.{good-edge}
-use Rattle.children.proofs.Ends.{sources-below, targets-below}
 use Rattle.build.specs.Admitted.{Admitted}
 
 -- where each of the numbers below n fails a test, none passes

@@ -13,10 +13,9 @@ use Rattle.lineage.specs.Graph.{Graph, Condensed}
 use Rattle.lineage.specs.Index.{Index, indexBy, indexOf}
 use Rattle.lineage.specs.Stored.{Form, encode}
 use Rattle.lineage.specs.Calls.{refused, answered, Input, orderAt, ordersOf, badOrder, workNeeded, built, lengthOf}
-use Rattle.laws.proofs.Lists.{in-upto}
+use Rattle.laws.proofs.Lists.{in-upto, any-none}
 use Rattle.numbers.specs.Regions.{Kept}
 use Rattle.numbers.proofs.Regions.{kept-then, kept-wider}
-use Rattle.orders.proofs.Lists.{any-none}
 use Rattle.orders.proofs.Permutations.{order-of}
 use Rattle.labelled.specs.Window.{windowSize}
 use Rattle.stored.specs.declared.header.Layout.{Layout}

@@ -12,8 +12,9 @@ use Rattle.lineage.specs.Calls.{workNeeded}
 use Rattle.laws.proofs.Names.{names-long}
 use Rattle.laws.proofs.Grouped.{place-low}
 use Rattle.laws.proofs.Condensed.{children-long, groups-sound}
-use Rattle.numbers.proofs.Regions.{part-length, kept-then, kept-wider}
-use Rattle.rows.specs.Regions.{under}
+use Rattle.laws.proofs.Parts.{part-length}
+use Rattle.numbers.specs.Regions.{under}
+use Rattle.numbers.proofs.Regions.{kept-then, kept-wider}
 use Rattle.groups.proofs.Listing.{place-at}
 use Rattle.condense.specs.Window.{GroupsFound}
 use Rattle.children.specs.Window.{ChildrenFit, ChildrenFound}

@@ -18,8 +18,8 @@ use Rattle.lineage.specs.Stored.{form1, Counts, countsOf, encode, countsIn}
 use Rattle.lineage.specs.Calls.{Check, answered, outcome, Input, orderAt, ordersOf, built, lengthOf, buildEarly, buildLate, buildAnswer, buildOutput, buildWork, indexIn, formChecks, contentsCheck, openAnswer, askEarly, Said, saidOf, askAnswer}
 use Rattle.laws.proofs.Sound.{made-sound, made-long}
 use Rattle.laws.proofs.Decides.{sound-decides}
+use Rattle.laws.proofs.Lists.{table-long, getD-mapped, table-at}
 use Rattle.laws_answers.proofs.Demands.{answer-right}
-use Rattle.numbers.proofs.Tables.{table-long, getD-mapped, table-at}
 use Rattle.orders.proofs.Permutations.{orders-of}
 use Rattle.stored.specs.Fits.{Fits}
 use Rattle.stored.proofs.Checks.{passed-applies}

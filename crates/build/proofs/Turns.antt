@@ -12,9 +12,10 @@ use Rattle.lineage.specs.Labels.{labelling}
 use Rattle.lineage.specs.Stored.{startsFrom, labelNumbers}
 use Rattle.lineage.specs.Calls.{orderAt}
 use Rattle.laws.proofs.Labelled.{labelling-sound}
+use Rattle.laws.proofs.Parts.{part-length}
 use Rattle.numbers.specs.Put.{put}
 use Rattle.numbers.specs.Regions.{Kept}
-use Rattle.numbers.proofs.Regions.{part-length, kept-same}
+use Rattle.numbers.proofs.Regions.{kept-same}
 use Rattle.labelled.specs.Window.{windowSize, childrenBy}
 use Rattle.labelled.proofs.Regions.{children-same}
 use Rattle.labelled.proofs.Again.{groups-kept, labelled-since}

@@ -12,14 +12,13 @@ use Rattle.lineage.specs.Labels.{labelling}
 use Rattle.lineage.specs.Index.{Index, indexBy}
 use Rattle.lineage.specs.Stored.{Form, Counts, offsets, labelNumbers, countsOf, header, encode}
 use Rattle.lineage.specs.Calls.{orderAt, lengthOf}
-use Rattle.laws.proofs.Lists.{upto-low, length-upto}
+use Rattle.laws.proofs.Lists.{upto-low, length-upto, table-long}
 use Rattle.laws.proofs.Levels.{levels-long}
 use Rattle.laws.proofs.Labelled.{labelling-sound}
+use Rattle.laws.proofs.Parts.{part-length}
+use Rattle.laws.proofs.Every.{every-mapped}
 use Rattle.numbers.specs.Put.{put}
 use Rattle.numbers.specs.Regions.{Kept}
-use Rattle.numbers.proofs.Tables.{table-long}
-use Rattle.numbers.proofs.Regions.{part-length}
-use Rattle.orders.proofs.Lists.{every-mapped}
 use Rattle.labels.specs.Fit.{UpFit}
 use Rattle.labelled.specs.Window.{byRankAt, levelsAt, windowSize, groupsBy, childrenBy}
 use Rattle.labelled.specs.Fit.{LabelFit}

@@ -11,13 +11,14 @@ use Rattle.lineage.specs.Graph.{Graph, namesOf, groupList, placeOf, childrenOf}
 use Rattle.lineage.specs.Labels.{Order}
 use Rattle.lineage.specs.Stored.{startsFrom, rowAt}
 use Rattle.lineage.specs.Sound.{childOf}
+use Rattle.laws.specs.Laid.{Rows}
 use Rattle.laws.proofs.Condensed.{children-long}
-use Rattle.numbers.proofs.Regions.{part-length}
-use Rattle.rows.specs.Rows.{Rows, turnedRow}
+use Rattle.laws.proofs.Parts.{part-length}
+use Rattle.laws.proofs.Starts.{values-are, starts-are}
+use Rattle.rows.specs.Rows.{turnedRow}
 use Rattle.children.specs.Places.{childPlaces, parentPlaces}
 use Rattle.children.specs.Window.{childrenAt, windowSize, ChildrenFit, ChildrenAt, ParentsAt, ChildrenFound}
 use Rattle.children.proofs.Rows.{rows-same, rows-turned, among-those, those-upto, turned-those}
-use Rattle.children.proofs.Stored.{values-are, starts-are}
 use Rattle.children.proofs.Named.{children-are}
 
 -- the children of k groups and their parents, in a window for e edges

@@ -12,10 +12,11 @@ use borrow.Author.Tests.{eq-eqb, ne-eqb}
 use Rattle.lineage.specs.Lists.{upto, among, those}
 use Rattle.lineage.specs.Graph.{Graph, Edge, first, later, someEdge, isChild}
 use Rattle.laws.specs.Passes.{row}
+use Rattle.laws.specs.Laid.{Below}
 use Rattle.laws.proofs.Lists.{here, there}
 use Rattle.laws.proofs.TwoPasses.{edge-rows}
-use Rattle.rows.specs.Rows.{Below, mapped, turnedRow, strippedRow}
-use Rattle.rows.proofs.Laid.{below-in}
+use Rattle.laws.proofs.Laid.{below-in}
+use Rattle.rows.specs.Rows.{mapped, turnedRow, strippedRow}
 use Rattle.rows.proofs.Pairs.{mapped-low}
 use Rattle.rows.proofs.Singles.{stripped-turned}
 use Rattle.children.specs.Places.{childPlaces, parentPlaces}

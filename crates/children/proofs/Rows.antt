@@ -7,11 +7,12 @@ use Prim.Native.Nat.{ℕ, _<_}
 use Rattle.lineage.specs.Lists.{upto, among, those}
 use Rattle.lineage.specs.Labels.{Order}
 use Rattle.lineage.specs.Stored.{rowAt}
+use Rattle.laws.specs.Laid.{Below, Rows}
 use Rattle.laws.proofs.Tests.{clash, is-false}
 use Rattle.laws.proofs.Lists.{those-pass, those-keep, in-upto, upto-low, length-upto}
 use Rattle.laws.proofs.Rising.{rises-upto, rises-those, rises-distinct, rises-unique}
-use Rattle.rows.specs.Rows.{Below, Rows, turnedRow}
-use Rattle.rows.proofs.Laid.{values-below}
+use Rattle.laws.proofs.Laid.{values-below}
+use Rattle.rows.specs.Rows.{turnedRow}
 use Rattle.rows.proofs.Orders.{order-low}
 use Rattle.rows.proofs.Contents.{turned-once, turned-same}
 

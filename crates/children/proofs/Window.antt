@@ -9,17 +9,17 @@ use Rattle.lineage.specs.Lists.{upto, part}
 use Rattle.lineage.specs.Graph.{Graph, isChild}
 use Rattle.lineage.specs.Stored.{rowAt}
 use Rattle.laws.specs.Passes.{row}
-use Rattle.numbers.specs.Regions.{Kept}
-use Rattle.numbers.proofs.Regions.{part-length, kept-then, kept-wider}
-use Rattle.rows.specs.Regions.{under, over}
-use Rattle.rows.specs.Rows.{Below, Rows, mapped, turnedRow, singles, strippedRow}
+use Rattle.laws.specs.Laid.{Below, Rows}
+use Rattle.laws.proofs.Parts.{part-length}
+use Rattle.laws.proofs.Laid.{values-below}
+use Rattle.laws.proofs.Edges.{sources-below, targets-below}
+use Rattle.numbers.specs.Regions.{Kept, under, over}
+use Rattle.numbers.proofs.Regions.{kept-then, kept-wider, kept-apart, apart-within}
+use Rattle.rows.specs.Rows.{mapped, turnedRow, singles, strippedRow}
 use Rattle.rows.specs.Fit.{PairsFit, RowsFit, TurnFit}
-use Rattle.rows.proofs.Regions.{kept-apart, apart-within}
-use Rattle.rows.proofs.Laid.{values-below}
 use Rattle.children.specs.Places.{childPlaces}
 use Rattle.children.specs.Window.{sequenceAt, childrenAt, windowSize, ChildrenFit, ChildrenAt, ParentsAt, ChildrenFound}
 use Rattle.children.proofs.Rows.{upto-order, rows-same, rows-turned, those-below}
-use Rattle.children.proofs.Ends.{sources-below, targets-below}
 use Rattle.children.proofs.Places.{comingFrom, coming-low, stripped-children, turned-parents}
 
 -- passes have written in the window, and the sequence is there

@@ -6,9 +6,8 @@ use Prim.Native.Nat.{ℕ, _+_, _*_, _^_, _≤_, _<_}
 use lib.ListN.{length}
 use Rattle.lineage.specs.Lists.{upto, part}
 use Rattle.lineage.specs.Graph.{Graph, Ends}
-use Rattle.numbers.specs.Regions.{Kept}
-use Rattle.rows.specs.Regions.{Outside}
-use Rattle.rows.specs.Rows.{Below, Rows}
+use Rattle.laws.specs.Laid.{Below, Rows}
+use Rattle.numbers.specs.Regions.{Kept, Outside}
 use Rattle.children.specs.Places.{childPlaces, parentPlaces}
 
 -- where the sequence lies, where the children start, and how many words there are in all

@@ -12,9 +12,9 @@ use Rattle.laws.specs.Passes.{row, TwoPasses, pass₁, pass₂}
 use Rattle.laws.proofs.Rising.{Distinct}
 use Rattle.laws.proofs.Visited.{distinct}
 use Rattle.laws.proofs.TwoPasses.{passes-made}
-use Rattle.numbers.specs.Regions.{Kept}
-use Rattle.numbers.proofs.Regions.{part-length, kept-then, kept-wider}
-use Rattle.rows.specs.Regions.{under, over}
+use Rattle.laws.proofs.Parts.{part-length}
+use Rattle.numbers.specs.Regions.{Kept, under, over}
+use Rattle.numbers.proofs.Regions.{kept-then, kept-wider}
 use Rattle.traversal.specs.Lows.{Traversed}
 use Rattle.traversal.proofs.Lows.{lows-at}
 use Rattle.groups.specs.Trees.{Lows, treeNames}

@@ -1,6 +1,5 @@
 -- The laws of this crate's passes.
 pub mod Reversing
-pub mod Ends
 pub mod Passing
 pub mod Passes
 pub mod Found

@@ -6,22 +6,18 @@ use Prim.Native.Nat.{ℕ, suc, _+_, _*_, _≤_}
 use native.Mathlib.Omega.{arith}
 use lib.ListN.{length, length-reverse}
 use Rattle.lineage.specs.Lists.{upto, part}
-use Rattle.lineage.specs.Graph.{Graph, Edge, first, later, Ends}
+use Rattle.lineage.specs.Graph.{Graph, Ends}
 use Rattle.lineage.specs.Labels.{Order, traverse, finished}
 use Rattle.laws.specs.Passes.{row, pass₁, pass₂}
 use Rattle.laws.proofs.Lists.{in-upto, length-upto, among-reverse}
+use Rattle.laws.proofs.Edges.{edge-turned}
 use Rattle.laws.proofs.TwoPasses.{passes-made}
-use Rattle.numbers.specs.Regions.{Kept}
+use Rattle.numbers.specs.Regions.{Kept, under, over, Outside}
 use Rattle.numbers.proofs.Regions.{kept-then, kept-wider}
-use Rattle.rows.specs.Regions.{under, over, Outside}
 use Rattle.traversal.specs.Lows.{Traversed}
 use Rattle.orders.specs.Input.{graphOf}
 use Rattle.groups.proofs.Vertices.{order₁}
 use Rattle.condense.specs.Window.{traversalAt, windowSize, PassFit, CondenseFit}
-
-edge-turned : {S T : List ℕ} {u v : ℕ} → Edge S T u v → Edge T S v u
-edge-turned first = first
-edge-turned (later e) = later (edge-turned e)
 
 -- the graph with its edges turned
 abbrev turned : Graph → Graph

@@ -10,22 +10,22 @@ use Rattle.lineage.specs.Lists.{among, upto, part}
 use Rattle.lineage.specs.Graph.{Graph}
 use Rattle.lineage.specs.Labels.{Forest, traverse, finished}
 use Rattle.laws.specs.Passes.{row}
+use Rattle.laws.specs.Laid.{Below}
 use Rattle.laws.proofs.Lists.{upto-low}
 use Rattle.laws.proofs.TwoPasses.{edge-rows}
-use Rattle.numbers.specs.Regions.{Kept}
-use Rattle.numbers.proofs.Regions.{part-length, kept-then, kept-wider}
-use Rattle.rows.specs.Regions.{under}
-use Rattle.rows.specs.Rows.{Below, RowsAt, rowsIn, mapped}
+use Rattle.laws.proofs.Parts.{part-length}
+use Rattle.laws.proofs.Laid.{in-below, values-below}
+use Rattle.laws.proofs.Edges.{sources-below, targets-below}
+use Rattle.numbers.specs.Regions.{Kept, under}
+use Rattle.numbers.proofs.Regions.{kept-then, kept-wider, kept-apart, apart-within}
+use Rattle.rows.specs.Rows.{RowsAt, rowsIn, mapped}
 use Rattle.rows.specs.Fit.{PairsFit}
-use Rattle.rows.proofs.Regions.{kept-apart, apart-within}
-use Rattle.rows.proofs.Laid.{in-below, values-below}
 use Rattle.rows.proofs.Orders.{order-low}
 use Rattle.rows.proofs.Contents.{mapped-self}
 use Rattle.traversal.specs.Lows.{Traversed}
 use Rattle.traversal.specs.Fit.{TraverseFit}
 use Rattle.traversal.proofs.Reach.{Inside, rows-low, traverse-visits, traverse-same, finished-roots}
 use Rattle.condense.specs.Window.{PassFit}
-use Rattle.condense.proofs.Ends.{sources-below, targets-below}
 
 module _ {G : Graph} {w₀ : List ℕ} {roots base : ℕ} (fit : PassFit G w₀ roots base) where
   abbrev n : ℕ

@@ -6,10 +6,9 @@ use native.Mathlib.Omega.{arith}
 use lib.ListN.{length, getD, set, drop, drop-of-length-le}
 use lib.Seq.{drop-cons}
 use Rattle.lineage.specs.Lists.{part}
-use Rattle.numbers.specs.Regions.{Kept}
-use Rattle.numbers.proofs.Regions.{part-length}
-use Rattle.rows.specs.Regions.{Outside}
-use Rattle.rows.proofs.Regions.{Written, written-none, written-more, written-all, read-at}
+use Rattle.laws.proofs.Parts.{part-length}
+use Rattle.numbers.specs.Regions.{Kept, Outside}
+use Rattle.numbers.proofs.Regions.{Written, written-none, written-more, written-all, read-at}
 
 -- of n numbers the last i, the last first
 abbrev pub lasts : ℕ → ℕ → List ℕ → List ℕ

@@ -13,8 +13,7 @@ use lib.ListN.{length}
 use Rattle.lineage.specs.Lists.{upto, part}
 use Rattle.lineage.specs.Graph.{Graph, Ends, namesOf, groupList}
 use Rattle.lineage.specs.Labels.{Order}
-use Rattle.numbers.specs.Regions.{Kept}
-use Rattle.rows.specs.Regions.{Outside}
+use Rattle.numbers.specs.Regions.{Kept, Outside}
 use Rattle.groups.specs.Places.{placesOf}
 
 -- where the regions of the traversals lie, and how many words there are in all

@@ -7,7 +7,7 @@ use native.Mathlib.Omega.{arith}
 use lib.ListN.{length, getD, drop, drop-of-length-le}
 use lib.Seq.{drop-cons}
 use Rattle.lineage.specs.Lists.{least, part}
-use Rattle.numbers.proofs.Regions.{part-at, part-length}
+use Rattle.laws.proofs.Parts.{part-at, part-length}
 use Rattle.groups.specs.Trees.{leastOf}
 
 -- a is the least of the first i of the size words from at on

@@ -16,10 +16,10 @@ use borrow.Author.Tests.{eq-eqb, ne-eqb}
 use Rattle.lineage.specs.Lists.{upto, among, those, position, part}
 use Rattle.lineage.specs.Graph.{groupList, placeOf}
 use Rattle.numbers.specs.Regions.{Kept}
-use Rattle.numbers.proofs.Regions.{part-at, part-length, part-set, part-over, part-under, kept-same, kept-set, kept-then}
+use Rattle.numbers.proofs.Regions.{part-set, part-over, part-under, kept-same, kept-set, kept-then, kept-more, part-longer, read-at}
 use Rattle.laws.proofs.Tests.{is-false}
 use Rattle.laws.proofs.Lists.{those-append, those-yes, those-no, those-pass, those-keep, in-upto, upto-low, position-past, position-left, table-at, table-is}
-use Rattle.rows.proofs.Regions.{kept-more, part-more, read-at}
+use Rattle.laws.proofs.Parts.{part-at, part-length}
 use Rattle.groups.specs.Fit.{ListFit}
 use Rattle.groups.specs.Places.{placesOf}
 
@@ -124,7 +124,7 @@ module _ {w₀ w : List ℕ} {names n base v k : ℕ} (f : ListFit w₀ names n 
         few = omega arith;
         listed =
             part-over (set w (base + k) name) base (k + 1) (base + n + v) k (omega arith)
-            ∙ part-more w base k name (omega (arith, room))
+            ∙ part-longer w base k name (omega (arith, room))
             ∙ ap (λ z. z ++ (name ∷ [])) (i .listed)
             ∙ ap (λ z. those own (upto v) ++ (z ∷ [])) e
             ∙ sym (split ∙ ap (those own (upto v) ++_) (those-yes own v [] own-v));

@@ -8,15 +8,14 @@ use native.Mathlib.Omega.{arith}
 use lib.ListN.{length, getD, drop, drop-of-length-le}
 use Rattle.lineage.specs.Lists.{upto, among, joined, part}
 use Rattle.numbers.specs.Regions.{Kept}
-use Rattle.numbers.proofs.Regions.{part-length, kept-same, kept-then}
+use Rattle.numbers.proofs.Regions.{kept-same, kept-then, kept-apart, read-at}
 use Rattle.laws.proofs.Lists.{among-append, table-is}
-use Rattle.rows.proofs.Laid.{part-below, in-below}
+use Rattle.laws.proofs.Parts.{part-length, part-part}
+use Rattle.laws.proofs.Laid.{part-below, in-below}
 use Rattle.rows.proofs.Orders.{order-low}
-use Rattle.rows.proofs.Regions.{kept-apart, read-at}
 use Rattle.orders.specs.Stamped.{Stamped}
 use Rattle.groups.specs.Trees.{treesFrom, treesOf, leastOf, nameIn, treeNames}
 use Rattle.groups.specs.Fit.{RunFit, NamesFit}
-use Rattle.numbers.proofs.Parts.{part-part}
 use Rattle.groups.proofs.Regions.{apart-part}
 use Rattle.groups.proofs.Trees.{part-then, trees-step}
 

@@ -6,11 +6,12 @@ use mathlib.Core.List.{List, []}
 use Prim.Native.Nat.{ℕ, _<_}
 use native.Mathlib.Omega.{arith}
 use Rattle.lineage.specs.Lists.{upto, among}
-use Rattle.lineage.specs.Graph.{Graph, Edge, first, later, Ends}
+use Rattle.lineage.specs.Graph.{Graph, Ends}
 use Rattle.lineage.specs.Labels.{Order, Forest, finished}
 use Rattle.laws.specs.Visits.{Visits}
 use Rattle.laws.specs.Passes.{TwoPasses}
 use Rattle.laws.proofs.Lists.{in-upto, upto-low, length-upto, among-reverse}
+use Rattle.laws.proofs.Edges.{edge-turned}
 use Rattle.laws.proofs.Rising.{Distinct, rises-upto, rises-distinct, pigeonhole}
 use Rattle.laws.proofs.Visited.{held, listed, distinct, from-todo}
 use Rattle.laws.proofs.Closed.{leads-keeps}
@@ -43,10 +44,6 @@ module _
     visits-order = order-from n (finished f) (distinct r) only each
 
 -- the same of the two traversals that find the groups
-edge-turned : {S T : List ℕ} {u v : ℕ} → Edge S T u v → Edge T S v u
-edge-turned first = first
-edge-turned (later e) = later (edge-turned e)
-
 module _ {G : Graph} (ends : Ends G) {next back : ℕ → List ℕ} {f₁ f₂ : Forest} (P : TwoPasses G next back f₁ f₂) where
   pub order₁ : Order (G .n) (finished f₁)
   order₁ = visits-order (G .n) (P .first) (upto-low (G .n)) (λ p q i. ends .targets-low p q (P .next-rows .holds p q .0 i)) (in-upto (G .n))

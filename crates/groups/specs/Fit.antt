@@ -5,8 +5,8 @@ use Prim.Native.Nat.{ℕ, suc, _+_, _^_, _≤_, _<_}
 use lib.ListN.{length, getD}
 use Rattle.lineage.specs.Lists.{part}
 use Rattle.lineage.specs.Labels.{Order}
-use Rattle.rows.specs.Regions.{Outside}
-use Rattle.rows.specs.Rows.{Below}
+use Rattle.laws.specs.Laid.{Below}
+use Rattle.numbers.specs.Regions.{Outside}
 
 -- a run of vertices
 pub record RunFit (w : List ℕ) (at size base n : ℕ) : Type 0 where

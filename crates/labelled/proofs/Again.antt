@@ -8,8 +8,7 @@ use Rattle.lineage.specs.Lists.{part}
 use Rattle.lineage.specs.Graph.{groupList, levelsOf}
 use Rattle.lineage.specs.Labels.{labelling}
 use Rattle.numbers.specs.Regions.{Kept}
-use Rattle.numbers.proofs.Regions.{kept-then, kept-wider}
-use Rattle.rows.proofs.Regions.{kept-apart, outside-kept}
+use Rattle.numbers.proofs.Regions.{kept-then, kept-wider, kept-apart, outside-kept}
 use Rattle.labels.specs.Fit.{UpFit}
 use Rattle.labelled.specs.Window.{byRankAt, levelsAt, windowSize, childrenBy, Labelled}
 use Rattle.labelled.specs.Fit.{GroupsFit, LabelFit}

@@ -9,15 +9,15 @@ use lib.ListN.{length}
 use Rattle.lineage.specs.Lists.{upto, among, position, part}
 use Rattle.lineage.specs.Labels.{Order, inOrder, outer, Forest, finished, forestOf, labelsBy, labelling}
 use Rattle.lineage.specs.Sound.{childOf}
+use Rattle.laws.specs.Laid.{Below}
 use Rattle.laws.proofs.Lists.{table-at, table-long}
 use Rattle.laws.proofs.Rising.{Distinct}
 use Rattle.laws.proofs.Grouped.{child-in}
 use Rattle.laws.proofs.Labelled.{finished-once}
-use Rattle.numbers.specs.Regions.{Kept}
-use Rattle.numbers.proofs.Regions.{part-length}
-use Rattle.rows.specs.Regions.{over}
-use Rattle.rows.specs.Rows.{Below, rowsIn}
-use Rattle.rows.proofs.Laid.{in-below, rows-below}
+use Rattle.laws.proofs.Parts.{part-length}
+use Rattle.laws.proofs.Laid.{in-below, rows-below}
+use Rattle.numbers.specs.Regions.{Kept, over}
+use Rattle.rows.specs.Rows.{rowsIn}
 use Rattle.traversal.specs.Lows.{lows}
 use Rattle.traversal.proofs.Lows.{lows-at}
 use Rattle.labels.specs.Labels.{ranksOf, innersOf, childrenIn}

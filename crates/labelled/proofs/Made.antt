@@ -5,10 +5,8 @@ use Prim.Native.Nat.{ℕ, _+_, _*_}
 use native.Mathlib.Omega.{arith}
 use Rattle.lineage.specs.Lists.{upto, part}
 use Rattle.lineage.specs.Labels.{outer}
-use Rattle.numbers.specs.Regions.{Kept}
-use Rattle.numbers.proofs.Regions.{kept-then, kept-wider}
-use Rattle.rows.specs.Regions.{under}
-use Rattle.rows.proofs.Regions.{kept-apart, outside-kept}
+use Rattle.numbers.specs.Regions.{Kept, under}
+use Rattle.numbers.proofs.Regions.{kept-then, kept-wider, kept-apart, outside-kept}
 use Rattle.labels.specs.Labels.{ranksOf, innersOf}
 use Rattle.labels.specs.Fit.{RanksFit, OuterFit}
 use Rattle.labelled.specs.Window.{childrenBy, LabelsMade}

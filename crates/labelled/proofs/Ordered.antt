@@ -7,13 +7,13 @@ use native.Mathlib.Omega.{arith}
 use lib.ListN.{length}
 use Rattle.lineage.specs.Lists.{those, part}
 use Rattle.lineage.specs.Labels.{Order, inOrder}
-use Rattle.numbers.specs.Regions.{Kept}
-use Rattle.numbers.proofs.Regions.{part-length, kept-then, kept-wider}
-use Rattle.rows.specs.Regions.{under}
+use Rattle.laws.proofs.Parts.{part-length}
+use Rattle.laws.proofs.Laid.{in-below}
+use Rattle.numbers.specs.Regions.{Kept, under}
+use Rattle.numbers.proofs.Regions.{kept-then, kept-wider}
 use Rattle.rows.specs.Rows.{RowsAt, rowsIn, turnedRow}
 use Rattle.rows.specs.Fit.{TurnFit}
 use Rattle.rows.proofs.Orders.{order-low}
-use Rattle.rows.proofs.Laid.{in-below}
 use Rattle.orders.specs.Fit.{RankedFit, RootsFit}
 use Rattle.orders.specs.Roots.{rowEmpty}
 use Rattle.orders.proofs.Sequence.{places-order}

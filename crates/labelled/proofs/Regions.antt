@@ -5,9 +5,8 @@ use Prim.Native.Nat.{ℕ, _+_, _≤_}
 use native.Mathlib.Omega.{arith}
 use lib.ListN.{length}
 use Rattle.lineage.specs.Lists.{part}
-use Rattle.numbers.specs.Regions.{Kept}
-use Rattle.rows.specs.Regions.{Outside}
-use Rattle.rows.proofs.Regions.{kept-apart, apart-within}
+use Rattle.numbers.specs.Regions.{Kept, Outside}
+use Rattle.numbers.proofs.Regions.{kept-apart, apart-within}
 use Rattle.labels.specs.Labels.{childrenIn}
 use Rattle.labelled.specs.Window.{childrenBy}
 use Rattle.labelled.specs.Fit.{RowsOutside}

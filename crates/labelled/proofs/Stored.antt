@@ -10,11 +10,11 @@ use Rattle.lineage.specs.Graph.{Graph, Ends, namesOf, groupList, childrenOf}
 use Rattle.lineage.specs.Labels.{labelling}
 use Rattle.laws.proofs.Names.{names-long}
 use Rattle.laws.proofs.Condensed.{children-long, groups-sound}
-use Rattle.rows.specs.Regions.{under}
+use Rattle.laws.proofs.Starts.{rows-are}
+use Rattle.numbers.specs.Regions.{under}
 use Rattle.groups.specs.Places.{placesOf}
 use Rattle.groups.proofs.Listing.{place-at}
 use Rattle.children.specs.Window.{childrenAt}
-use Rattle.children.proofs.Stored.{rows-are}
 use Rattle.children.proofs.Found.{ChildrenStored}
 use Rattle.labels.specs.Labels.{childrenIn}
 use Rattle.labelled.specs.Window.{windowSize, windowLabelling, childrenBy, Labelled}

@@ -9,13 +9,14 @@ use lib.ListN.{length}
 use Rattle.lineage.specs.Lists.{upto, among, those, part}
 use Rattle.lineage.specs.Labels.{Order, outer, finished, traverse, nobodysChild, forestOf}
 use Rattle.lineage.specs.Sound.{childOf}
+use Rattle.laws.specs.Laid.{Below}
 use Rattle.laws.proofs.Lists.{those-pass}
-use Rattle.numbers.specs.Regions.{Kept}
-use Rattle.numbers.proofs.Regions.{part-length, kept-then, kept-wider}
-use Rattle.rows.specs.Regions.{under, over}
-use Rattle.rows.specs.Rows.{Below, RowsAt, rowsIn}
+use Rattle.laws.proofs.Parts.{part-length}
+use Rattle.laws.proofs.Laid.{in-below}
+use Rattle.numbers.specs.Regions.{Kept, under, over}
+use Rattle.numbers.proofs.Regions.{kept-then, kept-wider}
+use Rattle.rows.specs.Rows.{RowsAt, rowsIn}
 use Rattle.rows.proofs.Orders.{order-low}
-use Rattle.rows.proofs.Laid.{in-below}
 use Rattle.traversal.specs.Lows.{lows, Traversed}
 use Rattle.traversal.specs.Fit.{TraverseFit}
 use Rattle.traversal.proofs.Reach.{rows-low, traverse-same}

@@ -8,8 +8,9 @@ use Rattle.lineage.specs.Graph.{placeOf, levelsOf}
 use Rattle.lineage.specs.Labels.{Order}
 use Rattle.lineage.specs.Sound.{childOf}
 use Rattle.laws.specs.Sound.{SoundGroups}
-use Rattle.rows.specs.Regions.{Outside}
-use Rattle.rows.specs.Rows.{Below, Laid, RowsAt}
+use Rattle.laws.specs.Laid.{Below, Laid}
+use Rattle.numbers.specs.Regions.{Outside}
+use Rattle.rows.specs.Rows.{RowsAt}
 use Rattle.labels.specs.Fit.{UpFit}
 use Rattle.labelled.specs.Window.{windowSize, groupsBy, childrenBy}
 

@@ -14,10 +14,10 @@ use lib.Seq.{getD-set-same, getD-set-other}
 use borrow.Author.Tests.{eq-eqb}
 use Rattle.lineage.specs.Lists.{position, part}
 use Rattle.numbers.specs.Regions.{Kept}
-use Rattle.numbers.proofs.Regions.{part-length, part-set, part-over, part-under, kept-same, kept-set, kept-then}
+use Rattle.numbers.proofs.Regions.{part-set, part-over, part-under, kept-same, kept-set, kept-then, kept-more, read-at}
 use Rattle.laws.proofs.Lists.{in-getD, at-position, position-low, table-is}
+use Rattle.laws.proofs.Parts.{part-length}
 use Rattle.rows.proofs.Orders.{order-low}
-use Rattle.rows.proofs.Regions.{kept-more, read-at}
 use Rattle.labels.specs.Labels.{ranksOf, innersOf}
 use Rattle.labels.specs.Fit.{RanksFit}
 

@@ -7,7 +7,7 @@ use native.Mathlib.Omega.{arith}
 use lib.ListN.{length, getD, drop, drop-of-length-le}
 use lib.Seq.{drop-cons}
 use Rattle.lineage.specs.Lists.{least, greatest, part}
-use Rattle.numbers.proofs.Regions.{part-at, part-length}
+use Rattle.laws.proofs.Parts.{part-at, part-length}
 use Rattle.labels.specs.Fit.{RowFit}
 
 -- the place at hand, and its word

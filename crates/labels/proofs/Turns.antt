@@ -2,30 +2,20 @@
 -- the equations of the definitions, which the ranks bound.
 use mathlib.Core.Bool.{true}
 use mathlib.Core.Path.{_≡_, sym, ap, subst, _∙_}
-use mathlib.Core.List.{List, [], _∷_, map}
-use Prim.Native.Nat.{ℕ, zero, suc, _+_, _-_, _^_, _≤_, _<_}
+use mathlib.Core.List.{List, map}
+use Prim.Native.Nat.{ℕ, suc, _+_, _-_, _^_, _≤_, _<_}
 use native.Mathlib.Omega.{arith}
 use lib.ListN.{length, getD}
 use Rattle.lineage.specs.Lists.{upto, among, position, least, greatest, part}
 use Rattle.lineage.specs.Graph.{level, levelsOf}
 use Rattle.lineage.specs.Labels.{outer}
-use Rattle.numbers.proofs.Regions.{part-length}
 use Rattle.laws.proofs.Lists.{in-getD, position-low, map-same, greatest-at, table-at, table-long}
-use Rattle.laws.proofs.Levels.{levels-meet, levels-long}
+use Rattle.laws.proofs.Levels.{levels-meet, levels-long, level-most}
 use Rattle.laws.proofs.Outer.{outer-meets}
-use Rattle.rows.proofs.Regions.{read-at}
+use Rattle.laws.proofs.Parts.{part-length}
+use Rattle.numbers.proofs.Regions.{read-at}
 use Rattle.labels.specs.Fit.{UpFit, OuterFit}
 use Rattle.labels.proofs.Upwards.{Filling, byRank, children, row, children-long, children-at, row-low, child-low, child-falls, place-low, row-is, row-fit, known}
-
-greatest-most : (a : ℕ → ℕ) (m : ℕ) (xs : List ℕ) → ((x : ℕ) → a x ≤ m) → greatest (map a xs) ≤ m
-greatest-most a m [] all = omega arith
-greatest-most a m (x ∷ xs) all = omega (arith, all x, greatest-most a m xs all)
-
--- a level is not above the depth that bounds it
-level-most : (children : List (List ℕ)) (f p : ℕ) → level children f p ≤ f
-unfolding level
-level-most children zero p = omega arith
-level-most children (suc f) p = greatest-most (λ q. suc (level children f q)) (suc f) (getD children p []) (λ q. omega (arith, level-most children f q))
 
 -- the levels
 module _ {w₀ : List ℕ} {out k starts values c base : ℕ} (f : UpFit w₀ out k starts values c base) where

@@ -13,13 +13,12 @@ use Rattle.lineage.specs.Lists.{among, position, part}
 use Rattle.lineage.specs.Stored.{rowAt}
 use Rattle.lineage.specs.Sound.{childOf}
 use Rattle.numbers.specs.Regions.{Kept}
-use Rattle.numbers.proofs.Regions.{part-length, part-set, kept-same}
+use Rattle.numbers.proofs.Regions.{part-set, kept-same, kept-apart, kept-more, read-at}
 use Rattle.laws.proofs.Lists.{in-getD, at-position, position-low, table-at, table-long}
-use Rattle.numbers.proofs.Parts.{part-part}
+use Rattle.laws.proofs.Parts.{part-length, part-part}
+use Rattle.laws.proofs.Laid.{start-low, row-below, below-in}
 use Rattle.rows.specs.Rows.{rowsIn}
 use Rattle.rows.proofs.Orders.{order-low}
-use Rattle.rows.proofs.Laid.{start-low, row-below, below-in}
-use Rattle.rows.proofs.Regions.{kept-apart, kept-more, read-at}
 use Rattle.labels.specs.Labels.{childrenIn}
 use Rattle.labels.specs.Fit.{RowFit, UpFit}
 use Rattle.labels.proofs.Ranking.{position-most}

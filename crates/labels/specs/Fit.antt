@@ -6,8 +6,9 @@ use Prim.Native.Nat.{ℕ, _+_, _^_, _≤_, _<_}
 use lib.ListN.{length}
 use Rattle.lineage.specs.Lists.{among, position, part}
 use Rattle.lineage.specs.Labels.{Order}
-use Rattle.rows.specs.Regions.{Outside}
-use Rattle.rows.specs.Rows.{Below, Laid, rowsIn}
+use Rattle.laws.specs.Laid.{Below, Laid}
+use Rattle.numbers.specs.Regions.{Outside}
+use Rattle.rows.specs.Rows.{rowsIn}
 use Rattle.labels.specs.Labels.{ranksOf}
 
 -- a traversal of all k places

@@ -1,15 +1,14 @@
 -- The computed tests decide soundness: each test is true exactly where its fact holds, and so are tests joined and tests of all numbers below a bound.
 -- The left walk's bound suffices since each of its steps goes left; that it does follows from the tests that are read before it.
-use mathlib.Core.Bool.{Bool, true, false, _&&_, false≢true}
+use mathlib.Core.Bool.{Bool, true, false, _&&_}
 use mathlib.Core.Logic.{_↔_}
-use mathlib.Core.Path.{_≡_, refl, ap, ap₂}
+use mathlib.Core.Path.{_≡_, refl}
 use mathlib.Core.List.{List, [], _∷_, map}
 use Prim.Native.Nat.{ℕ, zero, suc, _-_, _<_, _≤_}
 use native.Mathlib.Nat.{not-suc-le-zero}
-use native.Mathlib.Decide.{ℕ-discrete}
 use native.Mathlib.Omega.{arith}
 use lib.Dec.{eqb, leb, ltb}
-use lib.ListN.{length, getD, drop}
+use lib.ListN.{length, getD}
 use borrow.Author.Tests.{eqb-true, eq-eqb, leb-true, le-leb, lt-leb, ltb-true, lt-ltb}
 use Rattle.lineage.specs.Lists.{allBelow, among, position, least, greatest, sameList, Every, allOf}
 use Rattle.lineage.specs.Graph.{groupList}
@@ -18,7 +17,7 @@ use Rattle.lineage.specs.Index.{Index}
 use Rattle.lineage.specs.Sound.{childOf, namesPass, rowPasses, groupsPass, walkEnds, labelsPass, sound}
 use Rattle.laws.specs.Sound.{LeftWalk, arrived, left, SoundLabelling, SoundGroups, Sound}
 use Rattle.laws.proofs.Tests.{and-both, and-left, and-right}
-use Rattle.laws.proofs.Lists.{position-low, at-position, in-getD}
+use Rattle.laws.proofs.Lists.{all-from, all-below, same-list, same-self, position-low, at-position, in-getD}
 use Rattle.laws.proofs.Inverse.{rank-most}
 
 -- the test is true exactly where the fact holds
@@ -38,27 +37,12 @@ at-most a b = (leb-true a b, le-leb a b)
 less : (a b : ℕ) → Decides (ltb a b) (a < b)
 less a b = (ltb-true a b, lt-ltb a b)
 
-same-list : (xs ys : List ℕ) → Decides (sameList xs ys) (xs ≡ ys)
-same-list [] [] = ((λ h. refl), λ h. refl)
-same-list [] (y ∷ ys) = ((λ h. absurd (false≢true h)), λ h. absurd (omega (arith, ap length h)))
-same-list (x ∷ xs) [] = ((λ h. absurd (false≢true h)), λ h. absurd (omega (arith, ap length h)))
-same-list (x ∷ xs) (y ∷ ys) = (
-  (λ h. ap₂ _∷_ (eqb-true x y (and-left (eqb x y) (sameList xs ys) h)) (same-list xs ys .0 (and-right (eqb x y) (sameList xs ys) h))),
-  λ h. and-both (eq-eqb x y (ap (λ l. getD l 0 0) h)) (same-list xs ys .1 (ap (λ l. drop 1 l) h)),
-)
+equal-lists : (xs ys : List ℕ) → Decides (sameList xs ys) (xs ≡ ys)
+equal-lists xs ys = (same-list xs ys, λ h. rw h (same-self ys))
 
 -- a test of all numbers below n, of all members of a list
 below : (n : ℕ) (p : ℕ → Bool) (P : ℕ → Type 0) → ((i : ℕ) → i < n → Decides (p i) (P i)) → Decides (allBelow n p) ((i : ℕ) → i < n → P i)
-below zero p P d = ((λ h i l. absurd (not-suc-le-zero l)), λ h. refl)
-below (suc n) p P d =
-    let ih = below n p P (λ i l. d i (omega arith)) in (
-      (λ h i l. at h i l (ℕ-discrete i n) (ih .0 (and-left (allBelow n p) (p n) h))),
-      λ h. and-both (ih .1 (λ i l. h i (omega arith))) (d n (omega arith) .1 (h n (omega arith))),
-    )
-  where
-    at : (allBelow n p && p n) ≡ true → (i : ℕ) → i < suc n → Dec (i ≡ n) → ((j : ℕ) → j < n → P j) → P i
-    at h i l (yes e) rest = rw e (d n (omega arith) .0 (and-right (allBelow n p) (p n) h))
-    at h i l (no e) rest = rest i (omega arith)
+below n p P d = ((λ t i h. d i h .0 (all-below n p i t h)), λ all. all-from n p (λ i h. d i h .1 (all i h)))
 
 members :
     (p : ℕ → Bool) (P : ℕ → Type 0) → ((q : ℕ) → Decides (p q) (P q)) → (xs : List ℕ)
@@ -226,7 +210,7 @@ module _ (names groups levels : List ℕ) (children : List (List ℕ)) where
 
   names-decide : Decides (namesPass names groups) Names
   unfolding namesPass
-  names-decide = both _ _ (below (length names) _ _ (λ v h. both _ _ (at-most _ _) (λ a. equal _ _))) (λ a. same-list groups (groupList names))
+  names-decide = both _ _ (below (length names) _ _ (λ v h. both _ _ (at-most _ _) (λ a. equal _ _))) (λ a. equal-lists groups (groupList names))
 
   row-decides : (p : ℕ) → p < length children → Decides (rowPasses children p) (Row p)
   row-decides p h = both _ _ (below (length (row p)) _ _ (λ i j. less _ _)) (λ c. below (length (row p) - 1) _ _ (λ i j. less _ _))

@@ -1,18 +1,44 @@
--- Edges: where some edge passes a test, when a group is a child by an edge, and the edges of lists that are joined or mapped side by side. Each is an
--- induction along the two lists.
+-- Edges: their ends by position, where some edge passes a test, when a group is a child by an edge, and the edges of lists that are joined or mapped side
+-- by side. Each is an induction along the two lists.
 use mathlib.Core.Bool.{Bool, true, not, _&&_, false≢true}
 use mathlib.Core.Logic.{_⊎_, inl, inr}
 use mathlib.Core.Path.{_≡_, refl, ap, subst}
 use mathlib.Core.List.{List, [], _∷_, _++_, map}
-use Prim.Native.Nat.{ℕ}
+use Prim.Native.Nat.{ℕ, zero, suc, _<_}
+use native.Mathlib.Nat.{not-suc-le-zero}
 use native.Mathlib.Omega.{arith}
 use lib.Dec.{eqb}
 use lib.ListN.{length, length-append, getD}
 use borrow.Author.Tests.{eqb-true, eqb-false, ne-eqb, not-true, eq-eqb}
 use Rattle.lineage.specs.Lists.{among, joined}
-use Rattle.lineage.specs.Graph.{Graph, Edge, first, later, someEdge, isChild}
+use Rattle.lineage.specs.Graph.{Graph, Edge, first, later, Ends, someEdge, isChild}
+use Rattle.laws.specs.Laid.{Below}
 use Rattle.laws.proofs.Tests.{or-left, or-right, or-cases, and-both, and-left, and-right}
 use Rattle.laws.proofs.Lists.{here, there}
+
+-- an edge turned
+pub edge-turned : {S T : List ℕ} {u v : ℕ} → Edge S T u v → Edge T S v u
+edge-turned first = first
+edge-turned (later e) = later (edge-turned e)
+
+-- the ends at one position are those of an edge, and an edge's ends stand at one position
+pub edge-at : (S T : List ℕ) (i : ℕ) → length S ≡ length T → i < length S → Edge S T (getD S i 0) (getD T i 0)
+edge-at [] T i e h = absurd (not-suc-le-zero h)
+edge-at (s ∷ S) [] i e h = absurd (omega arith)
+edge-at (s ∷ S) (t ∷ T) zero e h = first
+edge-at (s ∷ S) (t ∷ T) (suc i) e h = later (edge-at S T i (omega arith) (omega arith))
+
+pub edge-position : {S T : List ℕ} {u v : ℕ} → Edge S T u v → (i : ℕ) × (i < length S) × (getD S i 0 ≡ u) × (getD T i 0 ≡ v)
+edge-position first = (0, omega arith, refl, refl)
+edge-position (later e) = let (i, h, s, t) = edge-position e in (suc i, omega arith, s, t)
+
+-- every source is a vertex, and so is every target
+module _ (G : Graph) (ends : Ends G) where
+  pub sources-below : Below (G .n) (G .sources)
+  sources-below i h = ends .sources-low _ _ (edge-at (G .sources) (G .targets) i (ends .paired) h)
+
+  pub targets-below : Below (G .n) (G .targets)
+  targets-below i h = ends .targets-low _ _ (edge-at (G .sources) (G .targets) i (ends .paired) (omega (arith, ends .paired)))
 
 -- some edge passes a test
 pub some-edge : (p : ℕ → ℕ → Bool) (S T : List ℕ) → someEdge p S T ≡ true → (s : ℕ) × (t : ℕ) × Edge S T s t × (p s t ≡ true)

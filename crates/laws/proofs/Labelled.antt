@@ -2,9 +2,9 @@
 -- child, so the traversal visits every group, and each once: the order of finishing is a list of all places by rank. The traversal fits the ranks that
 -- this gives; ranks fall along children as levels do; and s meets its equation since ranks bound its depth.
 use mathlib.Core.Bool.{Bool, true, false, false≢true}
-use mathlib.Core.Logic.{inl, inr, _↔_}
+use mathlib.Core.Logic.{_↔_}
 use mathlib.Core.Path.{_≡_, refl, sym, ap, _∙_}
-use mathlib.Core.List.{List, [], _∷_, map}
+use mathlib.Core.List.{List, [], map}
 use Prim.Native.Nat.{ℕ, zero, suc, _+_, _<_, _≤_}
 use native.Mathlib.Omega.{arith}
 use lib.ListN.{length, getD}
@@ -14,7 +14,8 @@ use Rattle.lineage.specs.Labels.{Order, inOrder, Forest, nobodysChild, forestOf
 use Rattle.lineage.specs.Sound.{childOf}
 use Rattle.laws.specs.Visits.{Visits}
 use Rattle.laws.specs.Sound.{SoundLabelling, SoundGroups}
-use Rattle.laws.proofs.Lists.{in-append, those-pass, those-keep, map-same, in-upto, upto-low, length-upto, table-at, table-long, position-low, at-position, in-getD, greatest-in}
+use Rattle.laws.proofs.Lists.{those-pass, those-keep, map-same, in-upto, upto-low, length-upto, table-at, table-long, position-low, at-position, in-getD, greatest-in}
+use Rattle.laws.proofs.Joined.{joined-in}
 use Rattle.laws.proofs.Rising.{Distinct, position-getD, rises-upto, rises-distinct, pigeonhole}
 use Rattle.laws.proofs.Grouped.{group-name, groups-distinct, child-in, levels-fall}
 use Rattle.laws.proofs.Traversal.{unique, nextIn, forest-visits}
@@ -26,15 +27,6 @@ use Rattle.laws.proofs.Fitted.{visits-fits, visits-fall}
 use Rattle.laws.proofs.Walks.{rankingOf, fits-walk, fits-block}
 use Rattle.laws.proofs.Outer.{outer-meets}
 use Rattle.laws.proofs.Orders.{places-low, places-all}
-
--- a child of someone
-child-of : (children : List (List ℕ)) (p : ℕ) → among p (joined children) ≡ true → (q : ℕ) × (q < length children) × (childOf children q p ≡ true)
-child-of [] p i = absurd (false≢true i)
-child-of (c ∷ cs) p i =
-    elim (in-append p c (joined cs) i) [
-      | inl j ↦ (0, omega arith, j)
-      | inr j ↦ let (q, h, o) = child-of cs p j in (suc q, omega arith, o)
-    ]
 
 module _
     {names groups levels : List ℕ} {children : List (List ℕ)} (S : SoundGroups names groups levels children)
@@ -75,7 +67,7 @@ module _
             → among p (finished forest) ≡ true
         at true e ih = held forest p (listed visits p (those-keep (nobodysChild children) p ranked e (ranked-all p h)))
         at false e ih =
-            let (q, j, c) = child-of children p (not-false (among p (joined children)) e) in
+            let (q, j, c) = joined-in children p (not-false (among p (joined children)) e) in
             held forest p (followed visits q p (ih q j (omega (arith, levels-fall S q p j c))) (those-keep (childOf children q) p ranked c (ranked-all p h)))
 
     pub finished-all : (p : ℕ) → p < k → among p (finished forest) ≡ true

@@ -15,7 +15,7 @@ use Rattle.lineage.specs.Graph.{level, levelsOf, leads}
 use Rattle.lineage.specs.Sound.{childOf}
 use Rattle.laws.specs.Leads.{stay, step, Down}
 use Rattle.laws.proofs.Tests.{or-left, or-right, or-cases}
-use Rattle.laws.proofs.Lists.{map-same, any-in, in-any, table-at, table-long, greatest-at}
+use Rattle.laws.proofs.Lists.{map-same, any-in, in-any, table-at, table-long, greatest-at, greatest-most}
 
 -- a number for each place, by the equation of levels
 abbrev pub Levels : List (List ℕ) → (ℕ → ℕ) → Type 0
@@ -96,3 +96,9 @@ module _ (children : List (List ℕ)) where
 pub levels-long : (children : List (List ℕ)) → length (levelsOf children) ≡ length children
 unfolding levelsOf
 levels-long children = table-long (level children (length children)) (length children)
+
+-- a level is not above the depth that bounds it
+pub level-most : (children : List (List ℕ)) (f p : ℕ) → level children f p ≤ f
+unfolding level
+level-most children zero p = omega arith
+level-most children (suc f) p = greatest-most (λ q. suc (level children f q)) (suc f) (getD children p []) (λ q. omega (arith, level-most children f q))

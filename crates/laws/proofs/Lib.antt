@@ -1,6 +1,9 @@
 -- Tests and lists.
 pub mod Tests
 pub mod Lists
+pub mod Every
+pub mod Parts
+pub mod Joined
 pub mod Rising
 -- Reachability, groups, names, levels.
 pub mod Edges
@@ -35,3 +38,6 @@ pub mod GraphFound
 pub mod Decides
 pub mod Sound
 pub mod Depends
+-- Rows laid out with their starts.
+pub mod Laid
+pub mod Starts

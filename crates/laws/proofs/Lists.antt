@@ -1,5 +1,5 @@
--- Lists of numbers: members, filters, the numbers below n and tables over them, positions, least and greatest. Each is an induction on the list, with
--- a case for how the test of the head comes out.
+-- Lists of numbers: members, filters, tests of all, the numbers below n and tables over them, positions, least and greatest. Each is an induction on the
+-- list, with a case for how the test of the head comes out.
 use mathlib.Core.Bool.{Bool, true, false, not, _||_, false≢true, or-false, or-comm, or-assoc}
 use mathlib.Core.Logic.{_⊎_, inl, inr}
 use mathlib.Core.Path.{_≡_, refl, sym, ap, ap₂, _∙_}
@@ -12,8 +12,8 @@ use lib.Dec.{eqb}
 use lib.ListN.{length, getD, length-append, length-map, List·getD-append}
 use lib.Seq.{getD-at, ext-getD}
 use borrow.Author.Tests.{eqb-true, eq-eqb}
-use Rattle.lineage.specs.Lists.{upto, any, among, those, position, least, greatest}
-use Rattle.laws.proofs.Tests.{or-left, or-right, or-cases, clash, or-false-left, or-false-right}
+use Rattle.lineage.specs.Lists.{upto, any, allBelow, among, those, position, least, greatest, sameList}
+use Rattle.laws.proofs.Tests.{or-left, or-right, or-cases, and-both, and-left, and-right, clash, is-false, or-false-left, or-false-right}
 
 -- members of a list joined of two
 pub among-append : (x : ℕ) (a b : List ℕ) → among x (a ++ b) ≡ (among x a || among x b)
@@ -96,7 +96,19 @@ pub those-none : (p : ℕ → Bool) (xs : List ℕ) → ((x : ℕ) → among x x
 those-none p [] all = refl
 those-none p (x ∷ xs) all = those-no p x xs (all x (here x xs)) ∙ those-none p xs (λ y i. all y (there y x xs i))
 
--- functions that agree on a list's members
+-- tests and functions that agree on a list's members
+pub any-same : (p q : ℕ → Bool) (xs : List ℕ) → ((x : ℕ) → among x xs ≡ true → p x ≡ q x) → any p xs ≡ any q xs
+any-same p q [] all = refl
+any-same p q (x ∷ xs) all = rw (all x (here x xs), any-same p q xs (λ y i. all y (there y x xs i)))
+
+pub those-same : (p q : ℕ → Bool) (xs : List ℕ) → ((x : ℕ) → among x xs ≡ true → p x ≡ q x) → those p xs ≡ those q xs
+those-same p q [] all = refl
+those-same p q (x ∷ xs) all = at (q x) refl (those-same p q xs (λ y i. all y (there y x xs i)))
+  where
+    at : (t : Bool) → q x ≡ t → those p xs ≡ those q xs → those p (x ∷ xs) ≡ those q (x ∷ xs)
+    at true e ih = those-yes p x xs (all x (here x xs) ∙ e) ∙ ap (x ∷_) ih ∙ sym (those-yes q x xs e)
+    at false e ih = those-no p x xs (all x (here x xs) ∙ e) ∙ ih ∙ sym (those-no q x xs e)
+
 pub map-same : {A : Type 0} (f g : ℕ → A) (xs : List ℕ) → ((x : ℕ) → among x xs ≡ true → f x ≡ g x) → map f xs ≡ map g xs
 map-same f g [] all = refl
 map-same f g (x ∷ xs) all = ap₂ _∷_ (all x (here x xs)) (map-same f g xs (λ y i. all y (there y x xs i)))
@@ -125,6 +137,37 @@ in-any p (y ∷ xs) h =
       | inl t ↦ (y, here y xs, t)
       | inr j ↦ let (x, i, t) = in-any p xs j in (x, there x y xs i, t)
     ]
+
+pub any-none : (p : ℕ → Bool) (xs : List ℕ) → any p xs ≡ false → (x : ℕ) → among x xs ≡ true → p x ≡ false
+any-none p xs e x i = is-false (p x) (λ t. clash (any-in p x xs i t) e)
+
+-- every number below n passes, or one does not
+pub all-from : (n : ℕ) (p : ℕ → Bool) → ((i : ℕ) → i < n → p i ≡ true) → allBelow n p ≡ true
+all-from zero p all = refl
+all-from (suc n) p all = and-both (all-from n p (λ i h. all i (omega arith))) (all n (omega arith))
+
+pub all-below : (n : ℕ) (p : ℕ → Bool) (i : ℕ) → allBelow n p ≡ true → i < n → p i ≡ true
+all-below zero p i t h = absurd (not-suc-le-zero h)
+all-below (suc n) p i t h = at (ℕ-discrete i n) (all-below n p i (and-left (allBelow n p) (p n) t))
+  where
+    at : Dec (i ≡ n) → (i < n → p i ≡ true) → p i ≡ true
+    at (yes e) ih = rw e (and-right (allBelow n p) (p n) t)
+    at (no e) ih = ih (omega arith)
+
+pub all-broken : (p : ℕ → Bool) (n i : ℕ) → i < n → p i ≡ false → allBelow n p ≡ false
+all-broken p n i h f = is-false (allBelow n p) (λ t. clash (all-below n p i t h) f)
+
+-- two lists that are equal
+pub same-list : (xs ys : List ℕ) → sameList xs ys ≡ true → xs ≡ ys
+same-list [] [] e = refl
+same-list [] (y ∷ ys) e = absurd (false≢true e)
+same-list (x ∷ xs) [] e = absurd (false≢true e)
+same-list (x ∷ xs) (y ∷ ys) e =
+    ap₂ _∷_ (eqb-true x y (and-left (eqb x y) (sameList xs ys) e)) (same-list xs ys (and-right (eqb x y) (sameList xs ys) e))
+
+pub same-self : (xs : List ℕ) → sameList xs xs ≡ true
+same-self [] = refl
+same-self (x ∷ xs) = and-both (eq-eqb x x refl) (same-self xs)
 
 -- the numbers below n
 pub in-upto : (n v : ℕ) → v < n → among v (upto n) ≡ true
@@ -167,6 +210,9 @@ table-at f n i d h = getD-mapped f (upto n) i 0 d (omega (arith, length-upto n))
 
 pub table-long : {A : Type 0} (f : ℕ → A) (n : ℕ) → length (map f (upto n)) ≡ n
 table-long f n = length-map (upto n) f ∙ length-upto n
+
+pub table-same : {A : Type 0} (f g : ℕ → A) (n : ℕ) → ((i : ℕ) → i < n → f i ≡ g i) → map f (upto n) ≡ map g (upto n)
+table-same f g n all = map-same f g (upto n) (λ i h. all i (upto-low n i h))
 
 pub table-is : {A : Type 0} (f : ℕ → A) (xs : List A) (n : ℕ) (d : A) → length xs ≡ n → ((i : ℕ) → i < n → f i ≡ getD xs i d) → map f (upto n) ≡ xs
 table-is f xs n d l all =
@@ -259,6 +305,10 @@ greatest-at f q (x ∷ xs) i =
       | inl e ↦ omega (arith, ap f e)
       | inr j ↦ omega (arith, greatest-at f q xs j)
     ]
+
+pub greatest-most : (f : ℕ → ℕ) (m : ℕ) (xs : List ℕ) → ((q : ℕ) → f q ≤ m) → greatest (map f xs) ≤ m
+greatest-most f m [] all = omega arith
+greatest-most f m (x ∷ xs) all = omega (arith, all x, greatest-most f m xs all)
 
 -- and of its numbers
 pub greatest-in : (xs : List ℕ) (i : ℕ) → i < length xs → getD xs i 0 ≤ greatest xs

@@ -9,18 +9,14 @@ use Rattle.lineage.specs.Lists.{among, joined}
 use Rattle.lineage.specs.Labels.{Forest, done, visit, finished}
 use Rattle.laws.specs.Passes.{trees, OnlyOne}
 use Rattle.laws.proofs.Tests.{clash}
-use Rattle.laws.proofs.Lists.{among-append, in-left, in-right}
+use Rattle.laws.proofs.Lists.{among-append}
+use Rattle.laws.proofs.Joined.{in-joined}
 use Rattle.laws.proofs.Rising.{Distinct, distinct-right, distinct-apart}
 
 -- the trees one after the other are the order of finishing
 pub joined-trees : (f : Forest) → joined (trees f) ≡ finished f
 joined-trees done = refl
 joined-trees (visit p below rest) = append-assoc (finished below) (p ∷ []) (joined (trees rest)) ∙ ap (λ z. finished below ++ (p ∷ z)) (joined-trees rest)
-
-holds : (ts : List (List ℕ)) (v j : ℕ) → among v (getD ts j []) ≡ true → among v (joined ts) ≡ true
-holds [] v j h = h
-holds (t ∷ ts) v zero h = in-left v t (joined ts) h
-holds (t ∷ ts) v (suc j) h = in-right v t (joined ts) (holds ts v j h)
 
 -- a number of lists without repeats stands in one of them only
 pub only-one : (ts : List (List ℕ)) (v : ℕ) → Distinct (joined ts) → among v (joined ts) ≡ true → OnlyOne ts v
@@ -32,7 +28,7 @@ only-one (t ∷ ts) v d h = at (among v t) refl (only-one ts v (distinct-right t
       where
         alone : (j : ℕ) → among v (getD (t ∷ ts) j []) ≡ true → j ≡ 0
         alone zero k = refl
-        alone (suc j) k = clash e (distinct-apart t (joined ts) d v (holds ts v j k))
+        alone (suc j) k = clash e (distinct-apart t (joined ts) d v (in-joined ts j v k))
     at false e ih = let (i, less, k, alone) = ih (rw (among-append, e) at h) in (suc i, omega arith, k, one-more i alone)
       where
         one-more : (i : ℕ) → ((j : ℕ) → among v (getD ts j []) ≡ true → j ≡ i) → (j : ℕ) → among v (getD (t ∷ ts) j []) ≡ true → j ≡ suc i

@@ -10,20 +10,17 @@ use lib.Dec.{eqb}
 use borrow.Author.Tests.{eqb-true, eq-eqb}
 use Rattle.lineage.specs.Lists.{upto, among}
 use Rattle.lineage.specs.Graph.{Graph, Edge, first, later, Ends, Reaches, stay as stay-there, step as go, nameOf}
-use Rattle.lineage.specs.Labels.{Forest, traverse, finished}
+use Rattle.lineage.specs.Labels.{Forest, finished}
 use Rattle.laws.specs.Leads.{Leads, stay, step, OneGroup}
 use Rattle.laws.specs.Visits.{Visits}
 use Rattle.laws.specs.Passes.{row, EdgeRows, TwoPasses, pass₁, pass₂, trees, Together, OnlyOne}
 use Rattle.laws.proofs.Lists.{here, there, in-cons, in-upto, length-upto, among-reverse}
+use Rattle.laws.proofs.Edges.{edge-turned}
 use Rattle.laws.proofs.Names.{name-smallest, name-low, name-group}
 use Rattle.laws.proofs.Traversal.{unseen, unseen-none, made}
 use Rattle.laws.proofs.Visited.{held, listed, from-todo}
 use Rattle.laws.proofs.Closed.{leads-keeps, Turned}
 use Rattle.laws.proofs.Groups.{same-tree, one-tree}
-
-edge-turned : {S T : List ℕ} {u v : ℕ} → Edge S T u v → Edge T S v u
-edge-turned first = first
-edge-turned (later e) = later (edge-turned e)
 
 rows-turned : {S T : List ℕ} {a b : ℕ → List ℕ} → EdgeRows S T a → EdgeRows T S b → Turned a b
 rows-turned A B = record { edge = λ p q h. B .holds q p .1 (edge-turned (A .holds p q .0 h)) }

@@ -3,3 +3,4 @@ pub mod Leads
 pub mod Visits
 pub mod Passes
 pub mod Sound
+pub mod Laid

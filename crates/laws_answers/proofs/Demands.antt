@@ -18,8 +18,9 @@ use Rattle.laws.specs.Sound.{Sound}
 use Rattle.laws.proofs.Rising.{Rises}
 use Rattle.laws.proofs.Grouped.{place-low}
 use Rattle.laws_answers.specs.Walks.{Through}
+use Rattle.laws.proofs.Every.{every-from}
 use Rattle.laws_answers.specs.Answers.{Member, noMarks, Holds, Deciding, Opened, Marked, NoMore}
-use Rattle.laws_answers.proofs.Members.{every-member, every-more, first-member, member-long}
+use Rattle.laws_answers.proofs.Members.{every-member, first-member, member-long}
 use Rattle.laws_answers.proofs.Rules.{answer-rule, rule-says, rule-unopened, rule-reason}
 use Rattle.laws_answers.proofs.Answers.{rule-opened, rule-deciding, rule-down, rule-no}
 use Rattle.laws_answers.proofs.Downstream.{list-rises, in-list}
@@ -104,7 +105,7 @@ module _ (G : Graph) (ends : Ends G) where
   unfolding indexOf
   more-orders orders₁ orders₂ up permuted some₁ u v bu bv =
       let I = indexOf G orders₁ in
-      let permuted₁ = every-more (λ o m. every-member (Order (G .n)) permuted m) orders₁ up in
+      let permuted₁ = every-from (λ o. Member o orders₂) (Order (G .n)) (λ o m. every-member (Order (G .n)) permuted m) orders₁ up in
       let some₂ = member-long (every-member (λ o. Member o orders₂) up (first-member orders₁ some₁ .1)) in
       let S₁ = built-sound G ends orders₁ permuted₁ in
       rules-no-more I (I .labels) (indexOf G orders₂ .labels) (built-more G orders₁ orders₂ up) (placeIn I u) (placeIn I v)

@@ -13,11 +13,6 @@ module _ {A : Type 0} where
   every-member P e front = e .0
   every-member P e (behind m) = every-member P (e .1) m
 
-  -- and what follows from it holds of every element
-  pub every-more : {P Q : A → Type 0} → ((x : A) → P x → Q x) → (xs : List A) → Every P xs → Every Q xs
-  every-more f [] e = tt
-  every-more f (x ∷ xs) e = (f x (e .0), every-more f xs (e .1))
-
   -- a list with an element has a member
   pub first-member : (xs : List A) → 0 < length xs → (x : A) × Member x xs
   first-member [] h = absurd (omega arith)

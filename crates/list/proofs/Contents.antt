@@ -5,7 +5,7 @@ use Prim.Native.Nat.{ℕ, _*_, _<_}
 use native.Mathlib.Omega.{arith}
 use lib.ListN.{getD}
 use Rattle.lineage.specs.Stored.{sizes, offsets, countsIn, stretch}
-use Rattle.numbers.proofs.Regions.{part-length}
+use Rattle.laws.proofs.Parts.{part-length}
 use Rattle.stored.specs.declared.header.Layout.{Layout}
 use Rattle.stored.specs.Header.{layoutIn, Laid}
 use Rattle.stored.specs.Sections.{Section}

@@ -12,7 +12,7 @@ use lib.Dec.{eqb}
 use lib.ListN.{length, getD, replicate, length-set}
 use lib.Seq.{getD-set-same, getD-set-other, drop-set-lt}
 use borrow.Author.Tests.{eqb-true, eq-eqb}
-use Rattle.lineage.specs.Lists.{upto, among, those, Every, cleared}
+use Rattle.lineage.specs.Lists.{upto, Every, cleared}
 use Rattle.lineage.specs.Graph.{placeOf, leads}
 use Rattle.lineage.specs.Labels.{Labelling}
 use Rattle.lineage.specs.Index.{Index}
@@ -20,27 +20,19 @@ use Rattle.lineage.specs.Question.{placeIn, inOwnList, isDownstream, downstream
 use Rattle.laws.specs.Leads.{Down}
 use Rattle.laws.specs.Sound.{SoundLabelling, Sound}
 use Rattle.laws.proofs.Tests.{is-false, clash}
-use Rattle.laws.proofs.Lists.{here, there, those-yes, those-no, upto-low}
+use Rattle.laws.proofs.Lists.{those-same, upto-low}
 use Rattle.laws.proofs.Grouped.{name-in, group-name, place-low, name-of-place, place-of-name, leads-exactly}
 use Rattle.laws.proofs.Inverse.{e-most}
+use Rattle.numbers.proofs.Cleared.{cleared-long, cleared-at, cleared-past}
 use Rattle.list.specs.Sweep.{marked, Reached}
 use Rattle.list.specs.Listing.{isListed, listed}
 use Rattle.list.specs.Marks.{firstLabels, rankIn, sweptIn, startMarks, reachMarks}
-use Rattle.list.proofs.Clearing.{clear-long, clear-at, clear-past}
 use Rattle.list.proofs.Swept.{swept-long, swept-exactly, swept-past}
 
 -- two tests that hold of the same are one
 same-test : (a b : Bool) → (a ≡ true) ↔ (b ≡ true) → a ≡ b
 same-test a true h = h .1 refl
 same-test a false h = is-false a (λ t. clash (h .0 t) refl)
-
-those-same : (p q : ℕ → Bool) (xs : List ℕ) → ((x : ℕ) → among x xs ≡ true → p x ≡ q x) → those p xs ≡ those q xs
-those-same p q [] same = refl
-those-same p q (x ∷ xs) same = at (q x) refl (those-same p q xs (λ y i. same y (there y x xs i)))
-  where
-    at : (b : Bool) → q x ≡ b → those p xs ≡ those q xs → those p (x ∷ xs) ≡ those q (x ∷ xs)
-    at true e ih = those-yes p x xs (same x (here x xs) ∙ e) ∙ ap (x ∷_) ih ∙ sym (those-yes q x xs e)
-    at false e ih = those-no p x xs (same x (here x xs) ∙ e) ∙ ih ∙ sym (those-no q x xs e)
 
 -- the first of some sound labellings
 pub first-sound : (children : List (List ℕ)) (labels : List Labelling) → Every (SoundLabelling children) labels → 0 < length labels → SoundLabelling children (firstLabels labels)
@@ -75,14 +67,14 @@ module _
 
     start-long : length (startMarks I u marks) ≡ length marks
     unfolding startMarks
-    start-long = length-set (cleared (length (I .names)) marks) name 1 ∙ clear-long (length (I .names)) marks room
+    start-long = length-set (cleared (length (I .names)) marks) name 1 ∙ cleared-long (length (I .names)) marks room
 
     -- before the sweep u's group is marked, and no other
     start-own : marked (I .groups) (startMarks I u marks) (placeIn I u) ≡ true
     unfolding startMarks
     start-own =
         rw (name-of-place (S .condensed) u hu)
-        (eq-eqb _ 1 (getD-set-same (cleared (length (I .names)) marks) name 1 0 (omega (arith, name-low, clear-long (length (I .names)) marks room))))
+        (eq-eqb _ 1 (getD-set-same (cleared (length (I .names)) marks) name 1 0 (omega (arith, name-low, cleared-long (length (I .names)) marks room))))
 
     start-only : (p : ℕ) → p < length (I .children) → marked (I .groups) (startMarks I u marks) p ≡ true → p ≡ placeIn I u
     unfolding startMarks
@@ -94,7 +86,7 @@ module _
                 arith,
                 eqb-true (getD (startMarks I u marks) (getD (I .groups) p 0) 0) 1 m,
                 getD-set-other (cleared (length (I .names)) marks) name (getD (I .groups) p 0) 1 0 e,
-                clear-at (length (I .names)) marks room (getD (I .groups) p 0) (group-name (S .condensed) p h .0),
+                cleared-at (length (I .names)) marks (getD (I .groups) p 0) (group-name (S .condensed) p h .0),
               ))
         ]
 
@@ -148,4 +140,4 @@ module _
         ap (replicate (length (I .names)) 0 ++_)
         (swept-past (S .condensed) (first S some) (rankIn I u) (startMarks I u marks) rank-most
         ∙ drop-set-lt (length (I .names)) (cleared (length (I .names)) marks) name 1 name-low
-        ∙ clear-past (length (I .names)) marks room)
+        ∙ cleared-past (length (I .names)) marks)

@@ -18,14 +18,14 @@ use Rattle.laws.proofs.Tests.{and-left, and-right}
 use Rattle.laws.proofs.Decides.{sound-decides}
 use Rattle.laws.proofs.Grouped.{name-in, group-name, place-low}
 use Rattle.laws.proofs.Inverse.{e-most}
+use Rattle.laws.proofs.Lists.{table-at}
 use Rattle.numbers.specs.Regions.{Part}
-use Rattle.numbers.proofs.Tables.{table-at}
 use Rattle.numbers.proofs.Numbers.{room, numbers-long, numbers-at}
-use Rattle.sections.specs.Sections.{childrenIn, labellingIn, triplesOf, placesOf, labelsIn, indexFrom}
-use Rattle.sections.proofs.Sections.{children-long, e-at, labels-long}
 use Rattle.stored.specs.declared.header.Layout.{Layout}
+use Rattle.stored.specs.Sections.{childrenIn, labellingIn, triplesOf, placesOf, labelsIn, indexFrom, indexAt}
+use Rattle.stored.proofs.Sections.{children-long, e-at, labels-long}
 use Rattle.sound_groups.specs.Fit.{Holds}
-use Rattle.ask.specs.Lent.{indexAt, Lent}
+use Rattle.ask.specs.Lent.{Lent}
 use Rattle.ask.proofs.Asking.{Six, index-at, lent}
 use Rattle.list.specs.Fit.{Spots, Ranked, Names, SoundBytes}
 use Rattle.list.specs.Sweep.{swept}

@@ -1,7 +1,6 @@
 -- The sweep, and the vertices that it lists.
 pub mod Turn
 pub mod Swept
-pub mod Clearing
 pub mod Downstream
 -- The stored bytes: their sections, their refusals, their list.
 pub mod Contents

@@ -13,6 +13,7 @@ use Rattle.lineage.specs.Stored.{countsIn, headerAt, formOf}
 use Rattle.lineage.specs.Sound.{contentsSound}
 use Rattle.lineage.specs.Question.{downstream}
 use Rattle.lineage.specs.Calls.{Check, check, Outcome, refused, answered, outcome, anyApplies, indexIn, listAnswer, listMarks, listOutput}
+use Rattle.numbers.proofs.Cleared.{cleared-long, cleared-twice}
 use Rattle.stored.specs.declared.header.Layout.{Layout}
 use Rattle.stored.specs.Header.{headerChecks, layoutIn, Laid}
 use Rattle.stored.proofs.Checks.{refused-first, passed-first, refused-applies, passed-applies}
@@ -21,7 +22,6 @@ use Rattle.open.proofs.Contents.{n-is}
 use Rattle.list.specs.declared.Listed.{Listed}
 use Rattle.list.specs.declared.Listed.the-variants.{Count, Refused}
 use Rattle.list.specs.Listed.{listedOf, Allowed, Passes}
-use Rattle.list.proofs.Clearing.{clear-long, clear-twice}
 
 -- 13, 14, 15 and 16
 abbrev late : Bool → Bool → Bool → Bool → ℕ → ℕ → List Check
@@ -136,10 +136,10 @@ module _ {b : List ℕ} {l : Layout} (H : Passes b l) {u : ℕ} (low : u < l .n)
       (marks : List ℕ) → l .n ≤ length marks
       → {clear out : List ℕ} {r : Listed} {ms os : List ℕ} → clear ≡ cleared (l .n) marks → Allowed b u clear out r ms os → Allowed b u marks out r ms os
   allowed-cleared marks room {clear} e A =
-      let long : length clear ≡ length marks = ap length e ∙ clear-long (l .n) marks room in
+      let long : length clear ≡ length marks = ap length e ∙ cleared-long (l .n) marks room in
       record {
         answers = rw long at (A .answers);
         leaves =
-            A .leaves ∙ marks-after clear (omega arith) ∙ ap (cleared (l .n)) e ∙ clear-twice (l .n) marks room ∙ sym (marks-after marks room);
+            A .leaves ∙ marks-after clear (omega arith) ∙ ap (cleared (l .n)) e ∙ cleared-twice (l .n) marks ∙ sym (marks-after marks room);
         writes = rw long at (A .writes);
       }

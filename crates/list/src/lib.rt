@@ -15,7 +15,7 @@ use open::contents_sound;
 use stored::header;
 use stored::header::Header;
 use stored::header::Layout;
-use stored::sections as parts;
+use stored::parts;
 
 // How many vertices are listed, or a refusal with its number and its extra number.
 pub enum Listed {

@@ -10,7 +10,7 @@ use ask::place;
 use numbers::clear_marks;
 use numbers::num;
 use stored::header::Layout;
-use stored::sections as parts;
+use stored::parts;
 
 // The rank of vertex u's group in the first labelling: e stands last in the triple of its place.
 fn rank_of(index: &[u8], l: Layout, u: usize) -> usize

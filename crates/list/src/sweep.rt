@@ -5,7 +5,7 @@ ghost use mathlib.Core.Path.{_≡_};
 ghost use Prim.Native.Nat.{_≤_, _<_};
 ghost use lib.ListN.{length, getD};
 ghost use Rattle.lineage.specs.Numbers.{numbers};
-ghost use Rattle.sections.specs.Sections.{childrenIn};
+ghost use Rattle.stored.specs.Sections.{childrenIn};
 ghost use Rattle.list.specs.Sweep.{rowMarked, swept};
 ghost use Rattle.list.specs.Fit.{Spots, Ranked};
 use numbers::num;

@@ -1,13 +1,13 @@
--- What was lent set to 0, one element more at a time: a stretch of it, or its first elements.
+-- Lent memory whose first elements are set to 0, one element more at a time.
 use mathlib.Core.Path.{_≡_, sym, ap, ap₂, _∙_}
-use mathlib.Core.List.{List, [], _∷_, _++_}
-use Prim.Native.Nat.{ℕ, _+_, _≤_, _<_}
+use mathlib.Core.List.{List, _++_}
+use Prim.Native.Nat.{ℕ, _+_, _-_, _≤_, _<_}
 use native.Mathlib.Omega.{arith}
-use lib.ListN.{length, drop, set, replicate, length-replicate, replicate-append-replicate}
+use lib.ListN.{length, getD, drop, take-append-drop, set, replicate, length-append, length-drop, length-replicate, getD-replicate, List·getD-append}
+use lib.Seq.{drop-at, take-all}
 use borrow.Author.Fill.{fill-none, fill-more}
-use Rattle.lineage.specs.Lists.{cleared}
-use Rattle.numbers.specs.Put.{put}
-use Rattle.numbers.proofs.Put.{put-none, put-start, put-long, put-next, put-sets}
+use Rattle.lineage.specs.Lists.{part, cleared}
+use Rattle.numbers.specs.Regions.{Kept}
 
 pub cleared-none : (s : List ℕ) → s ≡ cleared 0 s
 unfolding cleared
@@ -20,24 +20,29 @@ cleared-more s t i h e = rw e (fill-more i 0 s h)
 pub cleared-all : (s t : List ℕ) (i n : ℕ) → i ≡ n → t ≡ cleared i s → t ≡ cleared n s
 cleared-all s t i n e h = rw (← e) h
 
--- a stretch from position at on
-module _ (at : ℕ) (s : List ℕ) where
-  pub zeros-none : s ≡ put s at (replicate 0 0)
-  zeros-none = sym (put-none s at)
+-- as many as before, 0 below n, and from n on as they were; to clear twice is to clear once
+module _ (n : ℕ) (s : List ℕ) where
+  pub cleared-long : n ≤ length s → length (cleared n s) ≡ length s
+  unfolding cleared
+  cleared-long h = omega (arith, length-append (replicate n 0) (drop n s), length-replicate {A = ℕ} n 0, length-drop n s)
 
-  pub zeros-more : (t : List ℕ) (i : ℕ) → at + i < length s → t ≡ put s at (replicate i 0) → set t (at + i) 0 ≡ put s at (replicate (i + 1) 0)
-  zeros-more t i h e =
-      let zeros : List ℕ = replicate i 0 in
-      let long : length zeros ≡ i = length-replicate i 0 in
-      let fits : at + length zeros ≤ length s = omega arith in
-      let same : length t ≡ length s = ap length e ∙ put-long s at zeros fits in
-      let here : at + i ≡ at + length zeros = omega arith in
-      put-sets t (at + i) (0 ∷ []) (omega arith)
-      ∙ ap₂ (λ (z : List ℕ) (p : ℕ). put z p (0 ∷ [])) e here
-      ∙ put-next s at zeros fits (0 ∷ [])
-      ∙ ap (put s at) (replicate-append-replicate i 1 0)
+  pub cleared-at : (i : ℕ) → i < n → getD (cleared n s) i 0 ≡ 0
+  unfolding cleared
+  cleared-at i h = List·getD-append (replicate n 0) (drop n s) 0 i (omega (arith, length-replicate {A = ℕ} n 0)) ∙ getD-replicate n i 0 0 h
 
--- from the start on
-pub zeros-first : (n : ℕ) (s t : List ℕ) → t ≡ put s 0 (replicate n 0) → t ≡ cleared n s
-unfolding cleared
-zeros-first n s t e = e ∙ put-start s (replicate n 0) ∙ ap (λ (k : ℕ). replicate n 0 ++ drop k s) (length-replicate n 0)
+  pub cleared-past : drop n (cleared n s) ≡ drop n s
+  unfolding cleared
+  cleared-past = drop-at (replicate n 0) (drop n s) n (length-replicate n 0)
+
+  pub cleared-twice : cleared n (cleared n s) ≡ cleared n s
+  unfolding cleared
+  cleared-twice = ap (replicate n 0 ++_) cleared-past
+
+-- where the first n are 0 and no other is touched
+pub cleared-first : (n : ℕ) (s t : List ℕ) → n ≤ length s → Kept s t 0 n → part t 0 n ≡ replicate n 0 → t ≡ cleared n s
+unfolding part cleared
+cleared-first n s t h k zeros =
+    let m : ℕ = length s - n in
+    let rest : drop n t ≡ drop n s =
+    sym (take-all m (drop n t) (omega (arith, length-drop n t, k .long))) ∙ k .above n m (omega arith) ∙ take-all m (drop n s) (omega (arith, length-drop n s)) in
+    sym (take-append-drop n t) ∙ ap₂ _++_ zeros rest

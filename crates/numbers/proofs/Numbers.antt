@@ -13,11 +13,11 @@ use lib.Arith.{lt-of-le-ne}
 use lib.Seq.{ext-getD}
 use Rattle.lineage.specs.Lists.{part}
 use Rattle.lineage.specs.Numbers.{leAt, numAt, numbers, leBytes}
+use Rattle.laws.proofs.Lists.{table-long, table-at}
+use Rattle.laws.proofs.Parts.{part-length, part-at}
 use Rattle.numbers.specs.Put.{put}
 use Rattle.numbers.specs.Regions.{Kept, Part}
-use Rattle.numbers.proofs.Tables.{table-long, table-at}
 use Rattle.numbers.proofs.Put.{put-here, put-kept, put-sets}
-use Rattle.numbers.proofs.Regions.{part-length, part-at}
 
 -- number i of k lies within l bytes
 pub room : (w i k l : ℕ) → i < k → w * k ≤ l → w * i + w ≤ l

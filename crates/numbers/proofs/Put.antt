@@ -8,9 +8,9 @@ use native.Mathlib.Nat.{add-zero, zero-add}
 use lib.ListN.{length, take, drop, length-append, length-take, length-drop, take-append-drop}
 use lib.Seq.{length-take-le, take-at, drop-at, drop-drop, sets, sets-eq}
 use Rattle.lineage.specs.Lists.{part}
+use Rattle.laws.proofs.Parts.{drop-past, part-take, part-left}
 use Rattle.numbers.specs.Put.{put}
 use Rattle.numbers.specs.Regions.{Kept}
-use Rattle.numbers.proofs.Parts.{drop-past, part-take, part-left}
 
 -- nothing is put
 pub put-none : (s : List ℕ) (p : ℕ) → put s p [] ≡ s

@@ -3,24 +3,19 @@ use mathlib.Core.Path.{_≡_, refl, sym, ap, ap₂, _∙_}
 use mathlib.Core.List.{List, [], _∷_, _++_, map, map-map, append-assoc, append-nil}
 use Prim.Native.Nat.{ℕ, zero, suc, _+_, _*_, _/_, _%_, _^_, _≤_, _<_}
 use native.Mathlib.Omega.{arith}
-use native.Mathlib.Numerals.{add-one}
 use native.Mathlib.Decide.{decLt}
 use native.Mathlib.Nat.{mul-zero, mul-suc}
 use lib.ListN.{length, getD, length-append, length-map, List·getD-eq-default}
 use lib.Seq.{take-all}
 use Rattle.lineage.specs.Lists.{upto, joined, part, Every}
 use Rattle.lineage.specs.Numbers.{leAt, numAt, numbers, leBytes, written}
+use Rattle.laws.proofs.Every.{every-of, every-at}
+use Rattle.laws.proofs.Joined.{Sized, sized-map, block-at, blocks-of}
+use Rattle.laws.proofs.Lists.{getD-mapped, table-is}
+use Rattle.laws.proofs.Parts.{part-left, part-more, part-beyond, part-length, part-at}
 use Rattle.numbers.specs.Put.{put}
 use Rattle.numbers.proofs.Put.{put-none, put-next}
-use Rattle.numbers.proofs.Tables.{getD-mapped, table-is}
-use Rattle.numbers.proofs.Parts.{part-left, part-more, part-beyond}
-use Rattle.numbers.proofs.Blocks.{every-of, every-at, Sized, sized-map, block-at, blocks-of}
-use Rattle.numbers.proofs.Regions.{part-length, part-at}
 use Rattle.numbers.proofs.Numbers.{room, le-own, le-tail, le-bytes, bytes-long}
-
--- each number is below a bound
-abbrev pub Below : ℕ → List ℕ → Type 0
-Below m xs = Every (λ x. x < m) xs
 
 pub written-long : (w : ℕ) (xs : List ℕ) → length (written w xs) ≡ w * length xs
 written-long w [] = sym (mul-zero w)
@@ -40,16 +35,16 @@ num-front w a b i h =
     le-own w (a ++ b) (w * i) ∙ ap (λ (z : List ℕ). leAt w z 0) (part-left a b (w * i) w h) ∙ sym (le-own w a (w * i))
 
 -- what was written is read
-pub written-at : (w : ℕ) (xs : List ℕ) (i : ℕ) → Below (256 ^ w) xs → i < length xs → numAt w (written w xs) i ≡ getD xs i 0
+pub written-at : (w : ℕ) (xs : List ℕ) (i : ℕ) → Every (λ x. x < 256 ^ w) xs → i < length xs → numAt w (written w xs) i ≡ getD xs i 0
 written-at w xs i h l =
     le-own w (written w xs) (w * i)
     ∙ ap (λ (z : List ℕ). leAt w z 0)
     (block-at w (map (leBytes w) xs) i (bytes-sized w xs) (omega (arith, length-map xs (leBytes w))) ∙ getD-mapped (leBytes w) xs i 0 [] l)
     ∙ le-bytes w (getD xs i 0) (every-at (λ x. x < 256 ^ w) xs i 0 h l)
 
-pub numbers-written : (w : ℕ) (xs : List ℕ) → Below (256 ^ w) xs → numbers w (written w xs) (length xs) ≡ xs
+pub numbers-written : (w : ℕ) (xs : List ℕ) → Every (λ x. x < 256 ^ w) xs → numbers w (written w xs) (length xs) ≡ xs
 unfolding numbers
-numbers-written w xs h = table-is (numAt w (written w xs)) (length xs) xs 0 refl (λ i l. written-at w xs i h l)
+numbers-written w xs h = table-is (numAt w (written w xs)) xs (length xs) 0 refl (λ i l. written-at w xs i h l)
 
 -- each is a byte
 abbrev pub Bytes : List ℕ → Type 0
@@ -110,8 +105,7 @@ module _ (w at from : ℕ) (words s : List ℕ) where
       let here : p ≡ at + length bs = omega arith in
       let next : bs ++ leBytes w v ≡ written w (part words from (i + 1)) =
       sym
-      (ap (λ (n : ℕ). written w (part words from n)) (add-one i)
-      ∙ ap (written w) (part-more words from i 0 h)
+      (ap (written w) (part-more words from i 0 h)
       ∙ written-append w (part words from i) (getD words (from + i) 0 ∷ [])
       ∙ ap (λ (z : List ℕ). bs ++ z) (append-nil (leBytes w (getD words (from + i) 0)) ∙ ap (leBytes w) (sym ev))) in
       ap₂ (λ (z : List ℕ) (q : ℕ). put z q (leBytes w v)) e here

@@ -5,7 +5,7 @@ ghost use lib.ListN.{length, replicate};
 ghost use Rattle.lineage.specs.Lists.{part, cleared};
 ghost use Rattle.lineage.specs.Numbers.{Width, leAt, numAt, leBytes, written};
 ghost use Rattle.numbers.specs.Put.{put};
-ghost use Rattle.numbers.specs.Regions.{Part};
+ghost use Rattle.numbers.specs.Regions.{Kept, Part};
 
 fn wide(x: u8) -> usize
     ensures { λ r. ⌜ (r ≡ x) × (r < 256) ⌝ }
@@ -106,7 +106,8 @@ pub fn write_words(out: &mut [u8], at: usize, w: usize, words: &[u32], from: usi
 // Sets n words to 0, from word at on.
 pub fn clear_part(words: &mut [u32], at: usize, n: usize)
     requires { ⌜ at + n ≤ length (now words) ⌝ }
-    ensures { λ _. ⌜ now (words .exit) ≡ put (now (words .entry)) at (replicate n 0) ⌝ }
+    ensures { λ _. ⌜ Kept (now (words .entry)) (now (words .exit)) at n ⌝ }
+    ensures { λ _. ⌜ part (now (words .exit)) at n ≡ replicate n 0 ⌝ }
 {
     let mut i = 0;
     while i < n {

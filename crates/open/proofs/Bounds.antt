@@ -1,22 +1,23 @@
 -- Bytes that some edge list and orders yield keep the form's bounds where their header is right: the header's counts bound the bytes' length, this bounds n, k and c, so
 -- that they are read again, and they are the header's.
 use mathlib.Core.Path.{_≡_, sym, _∙_}
-use mathlib.Core.List.{List, map}
+use mathlib.Core.List.{List}
 use Prim.Native.Nat.{ℕ, _+_, _*_, _^_, _≤_, _<_}
 use native.Mathlib.Omega.{arith}
 use native.Mathlib.Nat.{mul-le-mul, mul-le-mul-left}
-use lib.ListN.{length, getD}
-use Rattle.lineage.specs.Lists.{joined}
+use lib.ListN.{length}
+use Rattle.lineage.specs.Lists.{Every}
 use Rattle.lineage.specs.Index.{Index}
 use Rattle.lineage.specs.Numbers.{written}
-use Rattle.lineage.specs.Stored.{form1, Counts, startsFrom, sections, countsOf, header, encode, headerAt, countsIn}
+use Rattle.lineage.specs.Stored.{form1, Counts, startsFrom, sections, countsOf, header, encode, countsIn}
 use Rattle.laws.specs.Sound.{Sound}
-use Rattle.numbers.proofs.Written.{Below, written-long, num-front, written-at}
+use Rattle.laws.proofs.Starts.{starts-long}
+use Rattle.numbers.proofs.Written.{written-long}
 use Rattle.stored.specs.declared.header.Layout.{Layout}
 use Rattle.stored.specs.Header.{Laid}
 use Rattle.stored.proofs.Offsets.{offsets-last}
-use Rattle.stored.proofs.Starts.{starts-long}
 use Rattle.stored.proofs.LabelNumbers.{labels-long}
+use Rattle.stored.proofs.Encoded.{counts-again}
 use Rattle.open.proofs.Fits.{full}
 
 module _ {I : Index} (S : Sound I) (short : length (encode form1 I) < 2 ^ 31) (few : length (I .labels) ≤ 5) where
@@ -34,19 +35,13 @@ module _ {I : Index} (S : Sound I) (short : length (encode form1 I) < 2 ^ 31) (f
       omega (arith, offsets-last 2 (written 4 (header form1 a)) (sections I) 48 (sym (written-long 4 (header form1 a))))
 
   -- so every number of the header is of 32 bits, and is read again
-  header-small : Below (256 ^ 4) (header form1 a)
+  header-small : Every (λ x. x < 256 ^ 4) (header form1 a)
   header-small =
       let l = long in
       (omega arith, (omega arith, (omega arith, (omega arith, (omega arith, (omega arith, (omega arith, (omega arith, (omega arith, (omega arith, (omega arith, (omega arith, tt))))))))))))
 
-  number-again : (i : ℕ) → i < 12 → headerAt (encode form1 I) i ≡ getD (header form1 a) i 0
-  unfolding encode
-  number-again i h =
-      num-front 4 (written 4 (header form1 a)) (joined (map (written 2) (sections I))) i (omega (arith, written-long 4 (header form1 a)))
-      ∙ written-at 4 (header form1 a) i header-small h
-
-  pub counts-again : countsIn (encode form1 I) ≡ a
-  counts-again = rw (number-again 1 (omega arith), number-again 2 (omega arith), number-again 3 (omega arith), number-again 4 (omega arith))
+  pub counts-bounded : countsIn (encode form1 I) ≡ a
+  counts-bounded = counts-again form1 I header-small
 
 -- bytes whose header is right are short
 pub laid-short : {b : List ℕ} {l : Layout} → Laid b l → length b < 2 ^ 31

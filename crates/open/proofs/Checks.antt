@@ -11,8 +11,8 @@ use Rattle.lineage.specs.Lists.{cleared}
 use Rattle.lineage.specs.Stored.{Form, form1, Counts, headerAt, countsIn, formOf, isForm, countsFit, offsetsFit}
 use Rattle.lineage.specs.Sound.{contentsSound}
 use Rattle.lineage.specs.Calls.{Outcome, refused, answered, refuse, outcome, openAnswer, openMarks}
+use Rattle.laws.proofs.Tests.{neither}
 use Rattle.stored.specs.declared.header.Layout.{Layout}
-use Rattle.stored.proofs.Tests.{neither}
 use Rattle.stored.proofs.Checked.{all-right}
 use Rattle.stored.specs.Header.{layoutIn, headerChecks, Laid}
 use Rattle.open.specs.Yields.{HeaderRight}

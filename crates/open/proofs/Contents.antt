@@ -11,9 +11,8 @@ use Rattle.lineage.specs.Stored.{countsIn, section}
 use Rattle.lineage.specs.Sound.{startsPass, groupsPass, labelsPass, sound, contentsSound}
 use Rattle.stored.specs.declared.header.Layout.{Layout}
 use Rattle.stored.specs.Header.{Laid}
-use Rattle.stored.specs.Sections.{Section}
-use Rattle.sections.specs.Sections.{childrenIn, labelsIn, indexFrom}
-use Rattle.sections.proofs.Sections.{decode-is}
+use Rattle.stored.specs.Sections.{Section, childrenIn, labelsIn, indexFrom}
+use Rattle.stored.proofs.Sections.{decode-is}
 
 -- the tests of groups and of labels together
 pub parts-is : (w n k c d : ℕ) (names groups levels starts children labels : List ℕ)

@@ -15,14 +15,14 @@ use Rattle.lineage.specs.Stored.{Form, form1, Counts, countsOf, countsFit, enco
 use Rattle.lineage.specs.Sound.{startsPass, sound, contentsSound}
 use Rattle.lineage.specs.Calls.{answered, openAnswer}
 use Rattle.laws.specs.Sound.{SoundLabelling, Sound}
-use Rattle.laws.proofs.Tests.{and-both}
+use Rattle.laws.proofs.Tests.{and-both, both}
 use Rattle.laws.proofs.Names.{names-long}
 use Rattle.laws.proofs.Sound.{made-sound}
+use Rattle.laws.proofs.Starts.{starts-pass}
 use Rattle.stored.specs.Fits.{Full, Fits}
-use Rattle.stored.proofs.Tests.{both}
 use Rattle.stored.proofs.Encoded.{header-read, counts-read, decode-encode, encode-passes, encode-laid}
 use Rattle.open.proofs.Checks.{header-passed, opened}
-use Rattle.open.proofs.Starts.{starts-pass, starts-read}
+use Rattle.open.proofs.Starts.{starts-read}
 use Rattle.open.proofs.Small.{groups-few, sections-small}
 use Rattle.open.proofs.Entries.{entries-few}
 

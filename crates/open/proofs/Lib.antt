@@ -1,6 +1,5 @@
 pub mod Contents
 pub mod Checks
-pub mod Every
 pub mod Entries
 pub mod Starts
 pub mod Small

@@ -3,11 +3,11 @@
 use mathlib.Core.Bool.{true}
 use mathlib.Core.Path.{_≡_, subst}
 use mathlib.Core.List.{List, [], _∷_, map}
-use Prim.Native.Nat.{ℕ, zero, suc, _≤_, _<_}
+use Prim.Native.Nat.{ℕ, _≤_, _<_}
 use native.Mathlib.Omega.{arith}
 use lib.Dec.{eqb}
 use lib.ListN.{length, getD}
-use Rattle.lineage.specs.Lists.{upto, among, position, greatest, joined, Every}
+use Rattle.lineage.specs.Lists.{upto, among, position, joined, Every}
 use Rattle.lineage.specs.Graph.{groupList, level, levelsOf}
 use Rattle.lineage.specs.Labels.{Labelling}
 use Rattle.lineage.specs.Index.{Index}
@@ -15,21 +15,11 @@ use Rattle.lineage.specs.Stored.{startsFrom, triple, labelNumbers, sections}
 use Rattle.laws.specs.Sound.{SoundLabelling, SoundGroups, Sound}
 use Rattle.laws.proofs.Lists.{in-getD, those-pass, upto-low, length-upto, position-low, at-position, least-below}
 use Rattle.laws.proofs.Rising.{those-short}
+use Rattle.laws.proofs.Levels.{level-most}
 use Rattle.laws.proofs.Inverse.{e-most}
-use Rattle.stored.proofs.Starts.{starts-long, starts-rise, starts-low}
-use Rattle.sound_labels.proofs.Nobody.{joined-all}
-use Rattle.open.proofs.Every.{every-getD, every-append, every-joined, every-table}
-use Rattle.open.proofs.Starts.{starts-pass}
-
--- levels
-greatest-most : (f : ℕ → ℕ) (b : ℕ) (xs : List ℕ) → ((q : ℕ) → f q ≤ b) → greatest (map f xs) ≤ b
-greatest-most f b [] all = omega arith
-greatest-most f b (x ∷ xs) all = omega (arith, all x, greatest-most f b xs all)
-
-level-most : (children : List (List ℕ)) (f p : ℕ) → level children f p ≤ f
-unfolding level
-level-most children zero p = omega arith
-level-most children (suc f) p = greatest-most (λ q. suc (level children f q)) (suc f) (getD children p []) (λ q. omega (arith, level-most children f q))
+use Rattle.laws.proofs.Joined.{joined-in}
+use Rattle.laws.proofs.Starts.{starts-long, starts-pass, pass-low}
+use Rattle.laws.proofs.Every.{every-getD, every-append, every-joined, every-table}
 
 -- one labelling: s, m, e and places are at most k
 module _ {children : List (List ℕ)} {l : Labelling} (L : SoundLabelling children l) (N : ℕ) (small : length children < N) where
@@ -89,18 +79,16 @@ module _ {I : Index} (S : Sound I) where
         let k : ℕ = length (I .children) in
         let c : ℕ = length (joined (I .children)) in
         every-getD (λ x. x < N) 0 (startsFrom 0 (I .children))
-        (λ p h. omega (arith, starts-low (starts-rise (startsFrom 0 (I .children)) k c (starts-pass (I .children))) p (omega (arith, starts-long 0 (I .children)))))
+        (λ p h. omega (arith, pass-low (startsFrom 0 (I .children)) k c (starts-pass (I .children)) p (omega (arith, starts-long 0 (I .children)))))
 
     children-small : Low (joined (I .children))
     children-small =
         every-getD (λ x. x < N) 0 (joined (I .children))
         (λ i h.
-        joined-all (λ x. x < N) (I .children)
-        (λ p l q j.
+        let q : ℕ = getD (joined (I .children)) i 0 in
+        let (p, l, j) = joined-in (I .children) q (in-getD (joined (I .children)) i h) in
         let row : List ℕ = getD (I .children) p [] in
         omega (arith, G .child-low p (position q row) l (position-low q row j), at-position q row j, places-few))
-        (getD (joined (I .children)) i 0)
-        (in-getD (joined (I .children)) i h))
 
     labels-small : (ls : List Labelling) → Every (SoundLabelling (I .children)) ls → Low (joined (map (labelNumbers (length (I .children))) ls))
     labels-small [] h = tt

@@ -17,13 +17,13 @@ use Rattle.lineage.specs.Sound.{startsPass, sound, contentsSound}
 use Rattle.lineage.specs.Calls.{answered, openAnswer, indexIn}
 use Rattle.laws.proofs.Sound.{made-sound, sound-is-made, made-long}
 use Rattle.laws.proofs.Decides.{sound-decides}
+use Rattle.laws.proofs.Lists.{table-long}
+use Rattle.laws.proofs.Tests.{both}
+use Rattle.laws.proofs.Starts.{pass-laid, rows-joined}
 use Rattle.numbers.proofs.Numbers.{numbers-long}
-use Rattle.numbers.proofs.Tables.{table-long}
 use Rattle.numbers.proofs.Written.{Bytes}
 use Rattle.stored.specs.Header.{layoutIn}
 use Rattle.stored.specs.Fits.{Fits}
-use Rattle.stored.proofs.Tests.{both}
-use Rattle.stored.proofs.Starts.{starts-rise, rows-joined}
 use Rattle.stored.proofs.Laid.{header-laid}
 use Rattle.stored.proofs.Encoded.{counts-read}
 use Rattle.stored.proofs.Decoded.{encode-decode}
@@ -32,7 +32,7 @@ use Rattle.open.proofs.Checks.{form-is, opened-right, opened-contents, 
 use Rattle.open.specs.declared.Opened.{Opened}
 use Rattle.open.specs.declared.Opened.the-variants.{Index as IndexOf, Refused}
 use Rattle.open.specs.Opened.{openedOf}
-use Rattle.open.proofs.Bounds.{counts-again, laid-short}
+use Rattle.open.proofs.Bounds.{counts-bounded, laid-short}
 use Rattle.open.proofs.Fits.{form1-wide, bounds-kept, yielded-fits, fits-opens}
 
 -- the counts of the index that bytes hold are the header's, where the child starts pass
@@ -41,7 +41,7 @@ unfolding decode section
 counts-are w b t =
     let a : Counts = countsIn b in
     let c : length (joined (decode w b .children)) ≡ a .c =
-    ap length (rows-joined (starts-rise (section w a b 3) (a .k) (a .c) t) (section w a b 4) (numbers-long w (stretch w a b 4) (a .c)))
+    ap length (rows-joined (pass-laid (section w a b 3) (a .k) (a .c) t (section w a b 4) (numbers-long w (stretch w a b 4) (a .c))))
     ∙ numbers-long w (stretch w a b 4) (a .c) in
     let d : length (decode w b .labels) ≡ a .d = table-long (labellingAt (a .k) (section w a b 5)) (a .d) in
     rw (numbers-long w (stretch w a b 0) (a .n), numbers-long w (stretch w a b 1) (a .k), c, d)
@@ -101,7 +101,7 @@ module _ {b : List ℕ} (Y : Yields form1 b) where
   counts-right R d =
       let L = header-laid b (layoutIn b) (right-passes b R) in
       let short : length (encode form1 I) < 2 ^ 31 = subst (λ (z : List ℕ). length z < 2 ^ 31) (sym (Y .bytes)) (laid-short L) in
-      let counts = counts-again (made-sound (Y .graph) (Y .ends) (Y .orders) (Y .permuted)) short (omega (arith, labellings, L .most)) in
+      let counts = counts-bounded (made-sound (Y .graph) (Y .ends) (Y .orders) (Y .permuted)) short (omega (arith, labellings, L .most)) in
       ap (countsFit form1) (sym counts ∙ ap countsIn (Y .bytes)) ∙ R .counts
 
 -- bytes open exactly where their header is right for form 1 and some edge list, of any length, and d orders yield exactly these bytes

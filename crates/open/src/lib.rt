@@ -8,7 +8,7 @@ ghost use Rattle.lineage.specs.Numbers.{numbers};
 ghost use Rattle.lineage.specs.Sound.{startsPass, sound, contentsSound};
 ghost use Rattle.lineage.specs.Calls.{openAnswer, openMarks};
 ghost use Rattle.stored.specs.Header.{Laid};
-ghost use Rattle.sections.specs.Sections.{indexFrom};
+ghost use Rattle.stored.specs.Sections.{indexFrom};
 ghost use Rattle.open.specs.Parts.{Parts};
 ghost use Rattle.open.specs.Opened.{openedOf, lateAnswer, lateMarks};
 use numbers::clear_marks;
@@ -69,12 +69,12 @@ pub fn contents_sound(index: &[u8], l: Layout, marks: &mut [u8]) -> bool
     ensures { λ _. ⌜ now (marks .exit) ≡ cleared (l .n) (now (marks .entry)) ⌝ }
 {
     parts_sound(
-        stored::sections::names(index, l),
-        stored::sections::groups(index, l),
-        stored::sections::levels(index, l),
-        stored::sections::starts(index, l),
-        stored::sections::children(index, l),
-        stored::sections::labels(index, l),
+        stored::parts::names(index, l),
+        stored::parts::groups(index, l),
+        stored::parts::levels(index, l),
+        stored::parts::starts(index, l),
+        stored::parts::children(index, l),
+        stored::parts::labels(index, l),
         marks,
         l.width,
         l.n,

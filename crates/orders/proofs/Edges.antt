@@ -1,19 +1,19 @@
 -- An edge of which an end is n or more, and an edge of which none is; where no edge is bad, edges lead from vertices to vertices.
 use mathlib.Core.Bool.{true, false}
-use mathlib.Core.Path.{_≡_, refl}
+use mathlib.Core.Path.{_≡_}
 use mathlib.Core.List.{List}
-use Prim.Native.Nat.{ℕ, suc, _<_, _≤_}
+use Prim.Native.Nat.{ℕ, _<_, _≤_}
 use native.Mathlib.Omega.{arith}
 use lib.Dec.{leb}
 use lib.ListN.{length, getD}
 use borrow.Author.Tests.{le-leb, lt-leb, leb-false}
 use Rattle.lineage.specs.Lists.{upto, any}
-use Rattle.lineage.specs.Graph.{Graph, Edge, first, later, Ends}
+use Rattle.lineage.specs.Graph.{Graph, Ends}
 use Rattle.lineage.specs.Calls.{badEdge}
 use Rattle.laws.proofs.Tests.{or-left, or-right, or-false-left, or-false-right}
-use Rattle.laws.proofs.Lists.{in-upto}
+use Rattle.laws.proofs.Lists.{in-upto, any-none}
+use Rattle.laws.proofs.Edges.{edge-position}
 use Rattle.orders.specs.Input.{graphOf}
-use Rattle.orders.proofs.Lists.{any-none}
 
 -- edge i
 module _ (n : ℕ) (sources targets : List ℕ) (i : ℕ) where
@@ -26,17 +26,12 @@ module _ (n : ℕ) (sources targets : List ℕ) (i : ℕ) where
   pub good-edge : getD sources i 0 < n → getD targets i 0 < n → badEdge (graphOf n sources targets) i ≡ false
   good-edge h k = rw (lt-leb n (getD sources i 0) h, lt-leb n (getD targets i 0) k)
 
--- an edge's ends stand at one position
-edge-at : {S T : List ℕ} {u v : ℕ} → Edge S T u v → (i : ℕ) × (i < length S) × (getD S i 0 ≡ u) × (getD T i 0 ≡ v)
-edge-at first = (0, omega arith, refl, refl)
-edge-at (later e) = let (i, h, s, t) = edge-at e in (suc i, omega arith, s, t)
-
 -- no edge is bad
 pub ends-of : (G : Graph) → length (G .sources) ≡ length (G .targets) → any (badEdge G) (upto (length (G .sources))) ≡ false → Ends G
 ends-of G paired none = record {
   paired = paired;
-  sources-low = λ u v e. let (i, h, s, t) = edge-at e in omega (arith, leb-false (G .n) (getD (G .sources) i 0) (or-false-left _ _ (good i h)));
-  targets-low = λ u v e. let (i, h, s, t) = edge-at e in omega (arith, leb-false (G .n) (getD (G .targets) i 0) (or-false-right (leb (G .n) (getD (G .sources) i 0)) _ (good i h)));
+  sources-low = λ u v e. let (i, h, s, t) = edge-position e in omega (arith, leb-false (G .n) (getD (G .sources) i 0) (or-false-left _ _ (good i h)));
+  targets-low = λ u v e. let (i, h, s, t) = edge-position e in omega (arith, leb-false (G .n) (getD (G .targets) i 0) (or-false-right (leb (G .n) (getD (G .sources) i 0)) _ (good i h)));
 }
   where
     good : (i : ℕ) → i < length (G .sources) → badEdge G i ≡ false

@@ -11,9 +11,8 @@ use borrow.Author.Count.{below-none, below-more}
 use borrow.Author.Tests.{lt-ltb, le-ltb}
 use Rattle.lineage.specs.Lists.{upto, any, firstOf}
 use Rattle.laws.proofs.Tests.{clash, is-false}
-use Rattle.laws.proofs.Lists.{in-any, in-upto, upto-low}
+use Rattle.laws.proofs.Lists.{in-any, in-upto, upto-low, any-none}
 use Rattle.laws.proofs.Rising.{rises-upto, first-of}
-use Rattle.orders.proofs.Lists.{any-none}
 
 -- none of the numbers below i passes: what a loop over 0, 1, .. knows
 pub record NoneBelow (p : ℕ → Bool) (i : ℕ) : Type 0 where

@@ -1,5 +1,4 @@
 -- The laws of this crate's passes.
-pub mod Lists
 pub mod First
 pub mod Edges
 pub mod Stamping

@@ -1,9 +1,8 @@
 -- Where row q holds the places that have q among their children, an empty row says that q is nobody's child.
-use mathlib.Core.Bool.{Bool, true, false, false≢true}
-use mathlib.Core.Logic.{inl, inr}
+use mathlib.Core.Bool.{Bool, true, false}
 use mathlib.Core.Path.{_≡_, refl, ap}
-use mathlib.Core.List.{List, [], _∷_}
-use Prim.Native.Nat.{ℕ, zero, suc, _+_, _-_, _<_}
+use mathlib.Core.List.{List, []}
+use Prim.Native.Nat.{ℕ, suc, _+_, _-_, _<_}
 use native.Mathlib.Omega.{arith}
 use lib.ListN.{length, getD}
 use borrow.Author.Tests.{eq-eqb, ne-eqb}
@@ -11,27 +10,13 @@ use Rattle.lineage.specs.Lists.{upto, among, those, joined}
 use Rattle.lineage.specs.Labels.{nobodysChild}
 use Rattle.lineage.specs.Stored.{rowAt}
 use Rattle.lineage.specs.Sound.{childOf}
-use Rattle.numbers.proofs.Regions.{part-length}
+use Rattle.laws.specs.Laid.{Rows}
 use Rattle.laws.proofs.Tests.{clash, is-false}
-use Rattle.laws.proofs.Lists.{in-append, in-left, in-right, position-low, those-keep, those-none, in-upto}
-use Rattle.rows.specs.Rows.{Rows}
-use Rattle.rows.proofs.Laid.{start-low}
+use Rattle.laws.proofs.Joined.{in-joined, joined-in}
+use Rattle.laws.proofs.Lists.{position-low, those-keep, those-none, in-upto, those-same}
+use Rattle.laws.proofs.Parts.{part-length}
+use Rattle.laws.proofs.Laid.{start-low}
 use Rattle.orders.specs.Roots.{rowEmpty}
-use Rattle.orders.proofs.Lists.{those-same}
-
--- what stands among the children of a place stands among all children, and the other way round
-child-joined : (children : List (List ℕ)) (p q : ℕ) → childOf children p q ≡ true → among q (joined children) ≡ true
-child-joined [] p q i = absurd (false≢true i)
-child-joined (row ∷ rows) zero q i = in-left q row (joined rows) i
-child-joined (row ∷ rows) (suc p) q i = in-right q row (joined rows) (child-joined rows p q i)
-
-joined-child : (children : List (List ℕ)) (q : ℕ) → among q (joined children) ≡ true → (p : ℕ) × (p < length children) × (childOf children p q ≡ true)
-joined-child [] q i = absurd (false≢true i)
-joined-child (row ∷ rows) q i =
-    elim (in-append q row (joined rows) i) [
-      | inl j ↦ (0, omega arith, j)
-      | inr j ↦ let (p, h, c) = joined-child rows q j in (suc p, omega arith, c)
-    ]
 
 module _
     {starts values : List ℕ} (children : List (List ℕ)) {k : ℕ} (long : length children ≡ k)
@@ -53,11 +38,11 @@ module _
       where
         at : (t : Bool) → among q (joined children) ≡ t → rowEmpty starts q ≡ nobodysChild children q
         at true e =
-            let (p, l, c) = joined-child children q e in
+            let (p, l, c) = joined-in children q e in
             let some : 0 < length (those (λ x. childOf children x q) (upto k)) = omega (arith, position-low p (those (λ x. childOf children x q) (upto k)) (those-keep (λ x. childOf children x q) p (upto k) c (in-upto k p (omega arith)))) in
             rw e (ne-eqb (getD starts (suc q) 0) (getD starts q 0) (λ z. omega (arith, row-long q h)))
         at false e =
-            let none : those (λ x. childOf children x q) (upto k) ≡ [] = those-none (λ x. childOf children x q) (upto k) (λ p i. is-false (childOf children p q) (λ c. clash (child-joined children p q c) e)) in
+            let none : those (λ x. childOf children x q) (upto k) ≡ [] = those-none (λ x. childOf children x q) (upto k) (λ p i. is-false (childOf children p q) (λ c. clash (in-joined children p q c) e)) in
             rw e (eq-eqb (getD starts (suc q) 0) (getD starts q 0) (omega (arith, row-long q h, ap length none)))
 
     -- of any places those whose row of parents is empty are those that are nobody's child

@@ -11,10 +11,11 @@ use Rattle.lineage.specs.Lists.{upto, any, among, part, Every}
 use Rattle.lineage.specs.Labels.{Order}
 use Rattle.lineage.specs.Calls.{orderAt, badOrder}
 use Rattle.numbers.specs.Regions.{Kept}
-use Rattle.numbers.proofs.Regions.{part-length, kept-same, kept-then}
-use Rattle.laws.proofs.Lists.{in-upto, upto-low}
+use Rattle.numbers.proofs.Regions.{kept-same, kept-then}
+use Rattle.laws.proofs.Lists.{in-upto, upto-low, any-same, any-none}
+use Rattle.laws.proofs.Parts.{part-length}
+use Rattle.laws.proofs.Every.{every-mapped}
 use Rattle.orders.specs.Stamped.{Stamped, lacks}
-use Rattle.orders.proofs.Lists.{any-same, any-none, every-mapped}
 use Rattle.orders.proofs.First.{NoneBelow, none-begin, none-more}
 
 -- order i lies in an order list of d orders

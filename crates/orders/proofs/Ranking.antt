@@ -11,14 +11,13 @@ use Rattle.lineage.specs.Lists.{upto, among, those, part}
 use Rattle.lineage.specs.Graph.{groupList, placeOf}
 use Rattle.lineage.specs.Labels.{inOrder}
 use Rattle.numbers.specs.Regions.{Kept}
-use Rattle.numbers.proofs.Regions.{part-length, part-at}
 use Rattle.laws.proofs.Tests.{is-false}
 use Rattle.laws.proofs.Lists.{in-getD, in-upto, those-append, those-yes, those-no, those-keep}
 use Rattle.laws.proofs.Grouped.{listed-name}
+use Rattle.laws.proofs.Parts.{part-length, part-at, part-more}
+use Rattle.numbers.proofs.Regions.{read-at, Written, written-none, written-more}
 use Rattle.rows.proofs.Orders.{order-low}
-use Rattle.rows.proofs.Regions.{read-at, Written, written-none, written-more}
 use Rattle.orders.specs.Fit.{RankedFit}
-use Rattle.orders.proofs.Lists.{part-snoc}
 
 -- one vertex more of an order: the name of a group, or not
 module _ (order groups : List ℕ) (v : ℕ) where
@@ -78,7 +77,7 @@ module _
     name-at = read-at (f .names-there) (i .written .kept) (getD orders (at + j) 0) low
 
     one-more : part orders at (j + 1) ≡ part orders at j ++ (getD orders (at + j) 0 ∷ [])
-    one-more = part-snoc orders at j (omega (arith, f .inside))
+    one-more = part-more orders at j 0 (omega (arith, f .inside))
 
     -- it is its own name: its place is written
     pub ranking-more :

@@ -9,12 +9,11 @@ use lib.ListN.{length, getD, set}
 use borrow.Author.Tests.{eq-eqb, ne-eqb}
 use Rattle.lineage.specs.Lists.{those, part}
 use Rattle.numbers.specs.Regions.{Kept}
-use Rattle.numbers.proofs.Regions.{part-at, part-length}
 use Rattle.laws.proofs.Lists.{those-append, those-yes, those-no}
-use Rattle.rows.proofs.Regions.{read-at, Written, written-none, written-more}
+use Rattle.laws.proofs.Parts.{part-at, part-length, part-more}
+use Rattle.numbers.proofs.Regions.{read-at, Written, written-none, written-more}
 use Rattle.orders.specs.Fit.{RootsFit}
 use Rattle.orders.specs.Roots.{rowEmpty}
-use Rattle.orders.proofs.Lists.{part-snoc}
 
 -- j places of the sequence are gone through, and c of them written
 pub record Rooting (w₀ w : List ℕ) (starts k sequence base j c : ℕ) : Type 0 where
@@ -67,7 +66,7 @@ module _
 
     passed : those empty (part w₀ sequence (j + 1)) ≡ those empty (part w₀ sequence j) ++ those empty (q ∷ [])
     passed =
-        ap (those empty) (part-snoc w₀ sequence j (omega (arith, f .sequence-there .fits)) ∙ ap (λ z. part w₀ sequence j ++ (z ∷ [])) (part-at w₀ sequence k j h ∙ sym q-is))
+        ap (those empty) (part-more w₀ sequence j 0 (omega (arith, f .sequence-there .fits)) ∙ ap (λ z. part w₀ sequence j ++ (z ∷ [])) (part-at w₀ sequence k j h ∙ sym q-is))
         ∙ those-append empty (part w₀ sequence j) (q ∷ [])
 
     -- its row is empty: it is written

@@ -10,11 +10,10 @@ use lib.Seq.{getD-set-same, getD-set-other}
 use borrow.Author.Tests.{ne-eqb, eq-eqb}
 use Rattle.lineage.specs.Lists.{upto, any, among, part}
 use Rattle.numbers.specs.Regions.{Kept}
-use Rattle.numbers.proofs.Regions.{part-length, part-at, part-set, kept-same}
+use Rattle.numbers.proofs.Regions.{part-set, kept-same, kept-more}
 use Rattle.laws.proofs.Lists.{among-append, in-right, here, any-in, in-upto}
-use Rattle.rows.proofs.Regions.{kept-more}
+use Rattle.laws.proofs.Parts.{part-length, part-at, part-more}
 use Rattle.orders.specs.Stamped.{Stamped, lacks}
-use Rattle.orders.proofs.Lists.{part-snoc}
 
 among-other : (v u : ℕ) (xs : List ℕ) → (v ≡ u → ⊥) → among v (xs ++ (u ∷ [])) ≡ among v xs
 among-other v u xs ne = among-append v xs (u ∷ []) ∙ rw (ne-eqb v u ne) (or-false (among v xs))
@@ -49,7 +48,7 @@ module _
         rw e (record {
           kept = kept-more v stamp h (i .kept);
           stamped =
-              rw (part-set w base n v stamp h, part-snoc s at j inside)
+              rw (part-set w base n v stamp h, part-more s at j 0 inside)
               (stamped-more v (omega (arith, part-length w base n (omega (arith, i .kept .long)))) (i .stamped));
         })
 
@@ -57,7 +56,7 @@ module _
     stamping-past h e =
         rw e (record {
           kept = i .kept;
-          stamped = rw (part-snoc s at j inside) (stamped-past (getD s (at + j) 0) (omega (arith, part-length w₀ base n room)) (i .stamped));
+          stamped = rw (part-more s at j 0 inside) (stamped-past (getD s (at + j) 0) (omega (arith, part-length w₀ base n room)) (i .stamped));
         })
 
 pub stamping-all :

@@ -6,8 +6,8 @@ use lib.ListN.{length, getD}
 use Rattle.lineage.specs.Lists.{part}
 use Rattle.lineage.specs.Graph.{groupList, placeOf}
 use Rattle.lineage.specs.Labels.{Order}
-use Rattle.rows.specs.Regions.{Outside}
-use Rattle.rows.specs.Rows.{Below}
+use Rattle.laws.specs.Laid.{Below}
+use Rattle.numbers.specs.Regions.{Outside}
 
 -- an order of the n vertices at `at`; of each vertex the name and the place of its group
 pub record RankedFit (orders w : List ℕ) (at n names place base : ℕ) : Type 0 where

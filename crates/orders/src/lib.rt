@@ -71,7 +71,7 @@ pub fn bad_order(orders: &[u32], d: usize, n: usize, w: &mut [u32], base: usize)
     ensures { λ r. ⌜ r ≡ firstOf (badOrder n (now (orders .entry))) (upto d) d ⌝ }
     ensures { λ _. ⌜ Kept (now (w .entry)) (now (w .exit)) base n ⌝ }
 {
-    rows::clear(w, base, n);
+    numbers::clear_part(w, base, n);
     let mut i = 0;
     while i < d {
         let stamp = (i + 1) as u32;

@@ -1,5 +1,4 @@
 -- What the contracts of this crate and of those above say of rows.
-pub mod Regions
 pub mod Rows
 pub mod Passes
 pub mod Fit

@@ -9,8 +9,8 @@ use Rattle.lineage.specs.Numbers.{numbers}
 use Rattle.lineage.specs.Sound.{namesPass, rowPasses, levelPasses, groupsPass, startsPass}
 use Rattle.laws.proofs.Tests.{and-left, and-right}
 use Rattle.numbers.proofs.Numbers.{numbers-long}
-use Rattle.sections.specs.Sections.{childrenIn}
-use Rattle.sections.proofs.Sections.{children-long}
+use Rattle.stored.specs.Sections.{childrenIn}
+use Rattle.stored.proofs.Sections.{children-long}
 use Rattle.sound_groups.specs.Fit.{Children, Places, Groups}
 
 pub groups-is : (w n k c : ℕ) (names groups levels starts children : List ℕ)

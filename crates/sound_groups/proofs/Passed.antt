@@ -1,32 +1,18 @@
 -- A test of all numbers below n, gone through from 0 on: every number passed has passed it. It holds at the next number too, or that number breaks it.
 use mathlib.Core.Bool.{Bool, true, false, not, _&&_}
 use mathlib.Core.Path.{_≡_, refl}
-use Prim.Native.Nat.{ℕ, zero, suc, _+_, _≤_, _<_}
+use Prim.Native.Nat.{ℕ, _+_, _≤_, _<_}
 use native.Mathlib.Omega.{arith}
-use native.Mathlib.Decide.{ℕ-discrete}
-use native.Mathlib.Nat.{not-suc-le-zero}
 use native.Mathlib.Numerals.{add-one}
 use borrow.Author.Tests.{not-true, not-false}
 use Rattle.lineage.specs.Lists.{allBelow}
 use Rattle.laws.proofs.Tests.{and-both}
+use Rattle.laws.proofs.Lists.{all-broken}
 
 -- i of n numbers are gone through
 pub record Passed (p : ℕ → Bool) (n i : ℕ) : Type 0 where
   pub within : i ≤ n
   pub all : allBelow i p ≡ true
-
-pub and-false : (a : Bool) → (a && false) ≡ false
-and-false true = refl
-and-false false = refl
-
--- one number breaks the test of all
-pub all-broken : (p : ℕ → Bool) (n i : ℕ) → i < n → p i ≡ false → allBelow n p ≡ false
-all-broken p zero i h f = absurd (not-suc-le-zero h)
-all-broken p (suc n) i h f = at (ℕ-discrete i n) (all-broken p n i)
-  where
-    at : Dec (i ≡ n) → (i < n → p i ≡ false → allBelow n p ≡ false) → (allBelow n p && p n) ≡ false
-    at (yes e) ih = rw (← e, f) (and-false (allBelow i p))
-    at (no g) ih = rw (ih (omega arith) f)
 
 -- none is gone through, the next passes, all have passed
 pub passed-none : (p : ℕ → Bool) (n : ℕ) → Passed p n 0

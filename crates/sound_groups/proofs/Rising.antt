@@ -1,5 +1,5 @@
 -- A row gone through from its first child on: those passed are places, strictly rising, and the next is at least one more than the last.
-use mathlib.Core.Bool.{Bool, true, false, _&&_}
+use mathlib.Core.Bool.{Bool, true, false, _&&_, and-false}
 use mathlib.Core.Path.{_≡_, refl, ap}
 use mathlib.Core.List.{List, []}
 use Prim.Native.Nat.{ℕ, zero, suc, _+_, _-_, _≤_, _<_}
@@ -11,10 +11,11 @@ use borrow.Author.Tests.{lt-ltb, le-ltb}
 use Rattle.lineage.specs.Lists.{allBelow}
 use Rattle.lineage.specs.Sound.{rowPasses}
 use Rattle.laws.proofs.Tests.{and-both}
-use Rattle.sections.specs.Sections.{childrenIn}
-use Rattle.sections.proofs.Sections.{children-long}
+use Rattle.laws.proofs.Lists.{all-broken}
+use Rattle.stored.specs.Sections.{childrenIn}
+use Rattle.stored.proofs.Sections.{children-long}
 use Rattle.sound_groups.specs.Fit.{Row, Children}
-use Rattle.sound_groups.proofs.Passed.{Passed, passed-none, passed-next, passed-all, all-broken, and-false}
+use Rattle.sound_groups.proofs.Passed.{Passed, passed-none, passed-next, passed-all}
 use Rattle.sound_groups.proofs.Row.{row-has}
 
 -- child i is a place

@@ -11,9 +11,9 @@ use Rattle.lineage.specs.Lists.{allBelow}
 use Rattle.lineage.specs.Numbers.{Width, numAt}
 use Rattle.lineage.specs.Sound.{rowPasses}
 use Rattle.laws.proofs.Tests.{and-left, and-right}
-use Rattle.stored.proofs.Tests.{all-below}
-use Rattle.sections.specs.Sections.{childrenIn}
-use Rattle.sections.proofs.Sections.{children-long, row-long, row-at}
+use Rattle.laws.proofs.Lists.{all-below}
+use Rattle.stored.specs.Sections.{childrenIn}
+use Rattle.stored.proofs.Sections.{children-long, row-long, row-at}
 use Rattle.sound_groups.specs.Fit.{Row, Children, Places}
 use Rattle.sound_groups.proofs.Read.{can-read}
 use Rattle.sound_groups.proofs.Starts.{row-rises, row-within}

@@ -7,7 +7,7 @@ use lib.ListN.{length}
 use Rattle.lineage.specs.Lists.{allBelow}
 use Rattle.lineage.specs.Numbers.{Width, numAt, numbers}
 use Rattle.lineage.specs.Sound.{rowPasses, startsPass}
-use Rattle.sections.specs.Sections.{childrenIn}
+use Rattle.stored.specs.Sections.{childrenIn}
 
 -- a stretch holds a count of numbers of w bytes
 pub record Holds (w : ℕ) (stretch : List ℕ) (count : ℕ) : Type 0 where

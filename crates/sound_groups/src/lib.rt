@@ -7,7 +7,7 @@ ghost use Rattle.lineage.specs.Lists.{allBelow, sameList};
 ghost use Rattle.lineage.specs.Graph.{groupList};
 ghost use Rattle.lineage.specs.Numbers.{numbers};
 ghost use Rattle.lineage.specs.Sound.{namesPass, startsPass, rowPasses, levelPasses, groupsPass};
-ghost use Rattle.sections.specs.Sections.{childrenIn};
+ghost use Rattle.stored.specs.Sections.{childrenIn};
 ghost use Rattle.sound_groups.specs.Fit.{Holds, Starts, Rows, Row, Children, Places, Groups};
 ghost use Rattle.sound_groups.specs.Tests.{ownName, levelAbove};
 use numbers::num;

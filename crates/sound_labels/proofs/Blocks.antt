@@ -4,8 +4,8 @@ use mathlib.Core.List.{List}
 use Prim.Native.Nat.{ℕ, _+_, _-_, _*_, _<_}
 use Rattle.lineage.specs.Numbers.{numAt}
 use Rattle.lineage.specs.Sound.{childOf, walkEnds, blockPasses}
-use Rattle.sections.specs.Sections.{childrenIn, labellingIn}
-use Rattle.sections.proofs.Sections.{children-long}
+use Rattle.stored.specs.Sections.{childrenIn, labellingIn}
+use Rattle.stored.proofs.Sections.{children-long}
 use Rattle.sound_groups.specs.Fit.{Places}
 use Rattle.sound_labels.specs.Fit.{Ranked}
 use Rattle.sound_labels.proofs.Read.{m-was, e-was}

@@ -8,7 +8,7 @@ use borrow.Author.Tests.{lt-ltb, le-ltb}
 use Rattle.lineage.specs.Lists.{allBelow}
 use Rattle.lineage.specs.Numbers.{numAt}
 use Rattle.lineage.specs.Sound.{fallPasses}
-use Rattle.sections.specs.Sections.{childrenIn, labellingIn}
+use Rattle.stored.specs.Sections.{childrenIn, labellingIn}
 use Rattle.sound_groups.specs.Fit.{Row}
 use Rattle.sound_groups.proofs.Row.{row-has, child-was, child-low}
 use Rattle.sound_labels.specs.Fit.{Labelled}

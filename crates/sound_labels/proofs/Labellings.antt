@@ -7,7 +7,7 @@ use native.Mathlib.Omega.{arith}
 use Rattle.lineage.specs.Lists.{upto, allBelow, allOf}
 use Rattle.lineage.specs.Sound.{labelsPass}
 use Rattle.numbers.specs.Regions.{Part}
-use Rattle.sections.specs.Sections.{labellingIn, triplesOf, placesOf, labelsIn}
+use Rattle.stored.specs.Sections.{labellingIn, triplesOf, placesOf, labelsIn}
 use Rattle.sound_labels.specs.Fit.{Labels, Labellings}
 use Rattle.sound_labels.specs.Tests.{labellingPasses}
 

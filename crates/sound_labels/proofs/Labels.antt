@@ -7,8 +7,8 @@ use borrow.Author.Tests.{eq-eqb}
 use Rattle.lineage.specs.Lists.{allBelow}
 use Rattle.lineage.specs.Labels.{nobodysChild}
 use Rattle.lineage.specs.Sound.{walkEnds, rankPasses, fallPasses, outerPasses, innerPasses, blockPasses, labelsPass}
-use Rattle.sections.specs.Sections.{childrenIn, labellingIn}
-use Rattle.sections.proofs.Sections.{children-long, s-long, m-long, e-long, places-long}
+use Rattle.stored.specs.Sections.{childrenIn, labellingIn}
+use Rattle.stored.proofs.Sections.{children-long, s-long, m-long, e-long, places-long}
 
 module _ (w k c : ℕ) (starts children triples places : List ℕ) where
   pub labels-is :

@@ -1,27 +1,17 @@
--- Marks cleared, then set at each number of a list, one at a time; and what they then tell: the mark of p is 0 exactly where p does not stand in the list.
-use mathlib.Core.Bool.{true, not, _&&_}
+-- Marks set at each number of a list, one at a time; and what they then tell: the mark of p is 0 exactly where p does not stand in the list.
+use mathlib.Core.Bool.{true, not, _&&_, and-false}
 use mathlib.Core.Path.{_≡_, refl, sym, ap, _∙_}
 use mathlib.Core.List.{List, [], _∷_, _++_}
 use Prim.Native.Nat.{ℕ, suc, _+_, _≤_, _<_}
-use native.Mathlib.Omega.{arith}
 use native.Mathlib.Decide.{ℕ-discrete}
 use native.Mathlib.Numerals.{add-one}
-use lib.ListN.{length, getD, drop, set, replicate, length-set, length-append, length-drop, length-replicate, getD-replicate, drop-of-length-le, List·getD-append}
-use lib.Seq.{drop-cons, drop-at, drop-set-lt, getD-set-same, getD-set-other}
+use lib.ListN.{length, getD, drop, set, replicate, length-set, drop-of-length-le}
+use lib.Seq.{drop-cons, drop-set-lt, getD-set-same, getD-set-other}
 use borrow.Author.Tests.{eq-eqb, ne-eqb}
 use Rattle.lineage.specs.Lists.{among, cleared}
 use Rattle.laws.proofs.Lists.{here, there}
-use Rattle.sound_groups.proofs.Passed.{and-false}
+use Rattle.numbers.proofs.Cleared.{cleared-past}
 use Rattle.sound_labels.specs.Marks.{marked, unmarked}
-
--- marks cleared below n
-pub cleared-long : (n : ℕ) (marks : List ℕ) → n ≤ length marks → length (cleared n marks) ≡ length marks
-unfolding cleared
-cleared-long n marks h = omega (arith, length-append (replicate n 0) (drop n marks), length-replicate {A = ℕ} n 0, length-drop n marks)
-
-pub cleared-at : (n : ℕ) (marks : List ℕ) (p : ℕ) → p < n → getD (cleared n marks) p 0 ≡ 0
-unfolding cleared
-cleared-at n marks p h = List·getD-append (replicate n 0) (drop n marks) 0 p (omega (arith, length-replicate {A = ℕ} n 0)) ∙ getD-replicate n p 0 0 h
 
 -- j of the list are passed
 pub record Marking (qs first : List ℕ) (j : ℕ) (marks : List ℕ) : Type 0 where
@@ -64,4 +54,4 @@ pub marked-cleared : (qs : List ℕ) (n : ℕ) (marks : List ℕ) → ((q : ℕ)
 unfolding cleared
 marked-cleared qs n marks low =
     ap (λ (rest : List ℕ). replicate n 0 ++ rest)
-    (marked-past qs (cleared n marks) n low ∙ drop-at (replicate n 0) (drop n marks) n (length-replicate {A = ℕ} n 0))
+    (marked-past qs (cleared n marks) n low ∙ cleared-past n marks)

@@ -1,38 +1,26 @@
 -- Who is nobody's child, by marks. The rows joined are all child entries, so marking the entries on cleared marks tells it; and clearing again leaves
 -- nothing of it.
-use mathlib.Core.Bool.{Bool, true, not, _&&_, and-true, false≢true}
-use mathlib.Core.Logic.{inl, inr}
+use mathlib.Core.Bool.{Bool, true, not, _&&_, and-true}
 use mathlib.Core.Path.{_≡_, sym, ap, ap₂, _∙_}
-use mathlib.Core.List.{List, [], _∷_}
-use Prim.Native.Nat.{ℕ, suc, _+_, _≤_, _<_}
+use mathlib.Core.List.{List, []}
+use Prim.Native.Nat.{ℕ, _+_, _≤_, _<_}
 use native.Mathlib.Omega.{arith}
 use lib.ListN.{length, getD}
 use borrow.Author.Tests.{eq-eqb}
 use Rattle.lineage.specs.Lists.{among, position, joined, cleared}
 use Rattle.lineage.specs.Labels.{nobodysChild}
 use Rattle.lineage.specs.Numbers.{numAt, numbers}
-use Rattle.laws.proofs.Lists.{in-append, in-getD, position-low, at-position}
+use Rattle.laws.proofs.Lists.{in-getD, position-low, at-position}
+use Rattle.laws.proofs.Joined.{joined-in}
+use Rattle.laws.proofs.Starts.{pass-laid, rows-joined}
+use Rattle.numbers.proofs.Cleared.{cleared-long, cleared-at}
 use Rattle.numbers.proofs.Numbers.{numbers-long, numbers-at}
-use Rattle.sections.specs.Sections.{childrenIn}
-use Rattle.sections.proofs.Sections.{children-long}
-use Rattle.stored.proofs.Starts.{starts-rise, rows-joined}
+use Rattle.stored.specs.Sections.{childrenIn}
+use Rattle.stored.proofs.Sections.{children-long}
 use Rattle.sound_groups.specs.Fit.{Places}
 use Rattle.sound_groups.proofs.Row.{row-low}
 use Rattle.sound_labels.specs.Marks.{marked, unmarked, Tells}
-use Rattle.sound_labels.proofs.Marks.{cleared-long, cleared-at, marked-at, marked-long, marked-cleared}
-
--- what holds of each row's members holds of those of the rows joined
-pub joined-all : (Q : ℕ → Type 0) (rows : List (List ℕ))
-    → ((p : ℕ) → p < length rows → (x : ℕ) → among x (getD rows p []) ≡ true → Q x)
-    → (x : ℕ)
-    → among x (joined rows) ≡ true
-    → Q x
-joined-all Q [] all x i = absurd (false≢true i)
-joined-all Q (row ∷ rows) all x i =
-    elim (in-append x row (joined rows) i) [
-      | inl j ↦ all 0 (omega arith) x j
-      | inr j ↦ joined-all Q rows (λ p h. all (suc p) (omega arith)) x j
-    ]
+use Rattle.sound_labels.proofs.Marks.{marked-at, marked-long, marked-cleared}
 
 module _ {w k c : ℕ} {starts children : List ℕ} (P : Places w starts children k c) where
   abbrev rows : List (List ℕ)
@@ -44,15 +32,13 @@ module _ {w k c : ℕ} {starts children : List ℕ} (P : Places w starts childre
   -- the rows joined are the child entries
   pub joined-is : joined rows ≡ entries
   unfolding childrenIn
-  joined-is = rows-joined (starts-rise (numbers w starts (k + 1)) k c (P .entries .rows .passed)) entries (numbers-long w children c)
+  joined-is = rows-joined (pass-laid (numbers w starts (k + 1)) k c (P .entries .rows .passed) entries (numbers-long w children c))
 
   member-low : (x : ℕ) → among x entries ≡ true → x < k
   member-low x i =
-      joined-all (λ y. y < k) rows
-      (λ p h y j.
+      let (p, h, j) = joined-in rows x (rw joined-is i) in
       let low : p < k = omega (arith, children-long w starts children k c) in
-      rw (at-position y (getD rows p []) j) at (row-low P low (position y (getD rows p [])) (position-low y (getD rows p []) j)))
-      x (rw joined-is i)
+      rw (at-position x (getD rows p []) j) at (row-low P low (position x (getD rows p [])) (position-low x (getD rows p []) j))
 
   pub entry-low : (j : ℕ) → j < c → numAt w children j < k
   entry-low j h =

@@ -13,9 +13,9 @@ use Rattle.lineage.specs.Labels.{Labelling, nobodysChild}
 use Rattle.lineage.specs.Sound.{walkEnds, rankPasses, innerPasses}
 use Rattle.laws.proofs.Tests.{and-left, and-right}
 use Rattle.laws.proofs.Inverse.{rank-most}
-use Rattle.stored.proofs.Tests.{all-below}
-use Rattle.sections.specs.Sections.{labellingIn}
-use Rattle.sections.proofs.Sections.{places-long}
+use Rattle.laws.proofs.Lists.{all-below}
+use Rattle.stored.specs.Sections.{labellingIn}
+use Rattle.stored.proofs.Sections.{places-long}
 use Rattle.sound_groups.proofs.Passed.{answered}
 use Rattle.sound_labels.specs.Fit.{Labels, Ranked}
 use Rattle.sound_labels.specs.Marks.{unmarked, Tells}

@@ -8,7 +8,7 @@ use lib.Dec.{eqb, leb}
 use borrow.Author.Tests.{lt-ltb, le-ltb, le-leb, lt-leb}
 use Rattle.lineage.specs.Numbers.{numAt}
 use Rattle.lineage.specs.Sound.{rankPasses, innerPasses}
-use Rattle.sections.specs.Sections.{labellingIn}
+use Rattle.stored.specs.Sections.{labellingIn}
 use Rattle.sound_labels.specs.Fit.{Labels}
 use Rattle.sound_labels.proofs.Read.{m-was, e-was, place-was}
 

@@ -5,8 +5,8 @@ use Prim.Native.Nat.{ℕ, _+_, _*_, _<_}
 use native.Mathlib.Nat.{add-zero}
 use lib.ListN.{getD}
 use Rattle.lineage.specs.Numbers.{numAt}
-use Rattle.sections.specs.Sections.{labellingIn}
-use Rattle.sections.proofs.Sections.{s-at, m-at, e-at, place-at}
+use Rattle.stored.specs.Sections.{labellingIn}
+use Rattle.stored.proofs.Sections.{s-at, m-at, e-at, place-at}
 use Rattle.sound_labels.specs.Fit.{Labels}
 
 module _ {w k : ℕ} {triples places : List ℕ} (L : Labels w triples places k) where

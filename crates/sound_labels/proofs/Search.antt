@@ -10,7 +10,7 @@ use lib.ListN.{length, getD}
 use Rattle.lineage.specs.Lists.{among, position}
 use Rattle.laws.proofs.Tests.{is-false}
 use Rattle.laws.proofs.Lists.{in-getD, position-low, at-position}
-use Rattle.sections.specs.Sections.{childrenIn}
+use Rattle.stored.specs.Sections.{childrenIn}
 use Rattle.sound_groups.specs.Fit.{Places}
 use Rattle.sound_groups.proofs.Row.{row-up}
 

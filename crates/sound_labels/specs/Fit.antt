@@ -7,7 +7,7 @@ use lib.ListN.{length}
 use Rattle.lineage.specs.Lists.{allBelow}
 use Rattle.lineage.specs.Numbers.{Width}
 use Rattle.lineage.specs.Sound.{rankPasses, innerPasses}
-use Rattle.sections.specs.Sections.{labellingIn}
+use Rattle.stored.specs.Sections.{labellingIn}
 use Rattle.sound_groups.specs.Fit.{Holds, Places}
 
 -- a stretch holds the triples s, m, e of k groups

@@ -7,7 +7,7 @@ use lib.ListN.{getD}
 use Rattle.lineage.specs.Lists.{least}
 use Rattle.lineage.specs.Labels.{Labelling}
 use Rattle.lineage.specs.Sound.{labelsPass}
-use Rattle.sections.specs.Sections.{labellingIn, triplesOf, placesOf}
+use Rattle.stored.specs.Sections.{labellingIn, triplesOf, placesOf}
 
 -- e falls from p to child i of its row
 abbrev pub fallsTo : List (List ℕ) → Labelling → ℕ → ℕ → Bool

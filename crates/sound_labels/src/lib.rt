@@ -6,7 +6,7 @@ ghost use lib.ListN.{length};
 ghost use Rattle.lineage.specs.Lists.{allBelow, allOf, cleared};
 ghost use Rattle.lineage.specs.Numbers.{numAt, numbers};
 ghost use Rattle.lineage.specs.Sound.{childOf, walkEnds, rankPasses, fallPasses, outerPasses, innerPasses, blockPasses, labelsPass};
-ghost use Rattle.sections.specs.Sections.{childrenIn, labellingIn, labelsIn};
+ghost use Rattle.stored.specs.Sections.{childrenIn, labellingIn, labelsIn};
 ghost use Rattle.sound_groups.specs.Fit.{Places};
 ghost use Rattle.sound_labels.specs.Tests.{leastBelow, labellingPasses};
 ghost use Rattle.sound_labels.specs.Marks.{marked, unmarked, Within, Tells};
@@ -381,8 +381,8 @@ fn labelling_passes(
     requires { ⌜ j < d ⌝ }
     ensures { λ a. ⌜ a ≡ labellingPasses w (childrenIn w (now (starts .entry)) (now (children .entry)) k c) (now (labels .entry)) k j ⌝ }
 {
-    let triples = stored::sections::triples(labels, w, k, d, j);
-    let places = stored::sections::by_rank(labels, w, k, d, j);
+    let triples = stored::parts::triples(labels, w, k, d, j);
+    let places = stored::parts::by_rank(labels, w, k, d, j);
     labels_pass(starts, children, triples, places, marks, w, k, c)
 }
 

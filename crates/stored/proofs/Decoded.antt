@@ -13,14 +13,14 @@ use Rattle.lineage.specs.Numbers.{numbers, written}
 use Rattle.lineage.specs.Stored.{Form, Counts, sizes, offsets, startsFrom, labelNumbers, sections, countsOf, header, encode, headerAt, countsIn, formOf, stretch, section, labellingAt, decode}
 use Rattle.lineage.specs.Sound.{startsPass}
 use Rattle.lineage.specs.Calls.{indexIn}
-use Rattle.numbers.proofs.Tables.{table-long}
-use Rattle.numbers.proofs.Parts.{part-whole}
-use Rattle.numbers.proofs.Regions.{part-length}
+use Rattle.laws.specs.Laid.{Laid as LaidRows}
+use Rattle.laws.proofs.Lists.{table-long}
+use Rattle.laws.proofs.Parts.{part-whole, part-length}
+use Rattle.laws.proofs.Starts.{pass-laid, rows-joined, starts-again}
 use Rattle.numbers.proofs.Numbers.{numbers-long, numbers-part}
 use Rattle.numbers.proofs.Written.{Bytes, bytes-part, written-numbers}
 use Rattle.stored.specs.declared.header.Layout.{Layout}
 use Rattle.stored.specs.Header.{layoutIn, Laid}
-use Rattle.stored.proofs.Starts.{Rising, starts-rise, rows-joined, starts-again}
 use Rattle.stored.proofs.LabelNumbers.{labels-written}
 use Rattle.stored.proofs.Offsets.{cut, cut-joined, offsets-within}
 
@@ -86,16 +86,16 @@ module _ {b : List ℕ} {l : Layout} (L : Laid b l) (small : Bytes b) where
   section-long i = numbers-long w (stretch w a b i) (getD (sizes (a .n) (a .k) (a .c) (a .d)) i 0)
 
   module _ (starts : startsPass (section w a b 3) (a .k) (a .c) ≡ true) where
-    rising : Rising (section w a b 3) (a .k) (a .c)
-    rising = starts-rise (section w a b 3) (a .k) (a .c) starts
+    laid : LaidRows (section w a b 3) (section w a b 4) (a .k)
+    laid = pass-laid (section w a b 3) (a .k) (a .c) starts (section w a b 4) (section-long 4)
 
     starts-are : startsFrom 0 (indexIn b .children) ≡ section w a b 3
     unfolding decode
-    starts-are = starts-again rising (section w a b 4) (section-long 4) (omega (arith, section-long 3))
+    starts-are = starts-again laid (omega (arith, section-long 3))
 
     children-are : joined (indexIn b .children) ≡ section w a b 4
     unfolding decode
-    children-are = rows-joined rising (section w a b 4) (section-long 4)
+    children-are = rows-joined laid
 
     labels-are : joined (map (labelNumbers (length (indexIn b .groups))) (indexIn b .labels)) ≡ section w a b 5
     unfolding decode

@@ -13,18 +13,17 @@ use Rattle.lineage.specs.Labels.{Labelling}
 use Rattle.lineage.specs.Index.{Index}
 use Rattle.lineage.specs.Stored.{Form, Counts, sizes, offsets, offsetsFrom, totalLength, sections, startsFrom, countsOf, header, encode, headerAt, countsIn, formOf, isForm, countsFit, offsetsFit, stretch, section, rowAt, labellingAt, decode}
 use Rattle.lineage.specs.Calls.{answered, outcome, indexIn}
+use Rattle.laws.proofs.Lists.{getD-mapped, same-self}
+use Rattle.laws.proofs.Every.{every-at}
+use Rattle.laws.proofs.Starts.{starts-long, rows-read}
 use Rattle.numbers.specs.Put.{put}
 use Rattle.numbers.proofs.Put.{put-start}
-use Rattle.numbers.proofs.Tables.{getD-mapped}
-use Rattle.numbers.proofs.Blocks.{every-at}
-use Rattle.numbers.proofs.Written.{Below, written-long, num-front, written-at, numbers-written}
+use Rattle.numbers.proofs.Written.{written-long, num-front, written-at, numbers-written}
 use Rattle.stored.specs.Header.{layoutIn, offsetsIn, headerChecks, Laid}
 use Rattle.stored.specs.Fits.{Fits}
-use Rattle.stored.proofs.Tests.{same-self}
 use Rattle.stored.proofs.Forms.{Within, form-within}
 use Rattle.stored.proofs.Checked.{all-right}
 use Rattle.stored.proofs.Laid.{Bounded, fit-bounds, header-laid}
-use Rattle.stored.proofs.Starts.{starts-long, rows-read}
 use Rattle.stored.proofs.LabelNumbers.{labels-long, labels-read}
 use Rattle.stored.proofs.Offsets.{lengths, offsets-part, offsets-last, putSections, sections-put}
 
@@ -48,7 +47,7 @@ index-is : {I : Index} {names groups levels : List ℕ} {children : List (List �
 index-is e f g h i = rw (e, f, g, h, i)
 
 -- every number of a header within the bounds is of 32 bits
-pub header-fits : (F : Form) (a : Counts) → F .number < 2 ^ 32 → Bounded F a → Below (2 ^ 32) (header F a)
+pub header-fits : (F : Form) (a : Counts) → F .number < 2 ^ 32 → Bounded F a → Every (λ x. x < 2 ^ 32) (header F a)
 header-fits F a number B =
     let w = B .width .high in
     let vertices = mul-le-mul w (B .vertices) in
@@ -57,6 +56,18 @@ header-fits F a number B =
     let entries = mul-le-mul w (B .entries) in
     let labels = mul-le-mul w (mul-le-mul (B .most) (mul-le-mul-left 4 k)) in
     (number, (omega arith, (omega arith, (omega arith, (omega arith, (omega arith, (omega arith, (omega arith, (omega arith, (omega arith, (omega arith, (omega arith, tt))))))))))))
+
+-- a header whose numbers are of 32 bits is read again
+module _ (F : Form) (I : Index) (small : Every (λ x. x < 256 ^ 4) (header F (countsOf I))) where
+  pub header-again : (i : ℕ) → i < 12 → headerAt (encode F I) i ≡ getD (header F (countsOf I)) i 0
+  unfolding encode
+  header-again i h =
+      let numbers : List ℕ = header F (countsOf I) in
+      num-front 4 (written 4 numbers) (joined (map (written (F .width)) (sections I))) i (omega (arith, written-long 4 numbers))
+      ∙ written-at 4 numbers i small h
+
+  pub counts-again : countsIn (encode F I) ≡ countsOf I
+  counts-again = rw (header-again 1 (omega arith), header-again 2 (omega arith), header-again 3 (omega arith), header-again 4 (omega arith))
 
 module _ {F : Form} {I : Index} (E : Fits F I) where
   abbrev a : Counts
@@ -77,18 +88,15 @@ module _ {F : Form} {I : Index} (E : Fits F I) where
       rw (levels, starts, labels)
 
   -- the numbers of its header are of 32 bits
-  pub header-small : Below (256 ^ 4) (header F a)
+  pub header-small : Every (λ x. x < 256 ^ 4) (header F a)
   header-small = header-fits F a (within .number) bounded
 
   -- the header is read again
   pub header-read : (i : ℕ) → i < 12 → headerAt (encode F I) i ≡ getD (header F a) i 0
-  unfolding encode
-  header-read i h =
-      num-front 4 (written 4 (header F a)) (joined (map (written (F .width)) (sections I))) i (omega (arith, written-long 4 (header F a)))
-      ∙ written-at 4 (header F a) i header-small h
+  header-read = header-again F I header-small
 
   pub counts-read : countsIn (encode F I) ≡ a
-  counts-read = rw (header-read 1 (omega arith), header-read 2 (omega arith), header-read 3 (omega arith), header-read 4 (omega arith))
+  counts-read = counts-again F I header-small
 
   -- each section is read again
   stretch-read : (i : ℕ) → i < 6 → stretch (F .width) a (encode F I) i ≡ written (F .width) (getD (sections I) i [])

@@ -11,10 +11,10 @@ use lib.Seq.{take-all, drop-cons}
 use Rattle.lineage.specs.Lists.{upto, joined, part, Every}
 use Rattle.lineage.specs.Labels.{Labelling}
 use Rattle.lineage.specs.Stored.{triple, labelNumbers, labellingAt}
-use Rattle.numbers.proofs.Tables.{getD-mapped, table-long, table-at, table-is}
-use Rattle.numbers.proofs.Parts.{part-right, part-whole}
-use Rattle.numbers.proofs.Regions.{part-length, part-at}
-use Rattle.numbers.proofs.Blocks.{every-of, every-at, every-from, Sized, sized-map, blocks-long, block-at, blocks-of, take-block}
+use Rattle.laws.proofs.Lists.{getD-mapped, table-long, table-at, table-is}
+use Rattle.laws.proofs.Parts.{part-right, part-whole, part-length, part-at}
+use Rattle.laws.proofs.Every.{every-of, every-at, every-from}
+use Rattle.laws.proofs.Joined.{Sized, sized-map, blocks-long, block-at, blocks-of, take-block}
 use Rattle.stored.specs.Fits.{Full}
 use Rattle.stored.proofs.Held.{labelling-within}
 
@@ -52,14 +52,14 @@ module _ (k : ℕ) (l : Labelling) where
 module _ (k : ℕ) (l : Labelling) (h : Full k l) where
   s-read : map (λ p. getD (labelNumbers k l) (3 * p) 0) (upto k) ≡ l .s
   s-read =
-      table-is (λ p. getD (labelNumbers k l) (3 * p) 0) k (l .s) 0 (h .s)
+      table-is (λ p. getD (labelNumbers k l) (3 * p) 0) (l .s) k 0 (h .s)
       (λ p b. ap (λ (q : ℕ). getD (labelNumbers k l) q 0) (sym (add-zero (3 * p))) ∙ triple-at k l p 0 b (omega arith))
 
   m-read : map (λ p. getD (labelNumbers k l) (3 * p + 1) 0) (upto k) ≡ l .m
-  m-read = table-is (λ p. getD (labelNumbers k l) (3 * p + 1) 0) k (l .m) 0 (h .m) (λ p b. triple-at k l p 1 b (omega arith))
+  m-read = table-is (λ p. getD (labelNumbers k l) (3 * p + 1) 0) (l .m) k 0 (h .m) (λ p b. triple-at k l p 1 b (omega arith))
 
   e-read : map (λ p. getD (labelNumbers k l) (3 * p + 2) 0) (upto k) ≡ l .e
-  e-read = table-is (λ p. getD (labelNumbers k l) (3 * p + 2) 0) k (l .e) 0 (h .e) (λ p b. triple-at k l p 2 b (omega arith))
+  e-read = table-is (λ p. getD (labelNumbers k l) (3 * p + 2) 0) (l .e) k 0 (h .e) (λ p b. triple-at k l p 2 b (omega arith))
 
   labelling-read : (N : List ℕ) (j : ℕ) → part N (j * (4 * k)) (4 * k) ≡ labelNumbers k l → labellingAt k N j ≡ l
   unfolding labellingAt
@@ -90,7 +90,7 @@ module _ (k : ℕ) (ls : List Labelling) (h : Every (Full k) ls) where
 
   pub labels-read : map (labellingAt k (joined blocks)) (upto (length ls)) ≡ ls
   labels-read =
-      table-is (labellingAt k (joined blocks)) (length ls) ls none refl
+      table-is (labellingAt k (joined blocks)) ls (length ls) none refl
       (λ j l. labelling-read k (getD ls j none) (every-at (Full k) ls j none h l) (joined blocks) j (own-block j l))
 
 -- the section of the labellings that were read

@@ -11,9 +11,10 @@ use Rattle.lineage.specs.Lists.{sameList}
 use Rattle.lineage.specs.Numbers.{Width}
 use Rattle.lineage.specs.Stored.{Form, Counts, headerAt, countsIn, formOf, isForm, countsFit, offsetsFit}
 use Rattle.lineage.specs.Calls.{answered, refuse, outcome}
+use Rattle.laws.proofs.Tests.{neither, both}
+use Rattle.laws.proofs.Lists.{same-list}
 use Rattle.stored.specs.declared.header.Layout.{Layout}
 use Rattle.stored.specs.Header.{layoutIn, offsetsIn, offsetsOf, offsetsAgree, headerChecks, Laid}
-use Rattle.stored.proofs.Tests.{neither, both, same-list}
 use Rattle.stored.proofs.Forms.{Within, form-within}
 
 -- counts that fit a form

@@ -1,12 +1,11 @@
 -- The laws of the stored form.
-pub mod Tests
 pub mod Checks
 pub mod Forms
 pub mod Checked
 pub mod Laid
 pub mod Stretches
 pub mod Held
-pub mod Starts
+pub mod Sections
 pub mod LabelNumbers
 pub mod Offsets
 pub mod Encoded

@@ -8,10 +8,10 @@ use lib.ListN.{length, getD, take, length-append}
 use Rattle.lineage.specs.Lists.{joined, part}
 use Rattle.lineage.specs.Numbers.{written}
 use Rattle.lineage.specs.Stored.{offsetsFrom, totalLength}
+use Rattle.laws.proofs.Parts.{part-left, part-right, part-whole}
+use Rattle.laws.proofs.Joined.{take-block}
 use Rattle.numbers.specs.Put.{put}
 use Rattle.numbers.proofs.Put.{put-next}
-use Rattle.numbers.proofs.Parts.{part-left, part-right, part-whole}
-use Rattle.numbers.proofs.Blocks.{take-block}
 use Rattle.numbers.proofs.Written.{written-long}
 
 abbrev pub lengths : List (List ℕ) → List ℕ

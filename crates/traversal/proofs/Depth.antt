@@ -5,11 +5,11 @@ use Prim.Native.Nat.{ℕ, zero, suc, _+_, _*_, _^_, _≤_, _<_}
 use native.Mathlib.Omega.{arith}
 use lib.ListN.{length, getD}
 use Rattle.lineage.specs.Lists.{part}
+use Rattle.laws.specs.Laid.{Below}
+use Rattle.laws.proofs.Parts.{part-length}
+use Rattle.laws.proofs.Laid.{start-low}
 use Rattle.numbers.specs.Regions.{Kept}
-use Rattle.numbers.proofs.Regions.{part-length}
-use Rattle.rows.specs.Rows.{Below}
-use Rattle.rows.proofs.Regions.{read-at}
-use Rattle.rows.proofs.Laid.{start-low}
+use Rattle.numbers.proofs.Regions.{read-at}
 use Rattle.traversal.specs.Frames.{rowPlace, rowEnd}
 use Rattle.traversal.specs.Fit.{TraverseFit}
 use Rattle.traversal.proofs.Tasks.{rowList}

@@ -6,10 +6,9 @@ use native.Mathlib.Omega.{arith}
 use lib.ListN.{replicate}
 use Rattle.lineage.specs.Lists.{part}
 use Rattle.lineage.specs.Labels.{traverse}
+use Rattle.laws.proofs.Laid.{below-in}
 use Rattle.numbers.specs.Regions.{Kept}
-use Rattle.numbers.proofs.Regions.{kept-then, kept-wider}
-use Rattle.rows.proofs.Regions.{kept-apart, outside-kept}
-use Rattle.rows.proofs.Laid.{below-in}
+use Rattle.numbers.proofs.Regions.{kept-then, kept-wider, kept-apart, outside-kept}
 use Rattle.rows.specs.Rows.{rowsIn}
 use Rattle.traversal.specs.Lows.{Traversed}
 use Rattle.traversal.specs.Fit.{TraverseFit}

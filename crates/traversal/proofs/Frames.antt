@@ -5,9 +5,9 @@ use Prim.Native.Nat.{ℕ, zero, suc, _+_, _*_, _-_, _≤_, _<_}
 use native.Mathlib.Omega.{arith}
 use lib.ListN.{length, getD, set, length-set}
 use Rattle.lineage.specs.Lists.{part}
+use Rattle.laws.proofs.Parts.{part-at}
 use Rattle.numbers.specs.Regions.{Kept}
-use Rattle.numbers.proofs.Regions.{part-at, part-set, part-over, part-under, kept-set, kept-then}
-use Rattle.rows.proofs.Regions.{part-more}
+use Rattle.numbers.proofs.Regions.{part-set, part-over, part-under, kept-set, kept-then, part-longer}
 use Rattle.traversal.specs.Frames.{opened, closed, rowPlace, rowEnd}
 
 -- above the first frame
@@ -83,10 +83,10 @@ module _ (w : List ℕ) (base n d k : ℕ) (room : base + 6 * n ≤ length w) (h
   pub closed-out : part (closed w base n d k) (base + 4 * n) (k + 1) ≡ part w (base + 4 * n) k ++ (getD (part w (base + n) n) d 0 ∷ [])
   closed-out =
       part-over _ (base + 4 * n) (k + 1) (base + 5 * n + k) _ (omega arith)
-      ∙ part-more w (base + 4 * n) k (getD w (base + n + d) 0) (omega arith)
+      ∙ part-longer w (base + 4 * n) k (getD w (base + n + d) 0) (omega arith)
       ∙ ap (λ z. part w (base + 4 * n) k ++ (z ∷ [])) (part-at w (base + n) n d hd)
 
   pub closed-low : part (closed w base n d k) (base + 5 * n) (k + 1) ≡ part w (base + 5 * n) k ++ (getD (part w (base + 3 * n) n) d 0 ∷ [])
   closed-low =
-      part-more _ (base + 5 * n) k (getD w (base + 3 * n + d) 0) (rw (length-set w (base + 4 * n + k) (getD w (base + n + d) 0)) (omega arith))
+      part-longer _ (base + 5 * n) k (getD w (base + 3 * n + d) 0) (rw (length-set w (base + 4 * n + k) (getD w (base + n + d) 0)) (omega arith))
       ∙ ap₂ (λ y z. y ++ (z ∷ [])) (part-under w (base + 5 * n) k (base + 4 * n + k) _ (omega arith)) (part-at w (base + 3 * n) n d hd)

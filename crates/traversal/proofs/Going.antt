@@ -11,11 +11,11 @@ use lib.ListN.{length, getD, set}
 use lib.Seq.{getD-set-same, getD-set-other}
 use Rattle.lineage.specs.Lists.{part}
 use Rattle.lineage.specs.Stored.{rowAt}
+use Rattle.laws.proofs.Parts.{part-length, part-at}
+use Rattle.laws.proofs.Laid.{start-low}
 use Rattle.numbers.specs.Regions.{Kept}
-use Rattle.numbers.proofs.Regions.{part-length, part-at, kept-same, kept-then}
+use Rattle.numbers.proofs.Regions.{kept-same, kept-then, kept-apart, read-at}
 use Rattle.rows.specs.Rows.{rowsIn}
-use Rattle.rows.proofs.Regions.{kept-apart, read-at}
-use Rattle.rows.proofs.Laid.{start-low}
 use Rattle.traversal.specs.Frames.{opened, closed, rowPlace, rowEnd}
 use Rattle.traversal.specs.Fit.{TraverseFit}
 use Rattle.traversal.proofs.Machine.{try, finish, State, Runs, pass, go-in, go-out, tries, fresh, fresh-mark, fresh-le}

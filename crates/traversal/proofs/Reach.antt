@@ -9,13 +9,13 @@ use Rattle.lineage.specs.Lists.{among, upto}
 use Rattle.lineage.specs.Stored.{rowAt}
 use Rattle.lineage.specs.Labels.{Forest, finished, traverse}
 use Rattle.laws.specs.Visits.{Visits, over, skip, enter}
+use Rattle.laws.specs.Laid.{Below}
 use Rattle.laws.proofs.Lists.{here, there, in-upto, upto-low, length-upto}
 use Rattle.laws.proofs.Rising.{pigeonhole, rises-upto, rises-distinct}
 use Rattle.laws.proofs.Traversal.{unique, made, unseen-none}
 use Rattle.laws.proofs.Visited.{held, listed, distinct, from-todo}
 use Rattle.laws.proofs.Closed.{leads-keeps}
-use Rattle.rows.specs.Rows.{Below}
-use Rattle.rows.proofs.Laid.{below-in, part-below}
+use Rattle.laws.proofs.Laid.{below-in, part-below}
 
 -- every vertex that a row leads to is below n
 abbrev pub Inside : ℕ → (ℕ → List ℕ) → Type 0

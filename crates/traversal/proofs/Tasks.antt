@@ -6,7 +6,7 @@ use native.Mathlib.Omega.{arith}
 use lib.ListN.{length, getD, set, take}
 use lib.Seq.{getD-set-same, getD-set-other, take-all}
 use Rattle.lineage.specs.Lists.{part}
-use Rattle.rows.proofs.Regions.{part-first, part-empty}
+use Rattle.laws.proofs.Parts.{part-first, part-empty}
 use Rattle.traversal.specs.Frames.{rowEnd}
 use Rattle.traversal.proofs.Machine.{Task, try, finish, tries}
 

@@ -3,8 +3,8 @@ use mathlib.Core.List.{List}
 use Prim.Native.Nat.{ℕ, _+_, _*_, _^_, _≤_, _<_}
 use lib.ListN.{length}
 use Rattle.lineage.specs.Lists.{part}
-use Rattle.rows.specs.Regions.{Outside}
-use Rattle.rows.specs.Rows.{Below, Laid}
+use Rattle.laws.specs.Laid.{Below, Laid}
+use Rattle.numbers.specs.Regions.{Outside}
 
 -- n rows of c vertices and q roots lie outside the window of 6n words from base on
 pub record TraverseFit (w : List ℕ) (starts values c roots q n base : ℕ) : Type 0 where

@@ -136,6 +136,6 @@ pub fn traverse(
         n
         r ⌝ }
 {
-    rows::clear(w, base, n);
+    numbers::clear_part(w, base, n);
     run(w, starts, values, c, roots, q, n, base)
 }

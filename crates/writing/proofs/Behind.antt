@@ -1,18 +1,16 @@
 -- Numbers written one behind the other into lent bytes: three of them, blocks of one size, sections.
 use mathlib.Core.Path.{_≡_, sym, ap, ap₂, _∙_}
 use mathlib.Core.List.{List, [], _∷_, _++_, map, append-assoc, append-nil}
-use Prim.Native.Nat.{ℕ, zero, suc, _+_, _*_, _≤_, _<_}
+use Prim.Native.Nat.{ℕ, _+_, _*_, _≤_, _<_}
 use native.Mathlib.Omega.{arith}
 use native.Mathlib.Numerals.{add-one}
-use native.Mathlib.Nat.{mul-zero, mul-suc}
 use lib.ListN.{length, take, drop, length-append}
 use lib.Seq.{length-take-le, drop-at}
 use Rattle.lineage.specs.Lists.{upto, joined}
 use Rattle.lineage.specs.Numbers.{leBytes, written}
+use Rattle.laws.proofs.Joined.{joined-more, table-blocks-long}
 use Rattle.numbers.specs.Put.{put}
 use Rattle.numbers.proofs.Put.{put-none, put-start, put-next}
-use Rattle.numbers.proofs.Blocks.{joined-more}
-use Rattle.numbers.proofs.Numbers.{bytes-long}
 use Rattle.numbers.proofs.Written.{written-long, written-append}
 use Rattle.stored.proofs.Offsets.{putSections}
 
@@ -65,12 +63,6 @@ module _ (w at : ℕ) (block : ℕ → List ℕ) (s : List ℕ) where
   blocks-none = sym (put-none s at)
 
   module _ (size : ℕ) where
-    pub blocks-long : (i : ℕ) → ((j : ℕ) → j < i → length (block j) ≡ size) → length (joined (map block (upto i))) ≡ size * i
-    blocks-long zero sized = sym (mul-zero size)
-    blocks-long (suc i) sized =
-        ap length (joined-more block i)
-        ∙ omega (arith, length-append (joined (map block (upto i))) (block i), blocks-long i (λ j h. sized j (omega arith)), sized i (omega arith), mul-suc size i)
-
     pub blocks-more : (t : List ℕ) (p i : ℕ)
         → ((j : ℕ) → j < i → length (block j) ≡ size)
         → t ≡ blocksPut i
@@ -78,7 +70,7 @@ module _ (w at : ℕ) (block : ℕ → List ℕ) (s : List ℕ) where
         → p ≤ length s
         → put t p (written w (block i)) ≡ blocksPut (i + 1)
     blocks-more t p i sized e here fits =
-        let long : w * length (joined (map block (upto i))) ≡ w * (size * i) = ap (λ (n : ℕ). w * n) (blocks-long i sized) in
+        let long : w * length (joined (map block (upto i))) ≡ w * (size * i) = ap (λ (n : ℕ). w * n) (table-blocks-long block size i sized) in
         let next : joined (map block (upto i)) ++ block i ≡ joined (map block (upto (i + 1))) =
         sym (ap (λ (n : ℕ). joined (map block (upto n))) (add-one i) ∙ joined-more block i) in
         ap (λ (z : List ℕ). put z p (written w (block i))) e

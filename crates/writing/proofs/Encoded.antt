@@ -2,7 +2,7 @@
 -- labels, the offsets that the counts give are where each part begins and where all ends.
 use mathlib.Core.Path.{_≡_, sym, ap, _∙_}
 use mathlib.Core.List.{List, [], _∷_, _++_, map, append-assoc, append-nil}
-use Prim.Native.Nat.{ℕ, _+_, _*_, _≤_}
+use Prim.Native.Nat.{ℕ, _+_, _≤_}
 use native.Mathlib.Omega.{arith}
 use lib.ListN.{length, getD, drop, length-append}
 use Rattle.lineage.specs.Lists.{joined, Every}
@@ -10,11 +10,11 @@ use Rattle.lineage.specs.Numbers.{written}
 use Rattle.lineage.specs.Index.{Index}
 use Rattle.lineage.specs.Stored.{Form, Counts, sizes, offsets, offsetsFrom, startsFrom, labelNumbers, sections, countsOf, header, encode}
 use Rattle.lineage.specs.Calls.{lengthOf}
+use Rattle.laws.proofs.Starts.{starts-long}
 use Rattle.numbers.specs.Put.{put}
 use Rattle.numbers.proofs.Put.{put-start}
 use Rattle.numbers.proofs.Written.{written-long}
 use Rattle.stored.specs.Fits.{Full}
-use Rattle.stored.proofs.Starts.{starts-long}
 use Rattle.stored.proofs.LabelNumbers.{labels-long}
 use Rattle.stored.proofs.Offsets.{lengths, offsets-last}
 use Rattle.writing.proofs.Behind.{put-before}

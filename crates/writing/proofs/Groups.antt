@@ -3,11 +3,11 @@ use mathlib.Core.Path.{_≡_, refl, sym, ap, _∙_}
 use mathlib.Core.List.{List, [], _∷_, _++_, map}
 use Prim.Native.Nat.{ℕ, _+_, _*_, _≤_}
 use native.Mathlib.Omega.{arith}
-use lib.ListN.{length, length-append}
+use lib.ListN.{length}
 use Rattle.lineage.specs.Lists.{joined, part}
 use Rattle.lineage.specs.Numbers.{written}
+use Rattle.laws.proofs.Parts.{part-length}
 use Rattle.numbers.specs.Put.{put}
-use Rattle.numbers.proofs.Regions.{part-length}
 use Rattle.numbers.proofs.Written.{written-long}
 use Rattle.stored.specs.declared.header.Layout.{Layout}
 use Rattle.stored.specs.Header.{counts, layoutBy, headerOf}

@@ -3,7 +3,7 @@ use Prim.Native.Nat.{_-_, _≤_}
 use native.Mathlib.Omega.{arith}
 use borrow.Author.Needs.{needs}
 use Rattle.lineage.specs.Lists.{part}
-use Rattle.rows.proofs.Regions.{Written}
+use Rattle.numbers.proofs.Regions.{Written}
 use Rattle.condense.proofs.Reversing.{lasts, reversing-none, reversing-more, reversing-all}
 use Rattle.condense.proofs.reversed.Statement.{statement}
 use Rattle.condense.proofs.reversed.Tie as tie

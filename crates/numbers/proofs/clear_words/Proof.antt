@@ -1,6 +1,7 @@
--- `numbers::clear_words` meets its contract: zeros put at the start are the first words set to 0.
-use Rattle.numbers.proofs.Cleared.{zeros-first}
+-- `numbers::clear_words` meets its contract: the first n words are 0, and no other is touched.
+use native.Mathlib.Omega.{arith}
 use borrow.Author.Needs.{needs}
+use Rattle.numbers.proofs.Cleared.{cleared-first}
 use Rattle.numbers.proofs.clear_words.Statement.{statement}
 use Rattle.numbers.proofs.clear_words.Tie as tie
 
@@ -11,7 +12,7 @@ same-length : tie.Need-same-length
 same-length c = search needs
 
 returns : tie.Need-returns
-returns c = zeros-first _ _ _ (c .before .before .clear-part .ensures)
+returns c = let e = c .before .before .clear-part .ensures in cleared-first _ _ _ (omega arith) (e .0) (e .1)
 
 pub clear-words-spec : {M : Type 1} → statement M
 clear-words-spec = tie.close (tie.spec clear-part-requires same-length returns)

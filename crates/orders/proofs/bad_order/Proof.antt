@@ -21,16 +21,16 @@ abbrev start : tie.At-loop Inv-loop μ-loop → tie.Start Inv-loop μ-loop
 start l = l .before .before .before .before .before .before .before
 
 room : (l : tie.At-loop Inv-loop μ-loop) → start l .args .base + start l .args .n ≤ length (l .loop .w)
-room l = omega (arith, start l .pre, l .before .before .before .clear .ensures .0 .long, l .loop .inv .1 .kept .long)
+room l = omega (arith, start l .pre, l .before .before .before .clear-part .ensures .0 .long, l .loop .inv .1 .kept .long)
 
 inside : (c : tie.In-loop Inv-loop μ-loop) → let a = start (c .before) .args in c .before .loop .i * a .n + a .n ≤ length (a .orders .now)
 inside c = let s = start (c .before) in omega (arith, s .pre, order-room (c .before .loop .i) (s .args .d) (s .args .n) (c .loop-test .taken))
 
-clear-requires : tie.Need-clear-requires Inv-loop μ-loop
-clear-requires c κs = search needs
+clear-part-requires : tie.Need-clear-part-requires Inv-loop μ-loop
+clear-part-requires c κs = search needs
 
 loop-holds : tie.Need-loop-holds Inv-loop μ-loop
-loop-holds c = (omega arith, tried-none _ _ _ _ (c .before .before .clear .ensures .1))
+loop-holds c = (omega arith, tried-none _ _ _ _ (c .before .before .clear-part .ensures .1))
 
 add-stamp : tie.Need-add-stamp Inv-loop μ-loop
 add-stamp c = search needs
@@ -55,7 +55,7 @@ returns c =
     let o = c .before in
     let l = o .before .before .before .before .before .before .before in
     let s = o .before .before .before .before .stamp-order in
-    (none-found (start l .args .d) (l .loop .inv .1 .passed) (omega arith) (tried-bad (room l) (l .loop .inv .1) (s .ensures .0) (s .ensures .1) _ (o .one-lacks .ensures) (c .if1 .taken)), kept-then (l .before .before .before .clear .ensures .0) (kept-then (l .loop .inv .1 .kept) (s .ensures .0)))
+    (none-found (start l .args .d) (l .loop .inv .1 .passed) (omega arith) (tried-bad (room l) (l .loop .inv .1) (s .ensures .0) (s .ensures .1) _ (o .one-lacks .ensures) (c .if1 .taken)), kept-then (l .before .before .before .clear-part .ensures .0) (kept-then (l .loop .inv .1 .kept) (s .ensures .0)))
 
 add-i : tie.Need-add-i Inv-loop μ-loop
 add-i c = search needs
@@ -76,7 +76,7 @@ same-length-2 c = search needs
 returns-2 : tie.Need-returns-2 Inv-loop μ-loop
 returns-2 c =
     let l = c .before in
-    (none-all (start l .args .d) (l .loop .inv .1 .passed) (omega arith) (omega arith), kept-then (l .before .before .before .clear .ensures .0) (l .loop .inv .1 .kept))
+    (none-all (start l .args .d) (l .loop .inv .1 .passed) (omega arith) (omega arith), kept-then (l .before .before .before .clear-part .ensures .0) (l .loop .inv .1 .kept))
 
 pub bad-order-spec : {M : Type 1} → statement M
 bad-order-spec =
@@ -84,7 +84,7 @@ bad-order-spec =
     (tie.spec
     Inv-loop
     μ-loop
-    clear-requires
+    clear-part-requires
     loop-holds
     add-stamp
     cast-stamp

@@ -6,7 +6,7 @@ use native.Mathlib.Omega.{arith}
 use native.Mathlib.Numerals.{add-one}
 use lib.ListN.{getD}
 use Rattle.lineage.specs.Numbers.{numbers}
-use Rattle.sections.specs.Sections.{childrenIn}
+use Rattle.stored.specs.Sections.{childrenIn}
 use Rattle.sound_groups.proofs.Read.{can-read, was-read}
 use Rattle.sound_groups.proofs.Row.{can-read-child, row-has, child-was, child-low}
 use Rattle.sound_groups.proofs.Greatest.{Greatest, greatest-none, greatest-more, greatest-all}

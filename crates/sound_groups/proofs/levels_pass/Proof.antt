@@ -4,7 +4,7 @@ use Prim.Native.Nat.{_-_}
 use native.Mathlib.Omega.{arith}
 use Rattle.lineage.specs.Numbers.{numbers}
 use Rattle.lineage.specs.Sound.{levelPasses}
-use Rattle.sections.specs.Sections.{childrenIn}
+use Rattle.stored.specs.Sections.{childrenIn}
 use Rattle.sound_groups.proofs.Passed.{Passed, passed-none, passed-more, passed-all, passed-not}
 use Rattle.sound_groups.proofs.levels_pass.Statement.{statement}
 use Rattle.sound_groups.proofs.levels_pass.Tie as tie

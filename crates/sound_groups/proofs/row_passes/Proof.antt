@@ -4,11 +4,11 @@ use mathlib.Core.List.{[]}
 use Prim.Native.Nat.{_-_}
 use native.Mathlib.Omega.{arith}
 use lib.ListN.{getD}
-use Rattle.sections.specs.Sections.{childrenIn}
 use Rattle.sound_groups.proofs.Row.{can-read-child, child-was}
 use Rattle.sound_groups.proofs.Rising.{Rising, rising-none, rising-more, rising-high, rising-back, rising-all, row-passes-is}
 use Rattle.sound_groups.proofs.row_passes.Statement.{statement}
 use Rattle.sound_groups.proofs.row_passes.Tie as tie
+use Rattle.stored.specs.Sections.{childrenIn}
 
 abbrev Inv-loop : tie.InvT-loop
 Inv-loop starts children w k c p from len i₀ next₀ i next = Rising k (getD (childrenIn w starts children k c) p []) len i next

@@ -3,7 +3,7 @@ use mathlib.Core.Path.{sym}
 use Prim.Native.Nat.{_-_}
 use native.Mathlib.Omega.{arith}
 use Rattle.lineage.specs.Sound.{rowPasses}
-use Rattle.sections.specs.Sections.{childrenIn}
+use Rattle.stored.specs.Sections.{childrenIn}
 use Rattle.sound_groups.proofs.Passed.{Passed, passed-none, passed-more, passed-all, passed-not}
 use Rattle.sound_groups.proofs.rows_pass.Statement.{statement}
 use Rattle.sound_groups.proofs.rows_pass.Tie as tie

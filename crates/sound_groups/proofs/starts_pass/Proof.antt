@@ -2,7 +2,8 @@
 use Prim.Native.Nat.{_+_, _-_}
 use native.Mathlib.Omega.{arith}
 use Rattle.lineage.specs.Numbers.{numbers}
-use Rattle.sound_groups.proofs.Passed.{Passed, all-broken, passed-none, passed-next, passed-all}
+use Rattle.laws.proofs.Lists.{all-broken}
+use Rattle.sound_groups.proofs.Passed.{Passed, passed-none, passed-next, passed-all}
 use Rattle.sound_groups.proofs.Read.{can-read}
 use Rattle.sound_groups.proofs.Starts.{notFalling, start-keeps, start-falls, starts-wrong, starts-fall, starts-end}
 use Rattle.sound_groups.proofs.starts_pass.Statement.{statement}

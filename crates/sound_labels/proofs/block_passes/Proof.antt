@@ -3,7 +3,7 @@
 use mathlib.Core.Path.{_∙_}
 use native.Mathlib.Omega.{arith}
 use Rattle.lineage.specs.Sound.{childOf}
-use Rattle.sections.specs.Sections.{childrenIn, labellingIn}
+use Rattle.stored.specs.Sections.{childrenIn, labellingIn}
 use Rattle.sound_groups.proofs.Passed.{answered, refused}
 use Rattle.sound_groups.proofs.Read.{can-read}
 use Rattle.sound_labels.proofs.Read.{m-was, place-was}

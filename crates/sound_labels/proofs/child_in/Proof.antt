@@ -3,11 +3,11 @@ use mathlib.Core.List.{[]}
 use Prim.Native.Nat.{_-_}
 use native.Mathlib.Omega.{arith}
 use lib.ListN.{getD}
-use Rattle.sections.specs.Sections.{childrenIn}
 use Rattle.sound_groups.proofs.Row.{can-read-child, row-has, child-was}
 use Rattle.sound_labels.proofs.Search.{Between, between-all, between-right, between-left, between-here, between-none, row-climbs}
 use Rattle.sound_labels.proofs.child_in.Statement.{statement}
 use Rattle.sound_labels.proofs.child_in.Tie as tie
+use Rattle.stored.specs.Sections.{childrenIn}
 
 abbrev Inv-loop : tie.InvT-loop
 Inv-loop starts children w k c p q from low₀ high₀ low high = Between (getD (childrenIn w starts children k c) p []) q low high

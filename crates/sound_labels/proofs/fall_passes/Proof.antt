@@ -2,8 +2,9 @@
 use mathlib.Core.Path.{sym, _∙_}
 use Prim.Native.Nat.{_-_}
 use native.Mathlib.Omega.{arith}
-use Rattle.sections.specs.Sections.{childrenIn, labellingIn}
-use Rattle.sound_groups.proofs.Passed.{Passed, all-broken, passed-none, passed-next, passed-all}
+use Rattle.laws.proofs.Lists.{all-broken}
+use Rattle.stored.specs.Sections.{childrenIn, labellingIn}
+use Rattle.sound_groups.proofs.Passed.{Passed, passed-none, passed-next, passed-all}
 use Rattle.sound_groups.proofs.Row.{can-read-child, child-low}
 use Rattle.sound_labels.specs.Tests.{fallsTo}
 use Rattle.sound_labels.proofs.Falls.{fall-is, falls, falls-not}

@@ -2,12 +2,12 @@
 use mathlib.Core.Path.{sym, _∙_}
 use Prim.Native.Nat.{_-_}
 use native.Mathlib.Omega.{arith}
-use Rattle.sections.specs.Sections.{childrenIn}
 use Rattle.sound_labels.specs.Tests.{labellingPasses}
 use Rattle.sound_labels.proofs.Labellings.{labellings-are}
 use Rattle.sound_groups.proofs.Passed.{Passed, passed-none, passed-more, passed-all, passed-not}
 use Rattle.sound_labels.proofs.labellings_pass.Statement.{statement}
 use Rattle.sound_labels.proofs.labellings_pass.Tie as tie
+use Rattle.stored.specs.Sections.{childrenIn}
 
 abbrev Inv-loop : tie.InvT-loop
 Inv-loop starts children labels marks w k c d j₀ j = Passed (labellingPasses w (childrenIn w starts children k c) labels k) d j

@@ -3,12 +3,12 @@ use mathlib.Core.List.{[]}
 use Prim.Native.Nat.{_-_}
 use native.Mathlib.Omega.{arith}
 use lib.ListN.{getD}
-use Rattle.sections.specs.Sections.{childrenIn, labellingIn}
 use Rattle.sound_groups.proofs.Row.{can-read-child, row-has, child-was, child-low}
 use Rattle.sound_labels.proofs.Read.{s-was, e-was}
 use Rattle.sound_labels.proofs.Least.{Least, least-none, least-more, least-all}
 use Rattle.sound_labels.proofs.least_below.Statement.{statement}
 use Rattle.sound_labels.proofs.least_below.Tie as tie
+use Rattle.stored.specs.Sections.{childrenIn, labellingIn}
 
 abbrev Inv-loop : tie.InvT-loop
 Inv-loop starts children triples places w k c p from len s₀ i₀ s i =

@@ -3,7 +3,7 @@ use mathlib.Core.Path.{sym}
 use Prim.Native.Nat.{_-_}
 use native.Mathlib.Omega.{arith}
 use Rattle.lineage.specs.Sound.{outerPasses}
-use Rattle.sections.specs.Sections.{childrenIn, labellingIn}
+use Rattle.stored.specs.Sections.{childrenIn, labellingIn}
 use Rattle.sound_groups.proofs.Passed.{Passed, passed-none, passed-more, passed-all, passed-not}
 use Rattle.sound_labels.proofs.outers_pass.Statement.{statement}
 use Rattle.sound_labels.proofs.outers_pass.Tie as tie

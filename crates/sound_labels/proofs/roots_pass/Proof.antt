@@ -2,7 +2,6 @@
 use mathlib.Core.Path.{sym, _∙_}
 use native.Mathlib.Omega.{arith}
 use borrow.Author.Tests.{eq-eqb, ne-eqb}
-use Rattle.sections.specs.Sections.{labellingIn}
 use Rattle.sound_groups.proofs.Read.{can-read}
 use Rattle.sound_labels.specs.Marks.{unmarked}
 use Rattle.sound_labels.proofs.Read.{m-was, place-was}
@@ -10,6 +9,7 @@ use Rattle.sound_labels.proofs.Walk.{Walks, walks-none, walks-end, walk
 use Rattle.sound_labels.proofs.Ranked.{place-low, m-some, goes-left}
 use Rattle.sound_labels.proofs.roots_pass.Statement.{statement}
 use Rattle.sound_labels.proofs.roots_pass.Tie as tie
+use Rattle.stored.specs.Sections.{labellingIn}
 
 abbrev Inv-loop : tie.InvT-loop
 Inv-loop triples places marks w k rank₀ rank = Walks (labellingIn w triples places k) (unmarked marks) k k 0 rank

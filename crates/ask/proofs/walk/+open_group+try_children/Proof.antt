@@ -21,7 +21,7 @@ use Rattle.ask.proofs.walk.try_children.Reads as try-children
 use Rattle.ask.proofs.walk.try_children.Kinds as try-children-kinds
 use Rattle.ask.proofs.walk.+open_group+try_children.Lts-try_children as try-children-lts
 use Rattle.ask.proofs.intervals.inner_by.Reads as inner-by-reads
-use Rattle.stored.proofs.sections.children_of.Reads as children-of-reads
+use Rattle.stored.proofs.parts.children_of.Reads as children-of-reads
 use Rattle.ask.proofs.walk.passed_over.Reads as passed-over-reads
 use Rattle.numbers.proofs.num.Reads as num-reads
 use Rattle.ask.proofs.walk.+open_group+try_children.{statement}

@@ -4,7 +4,7 @@ use Prim.Native.Nat.{_-_, _<_}
 use native.Mathlib.Omega.{arith}
 use lib.ListN.{getD}
 use Rattle.lineage.specs.Numbers.{numbers}
-use Rattle.sections.specs.Sections.{childrenIn}
+use Rattle.stored.specs.Sections.{childrenIn}
 use Rattle.sound_groups.proofs.Read.{can-read, was-read}
 use Rattle.sound_groups.proofs.Row.{can-read-child, row-has, child-was, child-low}
 use Rattle.list.proofs.Marking.{Marking, marking-none, marking-more, marking-all}

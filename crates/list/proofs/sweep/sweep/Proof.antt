@@ -2,7 +2,7 @@
 use Prim.Native.Nat.{_+_, _-_, _≤_, _<_}
 use native.Mathlib.Omega.{arith}
 use Rattle.lineage.specs.Numbers.{numbers}
-use Rattle.sections.specs.Sections.{childrenIn}
+use Rattle.stored.specs.Sections.{childrenIn}
 use Rattle.sound_groups.proofs.Read.{can-read, was-read}
 use Rattle.list.proofs.Sweeping.{Sweeping, sweeping-none, sweeping-marked, sweeping-passed, sweeping-all}
 use Rattle.list.proofs.sweep.sweep.Statement.{statement}

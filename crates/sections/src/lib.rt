@@ -1,1 +1,0 @@
-// What the sections of a stored index hold stands in specs/, and its laws in proofs/; there is no code here.

@@ -1,0 +1,22 @@
+-- `stored::parts::groups` meets its contract: the part goes from this section's offset to the next one.
+use mathlib.Core.Path.{refl}
+use native.Mathlib.Omega.{arith}
+use borrow.Author.Needs.{needs}
+use Rattle.stored.proofs.Stretches.{section-part}
+use Rattle.stored.proofs.parts.groups.Statement.{statement}
+use Rattle.stored.proofs.parts.groups.Tie as tie
+
+sub-result : tie.Need-sub-result
+sub-result c = search needs
+
+part-result-start : tie.Need-part-result-start
+part-result-start c = search needs
+
+part-result-end : tie.Need-part-result-end
+part-result-end c = search needs
+
+returns : tie.Need-returns
+returns c = section-part (c .before .pre) 1 _ _ refl (c .before .pre .levels-at) (omega arith)
+
+pub groups-spec : {M : Type 1} → statement M
+groups-spec = tie.close (tie.spec sub-result part-result-start part-result-end returns)

@@ -1,0 +1,24 @@
+-- `stored::parts::triples` meets its contract: labelling j starts behind j others, and its triples come first.
+use native.Mathlib.Omega.{arith}
+use borrow.Author.Needs.{needs}
+use Rattle.numbers.proofs.Numbers.{part-from}
+use Rattle.stored.proofs.Held.{labelling-fits}
+use Rattle.stored.proofs.parts.triples.Statement.{statement}
+use Rattle.stored.proofs.parts.triples.Tie as tie
+
+label-count-requires : tie.Need-label-count-requires
+label-count-requires c κs = search needs
+
+mul-numbers-from : tie.Need-mul-numbers-from
+mul-numbers-from c = search needs
+
+numbers-from-requires : tie.Need-numbers-from-requires
+numbers-from-requires c κs =
+    let s = c .before .before in
+    (s .pre .0, labelling-fits _ _ _ _ _ _ _ (omega (arith, c .label-count .ensures .0)) (s .pre .1 .0) (s .pre .1 .1))
+
+returns : tie.Need-returns
+returns c = part-from _ _ _ _ _ _ (c .before .label-count .ensures .0) (c .numbers-from .ensures)
+
+pub triples-spec : {M : Type 1} → statement M
+triples-spec = tie.close (tie.spec label-count-requires mul-numbers-from numbers-from-requires returns)
