@@ -1,6 +1,5 @@
 -- The laws that the proofs of this crate cite.
 pub mod Labellings
-pub mod Halving
 pub mod Passing
 pub mod Counting
 pub mod Trying
@@ -9,7 +8,6 @@ pub mod Nets
 pub mod Turns
 pub mod Rules
 pub mod Soundness
-pub mod Asking
 pub mod Refusals
 pub mod Answered
 pub mod Theorems

@@ -1,29 +1,24 @@
--- What sound contents give a question: the sections are fit for the walk, the group list rises, and every vertex's group has a place.
+-- What sound contents give a question: the sections are fit for the walk, and the answer between two places is the answer to the question.
 use mathlib.Core.Bool.{true}
 use mathlib.Core.Logic.{_≢_}
-use mathlib.Core.Path.{_≡_, refl, sym, ap, _∙_}
+use mathlib.Core.Path.{_≡_, refl, ap, _∙_}
 use mathlib.Core.List.{List, []}
-use Prim.Native.Nat.{ℕ, suc, _+_, _-_, _≤_, _<_}
+use Prim.Native.Nat.{ℕ, _+_, _-_, _≤_, _<_}
 use native.Mathlib.Omega.{arith}
-use native.Mathlib.Numerals.{add-one}
 use lib.ListN.{length, getD, replicate, length-replicate, getD-replicate}
-use Rattle.lineage.specs.Lists.{among}
-use Rattle.lineage.specs.Graph.{placeOf}
 use Rattle.lineage.specs.Numbers.{numAt, numbers}
 use Rattle.lineage.specs.Sound.{childOf}
 use Rattle.lineage.specs.Question.{between, placeIn, walk, answer}
 use Rattle.laws.specs.Sound.{SoundGroups}
 use Rattle.laws.proofs.Lists.{in-getD}
-use Rattle.laws.proofs.Rising.{Rises}
-use Rattle.laws.proofs.Starts.{pass-rises, pass-low}
-use Rattle.laws.proofs.Grouped.{groups-rise, name-group, group-name, place-low, levels-fall}
-use Rattle.laws.proofs.Decides.{sound-decides}
+use Rattle.laws.proofs.Grouped.{group-name, levels-fall}
 use Rattle.numbers.proofs.Numbers.{numbers-long, numbers-at}
 use Rattle.stored.specs.declared.header.Layout.{Layout}
 use Rattle.stored.specs.Sections.{childrenIn, indexFrom, indexAt}
-use Rattle.stored.proofs.Sections.{children-long, row-long, row-at}
+use Rattle.stored.proofs.Sections.{children-long, starts-rise, starts-within, row-long, row-at}
 use Rattle.ask.specs.Fit.{count, groupsIn, Fit}
-use Rattle.ask.specs.Lent.{Lent}
+use Rattle.places.specs.Lent.{Lent}
+use Rattle.places.proofs.Vertices.{lent-sound}
 use Rattle.ask.proofs.Rows.{count-is}
 
 module _ {l : Layout} {names groups levels starts children labels : List ℕ} (S : Lent l names groups levels starts children labels) where
@@ -43,22 +38,19 @@ module _ {l : Layout} {names groups levels starts children labels : List ℕ} (S
   rows = childrenIn w starts children k c
 
   sound : SoundGroups (numbers w names n) (numbers w groups k) (numbers w levels k) rows
-  unfolding indexFrom rows
-  sound = sound-decides (indexAt l names groups levels starts children labels) .0 (S .index-sound) .condensed
+  unfolding rows
+  sound = lent-sound S
 
   rows-long : length rows ≡ k
   unfolding rows
   rows-long = children-long w starts children k c
 
   -- child starts rise to c
-  next-at : (p : ℕ) → p < k → getD (numbers w starts (k + 1)) (suc p) 0 ≡ numAt w starts (p + 1)
-  next-at p h = rw (add-one p) (numbers-at w starts (k + 1) (suc p) (omega arith))
-
   rises : (p : ℕ) → p < k → numAt w starts p ≤ numAt w starts (p + 1)
-  rises p h = omega (arith, pass-rises (numbers w starts (k + 1)) k c (S .starts-sound) p h, numbers-at w starts (k + 1) p (omega arith), next-at p h)
+  rises = starts-rise w starts k c (S .starts-sound)
 
   ends : (p : ℕ) → p < k → numAt w starts (p + 1) ≤ c
-  ends p h = omega (arith, pass-low (numbers w starts (k + 1)) k c (S .starts-sound) (suc p) h, next-at p h)
+  ends p h = starts-within w starts k c (S .starts-sound) (p + 1) (omega arith)
 
   -- number i of the children, in the row of p
   module _ (p i : ℕ) (h : p < k) (from : numAt w starts p ≤ i) (to : i < numAt w starts (p + 1)) where
@@ -111,29 +103,6 @@ module _ {l : Layout} {names groups levels starts children labels : List ℕ} (S
         level-falls = level-falls;
         name-low = λ p b. omega (arith, numbers-at w groups k p b, numbers-long w names n, group-name sound p (omega (arith, rows-long)) .0);
       }
-
-  -- the group list rises
-  pub list-rises : Rises (numbers w groups k)
-  list-rises = rw (sound .groups-are) (groups-rise (numbers w names n))
-
-  -- the group of vertex u, whose name was read
-  module _ {u name : ℕ} (h : u < n) (named : name ≡ numAt w names u) where
-    name-is : name ≡ getD (numbers w names n) u 0
-    name-is = named ∙ sym (numbers-at w names n u h)
-
-    low : u < length (numbers w names n)
-    low = omega (arith, numbers-long w names n)
-
-    pub name-listed : among name (numbers w groups k) ≡ true
-    name-listed = rw name-is (name-group sound u low)
-
-    module _ {x : ℕ} (placed : x ≡ placeOf (numbers w groups k) name) where
-      pub vertex-low : x < k
-      vertex-low = rw (placed, name-is) (omega (arith, rows-long, place-low sound u low))
-
-      pub vertex-placed : x ≡ placeIn (indexAt l names groups levels starts children labels) u
-      unfolding indexFrom
-      vertex-placed = placed ∙ ap (placeOf (numbers w groups k)) name-is
 
   -- marks that are all 0, one for each vertex
   module _ (m : List ℕ) (cleared : m ≡ replicate n 0) where

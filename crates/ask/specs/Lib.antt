@@ -2,5 +2,4 @@
 pub mod Intervals
 pub mod Fit
 pub mod Replies
-pub mod Lent
 pub mod Asked

@@ -6,7 +6,6 @@ ghost use Rattle.stored.specs.Header.{Laid};
 ghost use Rattle.ask.specs.Asked.{askedOf, lateAnswer, lateMarks};
 
 pub mod intervals;
-pub mod place;
 pub mod question;
 pub mod walk;
 

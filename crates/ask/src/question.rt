@@ -6,11 +6,10 @@ ghost use lib.ListN.{length, getD, replicate};
 ghost use Rattle.lineage.specs.Numbers.{numAt};
 ghost use Rattle.lineage.specs.Question.{between, answer};
 ghost use Rattle.stored.specs.Sections.{indexAt};
+ghost use Rattle.places.specs.Lent.{Lent};
 ghost use Rattle.ask.specs.Fit.{groupsIn, Fit};
 ghost use Rattle.ask.specs.Replies.{answerBy};
-ghost use Rattle.ask.specs.Lent.{Lent};
 use crate::intervals;
-use crate::place;
 use crate::walk;
 use crate::walk::Seen;
 use stored::header::Layout;
@@ -128,8 +127,8 @@ pub fn question(
 {
     let w = l.width;
     let k = l.k;
-    let x = place::place_of(groups, w, k, numbers::num(names, w, u));
-    let t = place::place_of(groups, w, k, numbers::num(names, w, v));
+    let x = places::place_of(groups, w, k, numbers::num(names, w, u));
+    let t = places::place_of(groups, w, k, numbers::num(names, w, v));
     decide(
         groups,
         levels,

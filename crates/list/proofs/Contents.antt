@@ -10,7 +10,7 @@ use Rattle.stored.specs.declared.header.Layout.{Layout}
 use Rattle.stored.specs.Header.{layoutIn, Laid}
 use Rattle.stored.specs.Sections.{Section}
 use Rattle.stored.proofs.Offsets.{offsets-within}
-use Rattle.ask.proofs.Asking.{Six}
+use Rattle.places.proofs.Lent.{Six}
 
 whole-at : (b : List ℕ) → Laid b (layoutIn b) → (i : ℕ) → i < 6 → Section b (layoutIn b) i (stretch (layoutIn b .width) (countsIn b) b i)
 unfolding stretch

@@ -25,8 +25,8 @@ use Rattle.stored.specs.declared.header.Layout.{Layout}
 use Rattle.stored.specs.Sections.{childrenIn, labellingIn, triplesOf, placesOf, labelsIn, indexFrom, indexAt}
 use Rattle.stored.proofs.Sections.{children-long, e-at, labels-long}
 use Rattle.sound_groups.specs.Fit.{Holds}
-use Rattle.ask.specs.Lent.{Lent}
-use Rattle.ask.proofs.Asking.{Six, index-at, lent}
+use Rattle.places.specs.Lent.{Lent}
+use Rattle.places.proofs.Lent.{Six, index-at, lent}
 use Rattle.list.specs.Fit.{Spots, Ranked, Names, SoundBytes}
 use Rattle.list.specs.Sweep.{swept}
 use Rattle.list.specs.Marks.{firstLabels, rankIn, sweptIn, startMarks, reachMarks}

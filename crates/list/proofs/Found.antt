@@ -12,7 +12,7 @@ use Rattle.lineage.specs.Question.{inOwnList, downstream}
 use Rattle.lineage.specs.Calls.{indexIn}
 use Rattle.stored.specs.declared.header.Layout.{Layout}
 use Rattle.stored.specs.Sections.{Section}
-use Rattle.ask.proofs.Asking.{Six}
+use Rattle.places.proofs.Lent.{Six}
 use Rattle.list.specs.Fit.{Names, SoundBytes}
 use Rattle.list.specs.Listing.{listed, namesAlone}
 use Rattle.list.specs.Marks.{reachMarks}

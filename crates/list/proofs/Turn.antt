@@ -1,79 +1,47 @@
 -- One turn of the sweep. Where the group is marked its children are marked too, and nothing else changes: no mark is taken away, and a group that is
 -- marked afterwards was marked before or is a child of the group.
-use mathlib.Core.Bool.{Bool, true, false, false≢true}
+use mathlib.Core.Bool.{Bool, true, false}
 use mathlib.Core.Logic.{_⊎_, inl, inr}
-use mathlib.Core.Path.{_≡_, refl, sym, subst, _∙_}
-use mathlib.Core.List.{List, [], _∷_}
+use mathlib.Core.Path.{_≡_, refl, sym, subst}
+use mathlib.Core.List.{List, [], map}
 use Prim.Native.Nat.{ℕ, _<_}
-use native.Mathlib.Decide.{ℕ-discrete, decLt}
 use native.Mathlib.Omega.{arith}
-use lib.ListN.{length, getD, drop, set, length-set}
-use lib.Seq.{getD-set-same, getD-set-other, set-out, drop-set-lt}
+use lib.ListN.{length, getD, drop}
 use borrow.Author.Tests.{eqb-true, eq-eqb}
 use Rattle.lineage.specs.Lists.{among}
 use Rattle.lineage.specs.Sound.{childOf}
-use Rattle.laws.proofs.Lists.{here, there, in-cons}
+use Rattle.laws.proofs.Lists.{in-map, of-map}
+use Rattle.numbers.proofs.Marks.{marks-long, marks-past, marks-keep, marks-give, marks-from}
 use Rattle.list.specs.Sweep.{marked, rowMarked, turn}
 
--- one mark
-mark-kept : (marks : List ℕ) (i j : ℕ) → getD marks j 0 ≡ 1 → getD (set marks i 1) j 0 ≡ 1
-mark-kept marks i j h =
-    elim (ℕ-discrete j i) [
-      | yes e ↦
-          elim (decLt i (length marks)) [
-            | yes l ↦ rw e (getD-set-same marks i 1 0 l)
-            | no l ↦ rw (set-out marks i 1 (omega arith)) h
-          ]
-      | no e ↦ rw (getD-set-other marks i j 1 0 e) h
-    ]
-
-mark-from : (marks : List ℕ) (i j : ℕ) → getD (set marks i 1) j 0 ≡ 1 → (getD marks j 0 ≡ 1) ⊎ (j ≡ i)
-mark-from marks i j h =
-    elim (ℕ-discrete j i) [
-      | yes e ↦ inr e
-      | no e ↦ inl (rw (getD-set-other marks i j 1 0 e) at h)
-    ]
-
--- a row
+-- a row: the names of its groups are marked
 module _ (groups : List ℕ) where
+  abbrev name : ℕ → ℕ
+  name q = getD groups q 0
+
   pub row-long : (row marks : List ℕ) → length (rowMarked groups row marks) ≡ length marks
   unfolding rowMarked
-  row-long [] marks = refl
-  row-long (q ∷ row) marks = row-long row (set marks (getD groups q 0) 1) ∙ length-set marks (getD groups q 0) 1
+  row-long row marks = marks-long (map name row) marks
 
   row-keeps : (row marks : List ℕ) (j : ℕ) → getD marks j 0 ≡ 1 → getD (rowMarked groups row marks) j 0 ≡ 1
   unfolding rowMarked
-  row-keeps [] marks j h = h
-  row-keeps (q ∷ row) marks j h = row-keeps row (set marks (getD groups q 0) 1) j (mark-kept marks (getD groups q 0) j h)
+  row-keeps row marks = marks-keep (map name row) marks
 
   row-gives :
       (row marks : List ℕ) (q : ℕ) → getD groups q 0 < length marks → among q row ≡ true → getD (rowMarked groups row marks) (getD groups q 0) 0 ≡ 1
   unfolding rowMarked
-  row-gives [] marks q l i = absurd (false≢true i)
-  row-gives (x ∷ row) marks q l i =
-      elim (in-cons q x row i) [
-        | inl e ↦ row-keeps row (set marks (getD groups x 0) 1) (getD groups q 0) (rw e (getD-set-same marks (getD groups x 0) 1 0 (rw e at l)))
-        | inr j ↦ row-gives row (set marks (getD groups x 0) 1) q (omega (arith, length-set marks (getD groups x 0) 1)) j
-      ]
+  row-gives row marks q l i = marks-give (map name row) marks (name q) l (in-map name q row i)
 
   row-from :
       (row marks : List ℕ) (j : ℕ) → getD (rowMarked groups row marks) j 0 ≡ 1
       → (getD marks j 0 ≡ 1) ⊎ ((q : ℕ) × (among q row ≡ true) × (j ≡ getD groups q 0))
   unfolding rowMarked
-  row-from [] marks j h = inl h
-  row-from (x ∷ row) marks j h = at (row-from row (set marks (getD groups x 0) 1) j h)
-    where
-      at :
-          (getD (set marks (getD groups x 0) 1) j 0 ≡ 1) ⊎ ((q : ℕ) × (among q row ≡ true) × (j ≡ getD groups q 0))
-          → (getD marks j 0 ≡ 1) ⊎ ((q : ℕ) × (among q (x ∷ row) ≡ true) × (j ≡ getD groups q 0))
-      at (inl m) = elim (mark-from marks (getD groups x 0) j m) [ inl i ↦ inl i | inr e ↦ inr (x, here x row, e) ]
-      at (inr (q, i, e)) = inr (q, there q x row i, e)
+  row-from row marks j h = elim (marks-from (map name row) marks j h) [ inl m ↦ inl m | inr i ↦ inr (of-map name j row i) ]
 
   row-past : (n : ℕ) (row marks : List ℕ) → ((q : ℕ) → among q row ≡ true → getD groups q 0 < n) → drop n (rowMarked groups row marks) ≡ drop n marks
   unfolding rowMarked
-  row-past n [] marks low = refl
-  row-past n (x ∷ row) marks low =
-      row-past n row (set marks (getD groups x 0) 1) (λ q i. low q (there q x row i)) ∙ drop-set-lt n marks (getD groups x 0) 1 (low x (here x row))
+  row-past n row marks low =
+      marks-past n (map name row) marks (λ x i. let (q, j, e) = of-map name x row i in omega (arith, low q j))
 
 -- the turn of p
 module _ (groups : List ℕ) (children : List (List ℕ)) (p : ℕ) (marks : List ℕ) where

@@ -1,11 +1,12 @@
 -- The downward sweep: through the places by rank, from a highest rank down to 1, each marked group marks its children. A group's mark stands at its name.
 use mathlib.Core.Bool.{Bool, true, cond}
 use mathlib.Core.Path.{_≡_}
-use mathlib.Core.List.{List, [], _∷_}
+use mathlib.Core.List.{List, [], map}
 use Prim.Native.Nat.{ℕ, zero, suc, _<_}
 use lib.Dec.{eqb}
-use lib.ListN.{length, getD, set}
+use lib.ListN.{length, getD}
 use Rattle.laws.specs.Leads.{Down}
+use Rattle.numbers.specs.Marks.{markAll}
 
 -- the group at place p is marked
 abbrev pub marked : List ℕ → List ℕ → ℕ → Bool
@@ -13,8 +14,7 @@ marked groups marks p = eqb (getD marks (getD groups p 0) 0) 1
 
 -- marks with the groups of a row marked too
 unfoldable pub rowMarked : List ℕ → List ℕ → List ℕ → List ℕ
-rowMarked groups [] marks = marks
-rowMarked groups (q ∷ row) marks = rowMarked groups row (set marks (getD groups q 0) 1)
+rowMarked groups row marks = markAll (map (λ q. getD groups q 0) row) marks
 
 -- a marked group marks its children
 unfoldable pub turn : List ℕ → List (List ℕ) → ℕ → List ℕ → List ℕ

@@ -2,6 +2,7 @@
 ghost use mathlib.Core.Path.{_≡_};
 ghost use Prim.Native.Nat.{_≤_, _<_};
 ghost use lib.ListN.{length};
+ghost use Rattle.lineage.specs.Lists.{cleared};
 ghost use Rattle.lineage.specs.Calls.{listAnswer, listMarks, listOutput};
 ghost use Rattle.list.specs.Fit.{SoundBytes};
 ghost use Rattle.list.specs.Listed.{listedOf, Allowed, Passes};
@@ -23,11 +24,12 @@ pub enum Listed {
     Refused { number: usize, extra: usize },
 }
 
-// The list of bytes whose contents are sound: refusal 16, or the vertices.
+// The list of bytes whose contents are sound, on marks that are 0 below n: refusal 16, or the vertices.
 fn list_sound(index: &[u8], l: Layout, vertex: usize, marks: &mut [u8], out: &mut [u32]) -> Listed
     requires { ⌜ Passes (now index) l ⌝ }
     requires { ⌜ SoundBytes (now index) l ⌝ }
     requires { ⌜ (l .n ≤ length (now marks)) × (vertex < l .n) ⌝ }
+    requires { ⌜ now marks ≡ cleared (l .n) (now marks) ⌝ }
     ensures { λ r. ⌜ Allowed (now (index .entry)) vertex (now (marks .entry)) (now (out .entry)) r (now (marks .exit)) (now (out .exit)) ⌝ }
 {
     let w = l.width;

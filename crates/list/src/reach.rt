@@ -2,13 +2,13 @@
 ghost use mathlib.Core.Path.{_≡_};
 ghost use Prim.Native.Nat.{_≤_, _<_};
 ghost use lib.ListN.{length};
+ghost use Rattle.lineage.specs.Lists.{cleared};
 ghost use Rattle.lineage.specs.Calls.{indexIn};
 ghost use Rattle.list.specs.Fit.{SoundBytes};
 ghost use Rattle.list.specs.Marks.{rankIn, sweptIn, reachMarks};
 use crate::sweep;
-use ask::place;
-use numbers::clear_marks;
 use numbers::num;
+use places::place_of;
 use stored::header::Layout;
 use stored::parts;
 
@@ -25,7 +25,7 @@ fn rank_of(index: &[u8], l: Layout, u: usize) -> usize
     let groups = parts::groups(index, l);
     let labels = parts::labels(index, l);
     let triples = parts::triples(labels, w, k, d, 0);
-    let p = place::place_of(groups, w, k, num(names, w, u));
+    let p = place_of(groups, w, k, num(names, w, u));
     num(triples, w, 3 * p + 2)
 }
 
@@ -47,15 +47,15 @@ pub fn sweep_down(index: &[u8], l: Layout, marks: &mut [u8], top: usize)
     sweep::sweep(groups, starts, children, places, marks, w, k, c, top);
 }
 
-// Marks the groups that vertex u's group reaches, and no other.
+// Marks the groups that vertex u's group reaches, on marks that are 0 below n.
 pub fn mark_reached(index: &[u8], l: Layout, marks: &mut [u8], u: usize)
     requires { ⌜ SoundBytes (now index) l ⌝ }
     requires { ⌜ (l .n ≤ length (now marks)) × (u < l .n) ⌝ }
+    requires { ⌜ now marks ≡ cleared (l .n) (now marks) ⌝ }
     ensures { λ _. ⌜ now (marks .exit) ≡ reachMarks (indexIn (now (index .entry))) u (now (marks .entry)) ⌝ }
 {
     let names = parts::names(index, l);
     let name = num(names, l.width, u);
-    clear_marks(marks, l.n);
     marks[name] = 1;
     let top = rank_of(index, l, u);
     sweep_down(index, l, marks, top);

@@ -38,6 +38,9 @@ module _ (n : ℕ) (s : List ℕ) where
   unfolding cleared
   cleared-twice = ap (replicate n 0 ++_) cleared-past
 
+  pub cleared-again : {t : List ℕ} → t ≡ cleared n s → t ≡ cleared n t
+  cleared-again e = e ∙ sym cleared-twice ∙ ap (cleared n) (sym e)
+
 -- where the first n are 0 and no other is touched
 pub cleared-first : (n : ℕ) (s t : List ℕ) → n ≤ length s → Kept s t 0 n → part t 0 n ≡ replicate n 0 → t ≡ cleared n s
 unfolding part cleared

@@ -2,5 +2,6 @@
 pub mod Regions
 pub mod Put
 pub mod Cleared
+pub mod Marks
 pub mod Numbers
 pub mod Written

@@ -1,3 +1,4 @@
 -- What the contracts of this crate and of those above say of lent bytes and words.
 pub mod Put
 pub mod Regions
+pub mod Marks

@@ -1,6 +1,6 @@
 -- Child starts from what was read of them.
 use mathlib.Core.Bool.{Bool, true, false}
-use mathlib.Core.Path.{_≡_, ap, _∙_}
+use mathlib.Core.Path.{_≡_, _∙_}
 use mathlib.Core.List.{List}
 use Prim.Native.Nat.{ℕ, suc, _+_, _-_, _≤_, _<_}
 use native.Mathlib.Omega.{arith}
@@ -11,8 +11,7 @@ use borrow.Author.Tests.{le-leb, lt-leb, eq-eqb, ne-eqb}
 use Rattle.lineage.specs.Lists.{allBelow}
 use Rattle.lineage.specs.Numbers.{numAt, numbers}
 use Rattle.lineage.specs.Sound.{startsPass}
-use Rattle.numbers.proofs.Numbers.{numbers-at}
-use Rattle.laws.proofs.Starts.{pass-rises, pass-low}
+use Rattle.stored.proofs.Sections.{starts-rise, starts-within}
 use Rattle.sound_groups.specs.Fit.{Starts, Rows, Row}
 use Rattle.sound_groups.proofs.Read.{was-read}
 
@@ -46,14 +45,11 @@ module _ {w k : ℕ} {starts : List ℕ} (S : Starts w starts k) where
 
 -- Starts that have passed: none falls, and none is above c.
 module _ {w k c : ℕ} {starts : List ℕ} (R : Rows w starts k c) where
-  start-at : (p : ℕ) → p ≤ k → getD (numbers w starts (k + 1)) p 0 ≡ numAt w starts p
-  start-at p h = numbers-at w starts (k + 1) p (omega arith)
-
   pub row-rises : (p : ℕ) → p < k → numAt w starts p ≤ numAt w starts (p + 1)
-  row-rises p h = omega (arith, pass-rises (numbers w starts (k + 1)) k c (R .passed) p h, start-at p (omega arith), start-at (suc p) h, ap (numAt w starts) (add-one p))
+  row-rises = starts-rise w starts k c (R .passed)
 
   pub row-within : (p : ℕ) → p ≤ k → numAt w starts p ≤ c
-  row-within p h = omega (arith, pass-low (numbers w starts (k + 1)) k c (R .passed) p h, start-at p h)
+  row-within = starts-within w starts k c (R .passed)
 
   -- the row between two starts that were read
   pub row-between : {p a b : ℕ} → p < k → a ≡ numAt w starts p → b ≡ numAt w starts (p + 1) → Row w starts k c p a (b - a)

@@ -13,14 +13,16 @@ use Rattle.lineage.specs.Numbers.{numAt, numbers}
 use Rattle.laws.proofs.Lists.{in-getD, position-low, at-position}
 use Rattle.laws.proofs.Joined.{joined-in}
 use Rattle.laws.proofs.Starts.{pass-laid, rows-joined}
+use Rattle.numbers.specs.Marks.{markAll}
+use Rattle.numbers.proofs.Marks.{marks-long}
 use Rattle.numbers.proofs.Cleared.{cleared-long, cleared-at}
 use Rattle.numbers.proofs.Numbers.{numbers-long, numbers-at}
 use Rattle.stored.specs.Sections.{childrenIn}
 use Rattle.stored.proofs.Sections.{children-long}
 use Rattle.sound_groups.specs.Fit.{Places}
 use Rattle.sound_groups.proofs.Row.{row-low}
-use Rattle.sound_labels.specs.Marks.{marked, unmarked, Tells}
-use Rattle.sound_labels.proofs.Marks.{marked-at, marked-long, marked-cleared}
+use Rattle.sound_labels.specs.Marks.{unmarked, Tells}
+use Rattle.sound_labels.proofs.Marks.{marked-at, marked-cleared}
 
 module _ {w k c : ℕ} {starts children : List ℕ} (P : Places w starts children k c) where
   abbrev rows : List (List ℕ)
@@ -45,14 +47,14 @@ module _ {w k c : ℕ} {starts children : List ℕ} (P : Places w starts childre
       omega (arith, member-low (getD entries j 0) (in-getD entries j (omega (arith, numbers-long w children c))), numbers-at w children c j h)
 
   -- marks cleared, then marked at the child entries, tell who is nobody's child; cleared again, they are as cleared at first
-  module _ {n : ℕ} (first : List ℕ) {clear told : List ℕ} (small : k ≤ n) (room : n ≤ length first) (cleared-is : clear ≡ cleared n first) (told-is : told ≡ marked entries clear) where
+  module _ {n : ℕ} (first : List ℕ) {clear told : List ℕ} (small : k ≤ n) (room : n ≤ length first) (cleared-is : clear ≡ cleared n first) (told-is : told ≡ markAll entries clear) where
     clear-long : length clear ≡ length first
     clear-long = ap length cleared-is ∙ cleared-long n first room
 
     pub tells : Tells rows told k
     unfolding nobodysChild
     tells = record {
-      long = omega (arith, ap length told-is, marked-long entries clear, clear-long);
+      long = omega (arith, ap length told-is, marks-long entries clear, clear-long);
       right = λ p h.
           ap (λ (marks : List ℕ). unmarked marks p) told-is
           ∙ marked-at entries clear p (omega (arith, clear-long))
@@ -63,4 +65,4 @@ module _ {w k c : ℕ} {starts children : List ℕ} (P : Places w starts childre
 
     pub told-cleared : {last : List ℕ} → last ≡ cleared n told → last ≡ cleared n first
     told-cleared e =
-        e ∙ ap (cleared n) (told-is ∙ ap (marked entries) cleared-is) ∙ marked-cleared entries n first (λ q i. omega (arith, member-low q i))
+        e ∙ ap (cleared n) (told-is ∙ ap (markAll entries) cleared-is) ∙ marked-cleared entries n first (λ q i. omega (arith, member-low q i))

@@ -1,18 +1,13 @@
 -- Marks while a labelling is tested: 1 where a place is somebody's child.
 use mathlib.Core.Bool.{Bool}
 use mathlib.Core.Path.{_≡_}
-use mathlib.Core.List.{List, [], _∷_}
+use mathlib.Core.List.{List}
 use Prim.Native.Nat.{ℕ, _≤_, _<_}
 use lib.Dec.{eqb}
-use lib.ListN.{length, getD, set}
+use lib.ListN.{length, getD}
 use Rattle.lineage.specs.Labels.{nobodysChild}
 use Rattle.lineage.specs.Numbers.{numAt}
 use Rattle.sound_groups.specs.Fit.{Holds}
-
--- marks with 1 at each number of the list
-abbrev pub marked : List ℕ → List ℕ → List ℕ
-marked [] marks = marks
-marked (q ∷ qs) marks = marked qs (set marks q 1)
 
 -- the mark of p is 0
 abbrev pub unmarked : List ℕ → ℕ → Bool

@@ -6,10 +6,11 @@ ghost use lib.ListN.{length};
 ghost use Rattle.lineage.specs.Lists.{allBelow, allOf, cleared};
 ghost use Rattle.lineage.specs.Numbers.{numAt, numbers};
 ghost use Rattle.lineage.specs.Sound.{childOf, walkEnds, rankPasses, fallPasses, outerPasses, innerPasses, blockPasses, labelsPass};
+ghost use Rattle.numbers.specs.Marks.{markAll};
 ghost use Rattle.stored.specs.Sections.{childrenIn, labellingIn, labelsIn};
 ghost use Rattle.sound_groups.specs.Fit.{Places};
 ghost use Rattle.sound_labels.specs.Tests.{leastBelow, labellingPasses};
-ghost use Rattle.sound_labels.specs.Marks.{marked, unmarked, Within, Tells};
+ghost use Rattle.sound_labels.specs.Marks.{unmarked, Within, Tells};
 ghost use Rattle.sound_labels.specs.Fit.{Triples, Labels, Labelled, Ranked, Labellings};
 use numbers::clear_marks;
 use numbers::num;
@@ -303,7 +304,7 @@ fn blocks_pass(
 // Marks every child: sets the mark of each of the c child entries to 1.
 fn mark_children(children: &[u8], marks: &mut [u8], w: usize, c: usize)
     requires { ⌜ Within w (now children) c (length (now marks)) ⌝ }
-    ensures { λ _. ⌜ now (marks .exit) ≡ marked (numbers w (now (children .entry)) c) (now (marks .entry)) ⌝ }
+    ensures { λ _. ⌜ now (marks .exit) ≡ markAll (numbers w (now (children .entry)) c) (now (marks .entry)) ⌝ }
 {
     let mut j = 0;
     while j < c {

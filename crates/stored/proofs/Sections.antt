@@ -1,5 +1,6 @@
 -- The laws of the sections' lists. Each list is a table over places, so its element is found by its place; a row is a run of the children's numbers;
 -- and what `decode` reads of a whole image is what its six stretches hold.
+use mathlib.Core.Bool.{true}
 use mathlib.Core.Path.{_≡_, refl, sym, ap, _∙_}
 use mathlib.Core.List.{List, [], map}
 use Prim.Native.Nat.{ℕ, suc, _+_, _-_, _*_, _≤_, _<_}
@@ -10,12 +11,29 @@ use lib.Seq.{ext-getD}
 use Rattle.lineage.specs.Lists.{upto, part}
 use Rattle.lineage.specs.Labels.{Labelling}
 use Rattle.lineage.specs.Numbers.{numAt, numbers}
+use Rattle.lineage.specs.Sound.{startsPass}
 use Rattle.lineage.specs.Stored.{Counts, countsIn, stretch, section, rowAt, labellingAt, decode}
+use Rattle.laws.proofs.Starts.{pass-rises, pass-low}
 use Rattle.laws.proofs.Parts.{part-length, part-at}
 use Rattle.laws.proofs.Lists.{table-long, table-at, table-same}
 use Rattle.numbers.proofs.Numbers.{num-part, numbers-long, numbers-at}
 use Rattle.stored.specs.Sections.{childrenIn, labellingIn, triplesOf, placesOf, labelsIn, indexFrom}
 use Rattle.stored.proofs.Held.{labelling-within}
+
+-- child starts, by what is read of them; where they pass, none is above the next, nor above c
+module _ (w : ℕ) (starts : List ℕ) (k : ℕ) where
+  pub start-at : (p : ℕ) → p ≤ k → getD (numbers w starts (k + 1)) p 0 ≡ numAt w starts p
+  start-at p h = numbers-at w starts (k + 1) p (omega arith)
+
+  pub next-at : (p : ℕ) → p < k → getD (numbers w starts (k + 1)) (suc p) 0 ≡ numAt w starts (p + 1)
+  next-at p h = rw (add-one p) (start-at (suc p) h)
+
+  module _ (c : ℕ) (pass : startsPass (numbers w starts (k + 1)) k c ≡ true) where
+    pub starts-rise : (p : ℕ) → p < k → numAt w starts p ≤ numAt w starts (p + 1)
+    starts-rise p h = omega (arith, pass-rises (numbers w starts (k + 1)) k c pass p h, start-at p (omega arith), next-at p h)
+
+    pub starts-within : (p : ℕ) → p ≤ k → numAt w starts p ≤ c
+    starts-within p h = omega (arith, pass-low (numbers w starts (k + 1)) k c pass p h, start-at p h)
 
 module _ (w : ℕ) (starts children : List ℕ) (k c : ℕ) where
   pub children-long : length (childrenIn w starts children k c) ≡ k
@@ -27,16 +45,10 @@ module _ (w : ℕ) (starts children : List ℕ) (k c : ℕ) where
     unfolding childrenIn
     children-at = table-at (rowAt (numbers w starts (k + 1)) (numbers w children c)) k p [] low
 
-    start : getD (numbers w starts (k + 1)) p 0 ≡ numAt w starts p
-    start = numbers-at w starts (k + 1) p (omega arith)
-
-    end : getD (numbers w starts (k + 1)) (suc p) 0 ≡ numAt w starts (p + 1)
-    end = rw (add-one p) (numbers-at w starts (k + 1) (suc p) (omega arith))
-
     -- the children of p are the numbers from child start to next child start
     pub row-is : getD (childrenIn w starts children k c) p [] ≡ part (numbers w children c) (numAt w starts p) (numAt w starts (p + 1) - numAt w starts p)
     unfolding rowAt
-    row-is = children-at ∙ rw (start, end) refl
+    row-is = children-at ∙ rw (start-at w starts k p (omega arith), next-at w starts k p low) refl
 
     module _ (fits : numAt w starts p ≤ numAt w starts (p + 1)) (within : numAt w starts (p + 1) ≤ c) where
       pub row-long : length (getD (childrenIn w starts children k c) p []) ≡ numAt w starts (p + 1) - numAt w starts p

@@ -3,6 +3,7 @@ use mathlib.Core.Path.{sym, _∙_}
 use native.Mathlib.Omega.{arith}
 use borrow.Author.Needs.{needs}
 use borrow.Author.Tests.{not-true, not-false}
+use Rattle.numbers.proofs.Cleared.{cleared-again}
 use Rattle.stored.proofs.Laid.{header-laid}
 use Rattle.list.proofs.Refusals.{allowed-marks, allowed-vertex, allowed-contents, allowed-cleared}
 use Rattle.list.proofs.list_laid.Statement.{statement}
@@ -44,7 +45,7 @@ list-sound-requires c κs =
       s .pre,
       (
         record { laid = header-laid _ _ (s .pre .header); contents = sym (k .contents-sound .ensures .0) ∙ not-false _ (t .if3 .left) },
-        (omega (arith, m .if1 .left, k .contents-sound .kept), v .if2 .left),
+        ((omega (arith, m .if1 .left, k .contents-sound .kept), v .if2 .left), cleared-again _ _ (k .contents-sound .ensures .1)),
       ),
     )
 

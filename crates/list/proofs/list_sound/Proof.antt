@@ -22,7 +22,7 @@ count-listed-requires : tie.Need-count-listed-requires
 count-listed-requires c κs =
     let r = c .before .before in
     let s = entry r in
-    names-there (s .pre .1 .0) (r .names .ensures) (s .pre .1 .1 .1) _ (s .pre .1 .1 .0) (r .before .before .before .mark-reached .ensures)
+    names-there (s .pre .1 .0) (r .names .ensures) (s .pre .1 .1 .0 .1) _ (s .pre .1 .1 .0 .0) (r .before .before .before .mark-reached .ensures)
 
 clear-marks-requires : tie.Need-clear-marks-requires
 clear-marks-requires c κs = search needs
@@ -37,7 +37,7 @@ returns c =
     let o = k .before .before in
     let r = o .before in
     let s = entry r in
-    list-short (s .pre .1 .0) (r .names .ensures) (s .pre .1 .1 .1) _ (s .pre .1 .1 .0) (r .before .before .before .mark-reached .ensures) (o .in-own-list .ensures)
+    list-short (s .pre .1 .0) (r .names .ensures) (s .pre .1 .1 .0 .1) _ (s .pre .1 .1 .0 .0) (r .before .before .before .mark-reached .ensures) (o .in-own-list .ensures)
     (s .pre .0) (k .count-listed .ensures) (s .args .out .now) (t .if1 .taken) (c .before .before .clear-marks .ensures)
 
 write-listed-requires : tie.Need-write-listed-requires
@@ -45,7 +45,7 @@ write-listed-requires c κs =
     let t = c .before .before in
     let r = t .before .before .before .before in
     let s = entry r in (
-      names-there (s .pre .1 .0) (r .names .ensures) (s .pre .1 .1 .1) _ (s .pre .1 .1 .0) (r .before .before .before .mark-reached .ensures),
+      names-there (s .pre .1 .0) (r .names .ensures) (s .pre .1 .1 .0 .1) _ (s .pre .1 .1 .0 .0) (r .before .before .before .mark-reached .ensures),
       omega (arith, t .if1 .left, t .before .count-listed .ensures),
     )
 
@@ -66,7 +66,7 @@ returns-2 c =
     let o = k .before .before in
     let r = o .before in
     let s = entry r in
-    list-found (s .pre .1 .0) (r .names .ensures) (s .pre .1 .1 .1) _ (s .pre .1 .1 .0) (r .before .before .before .mark-reached .ensures) (o .in-own-list .ensures)
+    list-found (s .pre .1 .0) (r .names .ensures) (s .pre .1 .1 .0 .1) _ (s .pre .1 .1 .0 .0) (r .before .before .before .mark-reached .ensures) (o .in-own-list .ensures)
     (s .pre .0) (k .count-listed .ensures) (s .args .out .now) (t .if1 .left) (c .before .before .clear-marks2 .ensures) (x .write-listed .ensures)
 
 pub list-sound-spec : {M : Type 1} → statement M

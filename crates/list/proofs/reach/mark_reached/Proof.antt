@@ -1,10 +1,10 @@
--- `list::reach::mark_reached` meets its contract: the marks below n are cleared, the group's own is set, and the sweep goes from its rank.
+-- `list::reach::mark_reached` meets its contract: of marks that are 0 below n the group's own is set, and the sweep goes from its rank.
 use mathlib.Core.Path.{_∙_}
 use native.Mathlib.Omega.{arith}
 use lib.ListN.{length-set}
 use borrow.Author.Needs.{needs}
 use Rattle.sound_groups.proofs.Read.{can-read}
-use Rattle.ask.proofs.Asking.{Six}
+use Rattle.places.proofs.Lent.{Six}
 use Rattle.list.proofs.Contents.{stretchOf, names-only}
 use Rattle.list.proofs.Fitted.{names-fit, rank-low, named-low, reach-is}
 use Rattle.list.proofs.reach.mark_reached.Statement.{statement}
@@ -23,40 +23,34 @@ names-requires : tie.Need-names-requires
 names-requires c κs = search needs
 
 num-requires : tie.Need-num-requires
-num-requires c κs = let s = entry c in can-read (names-fit (s .pre .0) (given c) _ (s .pre .1 .0) .held) (s .pre .1 .1)
-
-clear-marks-requires : tie.Need-clear-marks-requires
-clear-marks-requires c κs = search needs
+num-requires c κs = let s = entry c in can-read (names-fit (s .pre .0) (given c) _ (s .pre .1 .0 .0) .held) (s .pre .1 .0 .1)
 
 slice-write-marks : tie.Need-slice-write-marks
 slice-write-marks c =
-    let m = c .before .before .before .before in
-    let r = m .before in
+    let r = c .before in
     let s = entry r in
-    omega (arith, named-low (s .pre .0) (given r) (s .pre .1 .1) (m .num .ensures .0), c .before .before .clear-marks .kept, s .pre .1 .0)
+    omega (arith, named-low (s .pre .0) (given r) (s .pre .1 .0 .1) (c .num .ensures .0), s .pre .1 .0 .0)
 
 rank-of-requires : tie.Need-rank-of-requires
 rank-of-requires c κs = search needs
 
 sweep-down-requires : tie.Need-sweep-down-requires
 sweep-down-requires c κs =
-    let k = c .before .before in
-    let r = k .before .before .before .before .before in
+    let r = c .before .before .before in
     let s = entry r in
-    (s .pre .0, (simp length-set (omega (arith, k .before .before .clear-marks .kept .0, s .pre .1 .0)), omega (arith, rank-low (s .pre .0) (given r) (s .pre .1 .1), c .before .rank-of .ensures)))
+    (s .pre .0, (simp length-set (omega (arith, s .pre .1 .0 .0)), omega (arith, rank-low (s .pre .0) (given r) (s .pre .1 .0 .1), c .before .rank-of .ensures)))
 
 same-length : tie.Need-same-length
 same-length c =
-    let k = c .before .before .before .before .before in
-    c .before .before .sweep-down .kept .1 .1 .0 ∙ length-set (k .before .before .clear-marks .last .0) (k .before .before .before .before .num .result) 1 ∙ k .before .before .clear-marks .kept .0
+    let m = c .before .before .before .before .before in
+    c .before .before .sweep-down .kept .1 .1 .0 ∙ length-set (entry (m .before) .args .marks .now) (m .num .result) 1
 
 returns : tie.Need-returns
 returns c =
-    let k = c .before .before .before .before .before in
-    let m = k .before .before .before .before in
+    let m = c .before .before .before .before .before in
     let r = m .before in
     let s = entry r in
-    reach-is (s .pre .0) (given r) (s .pre .1 .1) (m .num .ensures .0) _ _ (k .before .before .clear-marks .ensures) (c .before .before .before .before .rank-of .ensures) (c .before .before .sweep-down .ensures)
+    reach-is (s .pre .0) (given r) (s .pre .1 .0 .1) (m .num .ensures .0) _ _ (s .pre .1 .1) (c .before .before .before .before .rank-of .ensures) (c .before .before .sweep-down .ensures)
 
 pub mark-reached-spec : {M : Type 1} → statement M
 mark-reached-spec =
@@ -64,7 +58,6 @@ mark-reached-spec =
     (tie.spec
     names-requires
     num-requires
-    clear-marks-requires
     slice-write-marks
     rank-of-requires
     sweep-down-requires

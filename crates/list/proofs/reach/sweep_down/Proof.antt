@@ -1,10 +1,10 @@
 -- `list::reach::sweep_down` meets its contract: the sections of sound contents are fit for the sweep, and hold what the index has.
 use borrow.Author.Needs.{needs}
-use Rattle.ask.proofs.Asking.{Six}
 use Rattle.list.proofs.Contents.{stretchOf, with-rows}
 use Rattle.list.proofs.Fitted.{spots, ranked, swept-is}
 use Rattle.list.proofs.reach.sweep_down.Statement.{statement}
 use Rattle.list.proofs.reach.sweep_down.Tie as tie
+use Rattle.places.proofs.Lent.{Six}
 
 -- what was lent
 abbrev entry : tie.After-by-rank → tie.Start

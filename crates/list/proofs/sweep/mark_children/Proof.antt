@@ -1,19 +1,20 @@
 -- `list::sweep::mark_children` meets its contract. The invariant: marking the children from i on comes to marking the whole row.
-use mathlib.Core.List.{[]}
-use Prim.Native.Nat.{_-_, _<_}
+use mathlib.Core.List.{List, []}
+use Prim.Native.Nat.{ℕ, _-_, _<_}
 use native.Mathlib.Omega.{arith}
 use lib.ListN.{getD}
 use Rattle.lineage.specs.Numbers.{numbers}
 use Rattle.stored.specs.Sections.{childrenIn}
 use Rattle.sound_groups.proofs.Read.{can-read, was-read}
 use Rattle.sound_groups.proofs.Row.{can-read-child, row-has, child-was, child-low}
-use Rattle.list.proofs.Marking.{Marking, marking-none, marking-more, marking-all}
+use Rattle.numbers.proofs.Marks.{marking-none}
+use Rattle.list.proofs.Marking.{RowMarking, row-more, row-all}
 use Rattle.list.proofs.sweep.mark_children.Statement.{statement}
 use Rattle.list.proofs.sweep.mark_children.Tie as tie
 
 abbrev Inv-loop : tie.InvT-loop
 Inv-loop groups starts children marks₀ w k c p from len i₀ marks i =
-    Marking (numbers w groups k) (getD (childrenIn w starts children k c) p []) i marks₀ marks
+    RowMarking (numbers w groups k) (getD (childrenIn w starts children k c) p []) i marks₀ marks
 
 abbrev μ-loop : tie.MeasureT-loop
 μ-loop groups starts children marks₀ w k c p from len i₀ marks i = len - i
@@ -22,11 +23,18 @@ abbrev μ-loop : tie.MeasureT-loop
 abbrev lent : tie.At-loop Inv-loop μ-loop → tie.Start Inv-loop μ-loop
 lent l = l .before .before .before .before .before .before
 
+-- the group list, and the row of the group at hand
+abbrev groups-of : tie.At-loop Inv-loop μ-loop → List ℕ
+groups-of l = let a = lent l .args in numbers (a .w) (a .groups .now) (a .k)
+
+abbrev row-of : tie.At-loop Inv-loop μ-loop → List ℕ
+row-of l = let a = lent l .args in getD (childrenIn (a .w) (a .starts .now) (a .children .now) (a .k) (a .c)) (a .p) []
+
 row-span-requires : tie.Need-row-span-requires Inv-loop μ-loop
 row-span-requires c κs = let s = c .before .before .before .before in (s .pre .0 .below .entries .rows, s .pre .1)
 
 loop-holds : tie.Need-loop-holds Inv-loop μ-loop
-loop-holds c = marking-none _ _ _
+loop-holds c = marking-none _ _
 
 add-num : tie.Need-add-num Inv-loop μ-loop
 add-num c = omega (arith, c .before .before .row-span .ensures)
@@ -58,14 +66,14 @@ loop-again c =
     let l = c .before .before .before in
     let K = lent l .pre .0 .below .entries in
     let R = l .before .row-span .ensures in
-    marking-more (l .loop .inv) (omega (arith, row-has K R)) (child-was K R (c .before .before .loop-test .taken) (c .before .num .ensures .0))
+    row-more (groups-of l) (row-of l) (l .loop .inv) (omega (arith, row-has K R)) (child-was K R (c .before .before .loop-test .taken) (c .before .num .ensures .0))
     (was-read (lent l .pre .0 .groups-held) (place-low (c .before)) (c .num2 .ensures .0))
 
 same-length : tie.Need-same-length Inv-loop μ-loop
 same-length c = c .before .loop .inv .long
 
 returns : tie.Need-returns Inv-loop μ-loop
-returns c = marking-all (c .before .loop .inv) (omega (arith, row-has (lent (c .before) .pre .0 .below .entries) (c .before .before .row-span .ensures)))
+returns c = row-all (groups-of (c .before)) (row-of (c .before)) (c .before .loop .inv) (omega (arith, row-has (lent (c .before) .pre .0 .below .entries) (c .before .before .row-span .ensures)))
 
 pub mark-children-spec : {M : Type 1} → statement M
 mark-children-spec =

@@ -1,4 +1,4 @@
--- What a question is lent: the six sections of stored bytes whose contents are sound.
+-- What a question and a list are lent: the six sections of stored bytes whose contents are sound.
 use mathlib.Core.Bool.{true}
 use mathlib.Core.Path.{_≡_}
 use mathlib.Core.List.{List}

@@ -1,5 +1,5 @@
 -- From stored bytes whose header passes to their sections: the six parts hold the index of the bytes, and where the contents are sound they are what a
--- question is lent.
+-- question and a list are lent.
 use mathlib.Core.Bool.{Bool, true, _&&_}
 use mathlib.Core.Path.{_≡_, sym, ap, _∙_}
 use mathlib.Core.List.{List}
@@ -14,7 +14,7 @@ use Rattle.stored.specs.Header.{Laid}
 use Rattle.stored.specs.Sections.{Section, indexAt}
 use Rattle.stored.proofs.Sections.{decode-is}
 use Rattle.open.proofs.Contents.{n-is, k-is, c-is, d-is, contents-are}
-use Rattle.ask.specs.Lent.{Lent}
+use Rattle.places.specs.Lent.{Lent}
 
 -- the six sections of bytes
 pub record Six (b : List ℕ) (l : Layout) (names groups levels starts children labels : List ℕ) : Type 0 where
@@ -33,7 +33,7 @@ module _ {b : List ℕ} {l : Layout} {names groups levels starts children labels
       rw (S .names-in .is, S .groups-in .is, S .levels-in .is, S .starts-in .is, S .children-in .is, S .labels-in .is, n-is L, k-is L, c-is L, d-is L)
       (sym (decode-is (l .width) b) ∙ ap (λ (z : Layout). decode (z .width) b) (L .is))
 
-  -- sound contents are what a question is lent
+  -- where its contents are sound they are lent as such
   pub lent : contentsSound (l .width) b ≡ true → Lent l names groups levels starts children labels
   lent h =
       let passes : Bool = startsPass (numbers (l .width) starts (l .k + 1)) (l .k) (l .c) in

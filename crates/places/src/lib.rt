@@ -8,6 +8,7 @@ ghost use Rattle.lineage.specs.Graph.{placeOf};
 ghost use Rattle.lineage.specs.Numbers.{Width, numbers};
 ghost use Rattle.laws.proofs.Rising.{Rises};
 
+// The place of the group of this name.
 pub fn place_of(groups: &[u8], w: usize, k: usize, name: usize) -> usize
     requires { ⌜ Width w ⌝ }
     requires { ⌜ w * k ≤ length (now groups) ⌝ }

@@ -1,13 +1,13 @@
--- `ask::place::place_of` meets its contract. The invariant: the name's position is from low on and below high. The number at half tells on which
+-- `places::place_of` meets its contract. The invariant: the name's position is from low on and below high. The number at half tells on which
 -- side of half it is, and where one position is left it is low.
 use native.Mathlib.Omega.{arith}
 use Prim.Native.Nat.{_-_, _≤_, _<_}
 use Rattle.lineage.specs.Graph.{placeOf}
 use Rattle.lineage.specs.Numbers.{numbers}
 use Rattle.numbers.proofs.Numbers.{room}
-use Rattle.ask.proofs.Halving.{place-low, place-from, place-before}
-use Rattle.ask.proofs.place.place_of.Statement.{statement}
-use Rattle.ask.proofs.place.place_of.Tie as tie
+use Rattle.places.proofs.Halving.{place-low, place-from, place-before}
+use Rattle.places.proofs.place_of.Statement.{statement}
+use Rattle.places.proofs.place_of.Tie as tie
 
 abbrev Inv-loop : tie.InvT-loop
 Inv-loop groups w k name low₀ high₀ low high =
