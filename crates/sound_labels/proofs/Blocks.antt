@@ -15,5 +15,5 @@ pub block-is : {w k c p m e : ℕ} {starts children triples places : List ℕ} �
     → e ≡ numAt w triples (3 * p + 2)
     → walkEnds (labellingIn w triples places k) (childOf (childrenIn w starts children k c) p) k (e - 1) (m - 1)
     ≡ blockPasses (childrenIn w starts children k c) (labellingIn w triples places k) p
-block-is {w} {k} {c} {p} {m} {e} {starts} {children} P N h im ie =
-    rw (children-long w starts children k c, ← (m-was (N .labels) h im), ← (e-was (N .labels) h ie))
+block-is {w} {k} {c} {p} {m} {e} {starts} {children} {places = places} P N h im ie =
+    rw (children-long w starts children k c, ← (m-was (N .labels .triples-held) places h im), ← (e-was (N .labels .triples-held) places h ie))

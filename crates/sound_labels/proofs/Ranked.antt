@@ -18,7 +18,9 @@ use Rattle.stored.specs.Sections.{labellingIn}
 use Rattle.stored.proofs.Sections.{places-long}
 use Rattle.sound_groups.proofs.Passed.{answered}
 use Rattle.sound_labels.specs.Fit.{Labels, Ranked}
+use Rattle.sound_labels.specs.Tests.{triplesAlone}
 use Rattle.sound_labels.specs.Marks.{unmarked, Tells}
+use Rattle.sound_labels.proofs.Labels.{inners-any}
 use Rattle.sound_labels.proofs.Read.{m-was, e-was, place-was}
 use Rattle.sound_labels.proofs.Walk.{Left, walk-agrees}
 
@@ -48,10 +50,10 @@ module _ (l : Labelling) (k : ℕ) where
 pub ranked-after : {w k : ℕ} {triples places : List ℕ} {a b : Bool} → Labels w triples places k
     → a ≡ allBelow k (rankPasses k (labellingIn w triples places k))
     → not a ≡ false
-    → b ≡ allBelow k (innerPasses (labellingIn w triples places k))
+    → b ≡ allBelow k (innerPasses (triplesAlone w triples k))
     → not b ≡ false
     → Ranked w triples places k
-ranked-after L ea ta eb tb = record { labels = L; ranks = answered ea ta; inners = answered eb tb }
+ranked-after {w} {k} {triples} {places} L ea ta eb tb = record { labels = L; ranks = answered ea ta; inners = answered (inners-any w k triples places eb) tb }
 
 module _ {w k : ℕ} {triples places : List ℕ} (N : Ranked w triples places k) where
   abbrev l : Labelling
@@ -68,16 +70,16 @@ module _ {w k : ℕ} {triples places : List ℕ} (N : Ranked w triples places k)
   place-low {r} {p} h i = omega (arith, rank-low l k r (ranked r h), place-was (N .labels) h i)
 
   pub m-some : {p x : ℕ} → p < k → x ≡ numAt w triples (3 * p + 1) → 1 ≤ x
-  m-some {p} h i = omega (arith, inner-some l k p (inner p h), m-was (N .labels) h i)
+  m-some {p} h i = omega (arith, inner-some l k p (inner p h), m-was (N .labels .triples-held) places h i)
 
   pub e-some : {p x : ℕ} → p < k → x ≡ numAt w triples (3 * p + 2) → 1 ≤ x
-  e-some {p} h i = omega (arith, inner-some l k p (inner p h), inner-below l k p (inner p h), e-was (N .labels) h i)
+  e-some {p} h i = omega (arith, inner-some l k p (inner p h), inner-below l k p (inner p h), e-was (N .labels .triples-held) places h i)
 
   pub e-most : {p x : ℕ} → p < k → x ≡ numAt w triples (3 * p + 2) → x ≤ k
   e-most {p} h i =
       omega (
         arith,
-        e-was (N .labels) h i,
+        e-was (N .labels .triples-held) places h i,
         rank-most k (l .byRank) (λ q. getD (l .e) q 0) (places-long w triples places k) (λ r j. rank-low l k r (ranked r j)) (λ r j. rank-own l k r (ranked r j)) p h,
       )
 

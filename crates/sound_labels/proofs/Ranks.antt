@@ -1,7 +1,7 @@
 -- The tests of one rank and of one inner interval, from what was read.
 use mathlib.Core.Bool.{false}
 use mathlib.Core.Path.{_≡_}
-use mathlib.Core.List.{List}
+use mathlib.Core.List.{List, []}
 use Prim.Native.Nat.{ℕ, _+_, _*_, _≤_, _<_}
 use native.Mathlib.Numerals.{add-one}
 use lib.Dec.{eqb, leb}
@@ -9,7 +9,8 @@ use borrow.Author.Tests.{lt-ltb, le-ltb, le-leb, lt-leb}
 use Rattle.lineage.specs.Numbers.{numAt}
 use Rattle.lineage.specs.Sound.{rankPasses, innerPasses}
 use Rattle.stored.specs.Sections.{labellingIn}
-use Rattle.sound_labels.specs.Fit.{Labels}
+use Rattle.sound_labels.specs.Fit.{Triples, Labels}
+use Rattle.sound_labels.specs.Tests.{triplesAlone}
 use Rattle.sound_labels.proofs.Read.{m-was, e-was, place-was}
 
 module _ {w k : ℕ} {triples places : List ℕ} (L : Labels w triples places k) where
@@ -18,11 +19,11 @@ module _ {w k : ℕ} {triples places : List ℕ} (L : Labels w triples places k)
     rank-beyond h = rw (← (place-was L low read), le-ltb p k h)
 
     pub rank-is : {x : ℕ} → p < k → x ≡ numAt w triples (3 * p + 2) → eqb x (r + 1) ≡ rankPasses k (labellingIn w triples places k) r
-    rank-is h e = rw (add-one r, ← (place-was L low read), lt-ltb p k h, ← (e-was L h e))
+    rank-is h e = rw (add-one r, ← (place-was L low read), lt-ltb p k h, ← (e-was (L .triples-held) places h e))
 
-  module _ {p m : ℕ} (low : p < k) (read : m ≡ numAt w triples (3 * p + 1)) where
-    pub inner-none : m < 1 → false ≡ innerPasses (labellingIn w triples places k) p
-    inner-none h = rw (← (m-was L low read), lt-leb 1 m h)
+module _ {w k : ℕ} {triples : List ℕ} (T : Triples w triples k) {p m : ℕ} (low : p < k) (read : m ≡ numAt w triples (3 * p + 1)) where
+  pub inner-none : m < 1 → false ≡ innerPasses (triplesAlone w triples k) p
+  inner-none h = rw (← (m-was T [] low read), lt-leb 1 m h)
 
-    pub inner-is : {x : ℕ} → 1 ≤ m → x ≡ numAt w triples (3 * p + 2) → leb m x ≡ innerPasses (labellingIn w triples places k) p
-    inner-is h e = rw (← (m-was L low read), le-leb 1 m h, ← (e-was L low e))
+  pub inner-is : {x : ℕ} → 1 ≤ m → x ≡ numAt w triples (3 * p + 2) → leb m x ≡ innerPasses (triplesAlone w triples k) p
+  inner-is h e = rw (← (m-was T [] low read), le-leb 1 m h, ← (e-was T [] low e))

@@ -19,10 +19,10 @@ pub record Labels (w : ℕ) (triples places : List ℕ) (k : ℕ) : Type 0 where
   pub triples-held : Triples w triples k
   pub places-held : Holds w places k
 
--- children that are places, and a labelling of as many groups
-pub record Labelled (w : ℕ) (starts children triples places : List ℕ) (k c : ℕ) : Type 0 where
+-- children that are places, and the triples of as many groups
+pub record Labelled (w : ℕ) (starts children triples : List ℕ) (k c : ℕ) : Type 0 where
   pub below : Places w starts children k c
-  pub labels : Labels w triples places k
+  pub triples-held : Triples w triples k
 
 -- a labelling whose ranks and inner intervals have passed their tests
 pub record Ranked (w : ℕ) (triples places : List ℕ) (k : ℕ) : Type 0 where

@@ -9,6 +9,10 @@ use Rattle.lineage.specs.Labels.{Labelling}
 use Rattle.lineage.specs.Sound.{labelsPass}
 use Rattle.stored.specs.Sections.{labellingIn, triplesOf, placesOf}
 
+-- a labelling of which only the triples are told: the tests of s, m and e look at nothing else
+abbrev pub triplesAlone : ℕ → List ℕ → ℕ → Labelling
+triplesAlone w triples k = labellingIn w triples [] k
+
 -- e falls from p to child i of its row
 abbrev pub fallsTo : List (List ℕ) → Labelling → ℕ → ℕ → Bool
 fallsTo children l p i = ltb (getD (l .e) (getD (getD children p []) i 0) 0) (getD (l .e) p 0)

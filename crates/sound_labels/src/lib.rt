@@ -9,7 +9,7 @@ ghost use Rattle.lineage.specs.Sound.{childOf, walkEnds, rankPasses, fallPasses
 ghost use Rattle.numbers.specs.Marks.{markAll};
 ghost use Rattle.stored.specs.Sections.{childrenIn, labellingIn, labelsIn};
 ghost use Rattle.sound_groups.specs.Fit.{Places};
-ghost use Rattle.sound_labels.specs.Tests.{leastBelow, labellingPasses};
+ghost use Rattle.sound_labels.specs.Tests.{triplesAlone, leastBelow, labellingPasses};
 ghost use Rattle.sound_labels.specs.Marks.{unmarked, Within, Tells};
 ghost use Rattle.sound_labels.specs.Fit.{Triples, Labels, Labelled, Ranked, Labellings};
 use numbers::clear_marks;
@@ -65,15 +65,14 @@ fn fall_passes(
     starts: &[u8],
     children: &[u8],
     triples: &[u8],
-    places: &[u8],
     w: usize,
     k: usize,
     c: usize,
     p: usize,
 ) -> bool
-    requires { ⌜ Labelled w (now starts) (now children) (now triples) (now places) k c ⌝ }
+    requires { ⌜ Labelled w (now starts) (now children) (now triples) k c ⌝ }
     requires { ⌜ p < k ⌝ }
-    ensures { λ a. ⌜ a ≡ fallPasses (childrenIn w (now (starts .entry)) (now (children .entry)) k c) (labellingIn w (now (triples .entry)) (now (places .entry)) k) p ⌝ }
+    ensures { λ a. ⌜ a ≡ fallPasses (childrenIn w (now (starts .entry)) (now (children .entry)) k c) (triplesAlone w (now (triples .entry)) k) p ⌝ }
 {
     let row = row_span(starts, w, k, c, p);
     let from = row.from;
@@ -91,21 +90,13 @@ fn fall_passes(
 }
 
 // Whether e falls along the children of every group.
-fn falls_pass(
-    starts: &[u8],
-    children: &[u8],
-    triples: &[u8],
-    places: &[u8],
-    w: usize,
-    k: usize,
-    c: usize,
-) -> bool
-    requires { ⌜ Labelled w (now starts) (now children) (now triples) (now places) k c ⌝ }
-    ensures { λ a. ⌜ a ≡ allBelow k (fallPasses (childrenIn w (now (starts .entry)) (now (children .entry)) k c) (labellingIn w (now (triples .entry)) (now (places .entry)) k)) ⌝ }
+fn falls_pass(starts: &[u8], children: &[u8], triples: &[u8], w: usize, k: usize, c: usize) -> bool
+    requires { ⌜ Labelled w (now starts) (now children) (now triples) k c ⌝ }
+    ensures { λ a. ⌜ a ≡ allBelow k (fallPasses (childrenIn w (now (starts .entry)) (now (children .entry)) k c) (triplesAlone w (now (triples .entry)) k)) ⌝ }
 {
     let mut p = 0;
     while p < k {
-        if !fall_passes(starts, children, triples, places, w, k, c, p) {
+        if !fall_passes(starts, children, triples, w, k, c, p) {
             return false;
         }
         p += 1;
@@ -124,15 +115,14 @@ fn least_below(
     starts: &[u8],
     children: &[u8],
     triples: &[u8],
-    places: &[u8],
     w: usize,
     k: usize,
     c: usize,
     p: usize,
 ) -> usize
-    requires { ⌜ Labelled w (now starts) (now children) (now triples) (now places) k c ⌝ }
+    requires { ⌜ Labelled w (now starts) (now children) (now triples) k c ⌝ }
     requires { ⌜ p < k ⌝ }
-    ensures { λ r. ⌜ r ≡ leastBelow (childrenIn w (now (starts .entry)) (now (children .entry)) k c) (labellingIn w (now (triples .entry)) (now (places .entry)) k) p ⌝ }
+    ensures { λ r. ⌜ r ≡ leastBelow (childrenIn w (now (starts .entry)) (now (children .entry)) k c) (triplesAlone w (now (triples .entry)) k) p ⌝ }
 {
     let row = row_span(starts, w, k, c, p);
     let from = row.from;
@@ -152,35 +142,26 @@ fn outer_passes(
     starts: &[u8],
     children: &[u8],
     triples: &[u8],
-    places: &[u8],
     w: usize,
     k: usize,
     c: usize,
     p: usize,
 ) -> bool
-    requires { ⌜ Labelled w (now starts) (now children) (now triples) (now places) k c ⌝ }
+    requires { ⌜ Labelled w (now starts) (now children) (now triples) k c ⌝ }
     requires { ⌜ p < k ⌝ }
-    ensures { λ a. ⌜ a ≡ outerPasses (childrenIn w (now (starts .entry)) (now (children .entry)) k c) (labellingIn w (now (triples .entry)) (now (places .entry)) k) p ⌝ }
+    ensures { λ a. ⌜ a ≡ outerPasses (childrenIn w (now (starts .entry)) (now (children .entry)) k c) (triplesAlone w (now (triples .entry)) k) p ⌝ }
 {
-    label(triples, w, k, p, S) == least_below(starts, children, triples, places, w, k, c, p)
+    label(triples, w, k, p, S) == least_below(starts, children, triples, w, k, c, p)
 }
 
 // Whether s of every group is the least of its own e and its children's s.
-fn outers_pass(
-    starts: &[u8],
-    children: &[u8],
-    triples: &[u8],
-    places: &[u8],
-    w: usize,
-    k: usize,
-    c: usize,
-) -> bool
-    requires { ⌜ Labelled w (now starts) (now children) (now triples) (now places) k c ⌝ }
-    ensures { λ a. ⌜ a ≡ allBelow k (outerPasses (childrenIn w (now (starts .entry)) (now (children .entry)) k c) (labellingIn w (now (triples .entry)) (now (places .entry)) k)) ⌝ }
+fn outers_pass(starts: &[u8], children: &[u8], triples: &[u8], w: usize, k: usize, c: usize) -> bool
+    requires { ⌜ Labelled w (now starts) (now children) (now triples) k c ⌝ }
+    ensures { λ a. ⌜ a ≡ allBelow k (outerPasses (childrenIn w (now (starts .entry)) (now (children .entry)) k c) (triplesAlone w (now (triples .entry)) k)) ⌝ }
 {
     let mut p = 0;
     while p < k {
-        if !outer_passes(starts, children, triples, places, w, k, c, p) {
+        if !outer_passes(starts, children, triples, w, k, c, p) {
             return false;
         }
         p += 1;
@@ -189,10 +170,10 @@ fn outers_pass(
 }
 
 // Whether m of group p is a rank not above its e.
-fn inner_passes(triples: &[u8], places: &[u8], w: usize, k: usize, p: usize) -> bool
-    requires { ⌜ Labels w (now triples) (now places) k ⌝ }
+fn inner_passes(triples: &[u8], w: usize, k: usize, p: usize) -> bool
+    requires { ⌜ Triples w (now triples) k ⌝ }
     requires { ⌜ p < k ⌝ }
-    ensures { λ a. ⌜ a ≡ innerPasses (labellingIn w (now (triples .entry)) (now (places .entry)) k) p ⌝ }
+    ensures { λ a. ⌜ a ≡ innerPasses (triplesAlone w (now (triples .entry)) k) p ⌝ }
 {
     let m = label(triples, w, k, p, M);
     if m < 1 {
@@ -202,13 +183,13 @@ fn inner_passes(triples: &[u8], places: &[u8], w: usize, k: usize, p: usize) -> 
 }
 
 // Whether m of every group is a rank not above its e.
-fn inners_pass(triples: &[u8], places: &[u8], w: usize, k: usize) -> bool
-    requires { ⌜ Labels w (now triples) (now places) k ⌝ }
-    ensures { λ a. ⌜ a ≡ allBelow k (innerPasses (labellingIn w (now (triples .entry)) (now (places .entry)) k)) ⌝ }
+fn inners_pass(triples: &[u8], w: usize, k: usize) -> bool
+    requires { ⌜ Triples w (now triples) k ⌝ }
+    ensures { λ a. ⌜ a ≡ allBelow k (innerPasses (triplesAlone w (now (triples .entry)) k)) ⌝ }
 {
     let mut p = 0;
     while p < k {
-        if !inner_passes(triples, places, w, k, p) {
+        if !inner_passes(triples, w, k, p) {
             return false;
         }
         p += 1;
@@ -342,20 +323,21 @@ fn labels_pass(
     k: usize,
     c: usize,
 ) -> bool
-    requires { ⌜ Labelled w (now starts) (now children) (now triples) (now places) k c ⌝ }
+    requires { ⌜ Places w (now starts) (now children) k c ⌝ }
+    requires { ⌜ Labels w (now triples) (now places) k ⌝ }
     requires { ⌜ Tells (childrenIn w (now starts) (now children) k c) (now marks) k ⌝ }
     ensures { λ a. ⌜ a ≡ labelsPass (childrenIn w (now (starts .entry)) (now (children .entry)) k c) (labellingIn w (now (triples .entry)) (now (places .entry)) k) ⌝ }
 {
     if !ranks_pass(triples, places, w, k) {
         return false;
     }
-    if !falls_pass(starts, children, triples, places, w, k, c) {
+    if !falls_pass(starts, children, triples, w, k, c) {
         return false;
     }
-    if !outers_pass(starts, children, triples, places, w, k, c) {
+    if !outers_pass(starts, children, triples, w, k, c) {
         return false;
     }
-    if !inners_pass(triples, places, w, k) {
+    if !inners_pass(triples, w, k) {
         return false;
     }
     if !blocks_pass(starts, children, triples, places, w, k, c) {

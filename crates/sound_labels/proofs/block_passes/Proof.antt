@@ -76,7 +76,7 @@ loop-less c =
     let l = n .before .before in
     let N = start l .pre .1 .0 in
     walks-less (l .loop .inv) (goes-left N) (n .before .loop-test .taken) (place-was (N .labels) (omega arith) (n .num .ensures .0))
-    (m-was (N .labels) (place-low N (omega arith) (n .num .ensures .0)) (c .label3 .ensures .0))
+    (m-was (N .labels .triples-held) _ (place-low N (omega arith) (n .num .ensures .0)) (c .label3 .ensures .0))
 
 loop-again : tie.Need-loop-again Inv-loop μ-loop
 loop-again c =
@@ -84,7 +84,7 @@ loop-again c =
     let l = n .before .before in
     let N = start l .pre .1 .0 in
     walks-left (l .loop .inv) (goes-left N) (n .before .loop-test .taken) (place-was (N .labels) (omega arith) (n .num .ensures .0))
-    (m-was (N .labels) (place-low N (omega arith) (n .num .ensures .0)) (c .label3 .ensures .0))
+    (m-was (N .labels .triples-held) _ (place-low N (omega arith) (n .num .ensures .0)) (c .label3 .ensures .0))
     (answered (c .before .before .child-in .ensures) (c .before .if1 .left))
 
 returns-2 : tie.Need-returns-2 Inv-loop μ-loop

@@ -3,33 +3,33 @@ use mathlib.Core.Path.{sym, _∙_}
 use Prim.Native.Nat.{_-_}
 use native.Mathlib.Omega.{arith}
 use Rattle.laws.proofs.Lists.{all-broken}
-use Rattle.stored.specs.Sections.{childrenIn, labellingIn}
+use Rattle.stored.specs.Sections.{childrenIn}
 use Rattle.sound_groups.proofs.Passed.{Passed, passed-none, passed-next, passed-all}
 use Rattle.sound_groups.proofs.Row.{can-read-child, child-low}
-use Rattle.sound_labels.specs.Tests.{fallsTo}
+use Rattle.sound_labels.specs.Tests.{triplesAlone, fallsTo}
 use Rattle.sound_labels.proofs.Falls.{fall-is, falls, falls-not}
 use Rattle.sound_labels.proofs.fall_passes.Statement.{statement}
 use Rattle.sound_labels.proofs.fall_passes.Tie as tie
 
 abbrev Inv-loop : tie.InvT-loop
-Inv-loop starts children triples places w k c p from len top i₀ i =
-    Passed (fallsTo (childrenIn w starts children k c) (labellingIn w triples places k) p) len i
+Inv-loop starts children triples w k c p from len top i₀ i =
+    Passed (fallsTo (childrenIn w starts children k c) (triplesAlone w triples k) p) len i
 
 abbrev μ-loop : tie.MeasureT-loop
-μ-loop starts children triples places w k c p from len top i₀ i = len - i
+μ-loop starts children triples w k c p from len top i₀ i = len - i
 
 -- where the row is found, and where the function starts, from its loop
 abbrev spanned : tie.At-loop Inv-loop μ-loop → tie.After-row-span Inv-loop μ-loop
 spanned l = l .before .before
 
 abbrev start : tie.At-loop Inv-loop μ-loop → tie.Start Inv-loop μ-loop
-start l = spanned l .before .before .before .before .before
+start l = spanned l .before .before .before .before
 
 row-span-requires : tie.Need-row-span-requires Inv-loop μ-loop
-row-span-requires c κs = (c .before .before .before .before .pre .0 .below .entries .rows, c .before .before .before .before .pre .1)
+row-span-requires c κs = (c .before .before .before .pre .0 .below .entries .rows, c .before .before .before .pre .1)
 
 label-requires : tie.Need-label-requires Inv-loop μ-loop
-label-requires c κs = (c .before .before .before .before .before .pre .0 .labels .triples-held, omega arith)
+label-requires c κs = (c .before .before .before .before .pre .0 .triples-held, omega arith)
 
 loop-holds : tie.Need-loop-holds Inv-loop μ-loop
 loop-holds c = passed-none _ _
@@ -44,7 +44,7 @@ label-requires-2 : tie.Need-label-requires-2 Inv-loop μ-loop
 label-requires-2 c κs =
     let l = c .before .before in
     let L = start l .pre .0 in
-    (L .labels .triples-held, (child-low (L .below) (spanned l .row-span .ensures) (c .before .loop-test .taken) (c .num .ensures .0), omega arith))
+    (L .triples-held, (child-low (L .below) (spanned l .row-span .ensures) (c .before .loop-test .taken) (c .num .ensures .0), omega arith))
 
 returns : tie.Need-returns Inv-loop μ-loop
 returns c =

@@ -3,22 +3,23 @@ use mathlib.Core.Path.{sym}
 use Prim.Native.Nat.{_-_}
 use native.Mathlib.Omega.{arith}
 use Rattle.lineage.specs.Sound.{fallPasses}
-use Rattle.stored.specs.Sections.{childrenIn, labellingIn}
+use Rattle.stored.specs.Sections.{childrenIn}
 use Rattle.sound_groups.proofs.Passed.{Passed, passed-none, passed-more, passed-all, passed-not}
+use Rattle.sound_labels.specs.Tests.{triplesAlone}
 use Rattle.sound_labels.proofs.falls_pass.Statement.{statement}
 use Rattle.sound_labels.proofs.falls_pass.Tie as tie
 
 abbrev Inv-loop : tie.InvT-loop
-Inv-loop starts children triples places w k c p₀ p = Passed (fallPasses (childrenIn w starts children k c) (labellingIn w triples places k)) k p
+Inv-loop starts children triples w k c p₀ p = Passed (fallPasses (childrenIn w starts children k c) (triplesAlone w triples k)) k p
 
 abbrev μ-loop : tie.MeasureT-loop
-μ-loop starts children triples places w k c p₀ p = k - p
+μ-loop starts children triples w k c p₀ p = k - p
 
 loop-holds : tie.Need-loop-holds Inv-loop μ-loop
 loop-holds c = passed-none _ _
 
 fall-passes-requires : tie.Need-fall-passes-requires Inv-loop μ-loop
-fall-passes-requires c κs = (c .before .before .before .before .before .before .pre, c .loop-test .taken)
+fall-passes-requires c κs = (c .before .before .before .before .before .pre, c .loop-test .taken)
 
 returns : tie.Need-returns Inv-loop μ-loop
 returns c = sym (passed-not (c .before .before .before .loop .inv) (c .before .before .loop-test .taken) (c .before .fall-passes .ensures) (c .if1 .taken))

@@ -3,22 +3,22 @@ use mathlib.Core.Path.{sym}
 use Prim.Native.Nat.{_-_}
 use native.Mathlib.Omega.{arith}
 use Rattle.lineage.specs.Sound.{innerPasses}
-use Rattle.stored.specs.Sections.{labellingIn}
 use Rattle.sound_groups.proofs.Passed.{Passed, passed-none, passed-more, passed-all, passed-not}
+use Rattle.sound_labels.specs.Tests.{triplesAlone}
 use Rattle.sound_labels.proofs.inners_pass.Statement.{statement}
 use Rattle.sound_labels.proofs.inners_pass.Tie as tie
 
 abbrev Inv-loop : tie.InvT-loop
-Inv-loop triples places w k p₀ p = Passed (innerPasses (labellingIn w triples places k)) k p
+Inv-loop triples w k p₀ p = Passed (innerPasses (triplesAlone w triples k)) k p
 
 abbrev μ-loop : tie.MeasureT-loop
-μ-loop triples places w k p₀ p = k - p
+μ-loop triples w k p₀ p = k - p
 
 loop-holds : tie.Need-loop-holds Inv-loop μ-loop
 loop-holds c = passed-none _ _
 
 inner-passes-requires : tie.Need-inner-passes-requires Inv-loop μ-loop
-inner-passes-requires c κs = (c .before .before .before .before .pre, c .loop-test .taken)
+inner-passes-requires c κs = (c .before .before .before .pre, c .loop-test .taken)
 
 returns : tie.Need-returns Inv-loop μ-loop
 returns c = sym (passed-not (c .before .before .before .loop .inv) (c .before .before .loop-test .taken) (c .before .inner-passes .ensures) (c .if1 .taken))

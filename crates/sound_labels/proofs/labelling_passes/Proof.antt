@@ -14,7 +14,7 @@ by-rank-requires c κs = search needs
 labels-pass-requires : tie.Need-labels-pass-requires
 labels-pass-requires c κs =
     let s = c .before .before .before .before .before .before in
-    (record { below = s .pre .0; labels = labels-held (s .pre .1 .0) (s .args .j) (c .before .triples .ensures) (c .by-rank .ensures) }, s .pre .1 .1 .0)
+    (s .pre .0, (labels-held (s .pre .1 .0) (s .args .j) (c .before .triples .ensures) (c .by-rank .ensures), s .pre .1 .1 .0))
 
 returns : tie.Need-returns
 returns c =

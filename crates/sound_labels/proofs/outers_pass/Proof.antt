@@ -3,22 +3,23 @@ use mathlib.Core.Path.{sym}
 use Prim.Native.Nat.{_-_}
 use native.Mathlib.Omega.{arith}
 use Rattle.lineage.specs.Sound.{outerPasses}
-use Rattle.stored.specs.Sections.{childrenIn, labellingIn}
+use Rattle.stored.specs.Sections.{childrenIn}
 use Rattle.sound_groups.proofs.Passed.{Passed, passed-none, passed-more, passed-all, passed-not}
+use Rattle.sound_labels.specs.Tests.{triplesAlone}
 use Rattle.sound_labels.proofs.outers_pass.Statement.{statement}
 use Rattle.sound_labels.proofs.outers_pass.Tie as tie
 
 abbrev Inv-loop : tie.InvT-loop
-Inv-loop starts children triples places w k c p₀ p = Passed (outerPasses (childrenIn w starts children k c) (labellingIn w triples places k)) k p
+Inv-loop starts children triples w k c p₀ p = Passed (outerPasses (childrenIn w starts children k c) (triplesAlone w triples k)) k p
 
 abbrev μ-loop : tie.MeasureT-loop
-μ-loop starts children triples places w k c p₀ p = k - p
+μ-loop starts children triples w k c p₀ p = k - p
 
 loop-holds : tie.Need-loop-holds Inv-loop μ-loop
 loop-holds c = passed-none _ _
 
 outer-passes-requires : tie.Need-outer-passes-requires Inv-loop μ-loop
-outer-passes-requires c κs = (c .before .before .before .before .before .before .pre, c .loop-test .taken)
+outer-passes-requires c κs = (c .before .before .before .before .before .pre, c .loop-test .taken)
 
 returns : tie.Need-returns Inv-loop μ-loop
 returns c = sym (passed-not (c .before .before .before .loop .inv) (c .before .before .loop-test .taken) (c .before .outer-passes .ensures) (c .if1 .taken))

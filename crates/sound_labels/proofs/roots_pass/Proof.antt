@@ -60,7 +60,7 @@ loop-less c =
     let l = n .before .before in
     let N = start l .pre .0 in
     walks-less (l .loop .inv) (goes-left N) (n .before .loop-test .taken) (place-was (N .labels) (omega arith) (n .num .ensures .0))
-    (m-was (N .labels) (place-low N (omega arith) (n .num .ensures .0)) (c .label .ensures .0))
+    (m-was (N .labels .triples-held) _ (place-low N (omega arith) (n .num .ensures .0)) (c .label .ensures .0))
 
 loop-again : tie.Need-loop-again Inv-loop μ-loop
 loop-again c =
@@ -68,7 +68,7 @@ loop-again c =
     let l = n .before .before in
     let N = start l .pre .0 in
     walks-left (l .loop .inv) (goes-left N) (n .before .loop-test .taken) (place-was (N .labels) (omega arith) (n .num .ensures .0))
-    (m-was (N .labels) (place-low N (omega arith) (n .num .ensures .0)) (c .label .ensures .0)) (eq-eqb _ _ (c .before .if1 .left))
+    (m-was (N .labels .triples-held) _ (place-low N (omega arith) (n .num .ensures .0)) (c .label .ensures .0)) (eq-eqb _ _ (c .before .if1 .left))
 
 returns-2 : tie.Need-returns-2 Inv-loop μ-loop
 returns-2 c = let l = c .before in sym (eq-eqb (l .loop .rank) 0 (omega arith)) ∙ walks-end (l .loop .inv) (c .loop-test .left)
