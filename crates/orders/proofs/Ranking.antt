@@ -15,7 +15,7 @@ use Rattle.laws.proofs.Tests.{is-false}
 use Rattle.laws.proofs.Lists.{in-getD, in-upto, those-append, those-yes, those-no, those-keep}
 use Rattle.laws.proofs.Grouped.{listed-name}
 use Rattle.laws.proofs.Parts.{part-length, part-at, part-more}
-use Rattle.numbers.proofs.Regions.{read-at, Written, written-none, written-more}
+use Rattle.numbers.proofs.Regions.{read-at, Written, written-none, written-more, written-behind}
 use Rattle.rows.proofs.Orders.{order-low}
 use Rattle.orders.specs.Fit.{RankedFit}
 
@@ -79,30 +79,35 @@ module _
     one-more : part orders at (j + 1) ≡ part orders at j ++ (getD orders (at + j) 0 ∷ [])
     one-more = part-more orders at j 0 (omega (arith, f .inside))
 
-    -- it is its own name: its place is written
-    pub ranking-more :
-        {w' : List ℕ} {k' : ℕ} → getD w (names + getD orders (at + j) 0) 0 ≡ getD orders (at + j) 0
-        → w' ≡ set w (base + k) (getD w (place + getD orders (at + j) 0) 0) → k' ≡ k + 1 → Ranking orders w₀ w' at n names base (j + 1) k'
-    ranking-more e ew ek =
-        let v : ℕ = getD orders (at + j) 0 in
-        let groups : List ℕ = groupList (part w₀ names n) in
+    abbrev v : ℕ
+    v = getD orders (at + j) 0
+
+    abbrev groups : List ℕ
+    groups = groupList (part w₀ names n)
+
+    -- its place is written
+    abbrev w' : List ℕ
+    w' = set w (base + k) (getD w (place + v) 0)
+
+    -- it is its own name: its place is counted
+    pub ranking-more : {k' : ℕ} → getD w (names + v) 0 ≡ v → k' ≡ k + 1 → Ranking orders w₀ w' at n names base (j + 1) k'
+    ranking-more e ek =
         let own : getD (part w₀ names n) v 0 ≡ v = sym name-at ∙ e in
         let place-is : getD w (place + v) 0 ≡ placeOf groups v = read-at (f .place-there) (i .written .kept) v low ∙ f .places v low ∙ ap (placeOf groups) own in
         let listed : among v groups ≡ true = name-listed (part w₀ names n) v (omega (arith, low, part-length w₀ names n (f .names-there .fits))) own in
-        rw (ew, ek, place-is) (record {
+        rw (ek, place-is) (record {
           few = omega (arith, i .few);
           written = rw (one-more, in-order-more (part orders at j) groups v listed) (written-more (placeOf groups v) (omega (arith, i .few)) (f .room) (i .written));
         })
 
-    -- it is not: nothing is written
-    pub ranking-past :
-        {w' : List ℕ} {k' : ℕ} → (getD w (names + getD orders (at + j) 0) 0 ≡ getD orders (at + j) 0 → ⊥)
-        → w' ≡ w → k' ≡ k → Ranking orders w₀ w' at n names base (j + 1) k'
-    ranking-past ne ew ek =
-        let v : ℕ = getD orders (at + j) 0 in
-        let groups : List ℕ = groupList (part w₀ names n) in
+    -- it is not: the next one takes its word
+    pub ranking-past : {k' : ℕ} → (getD w (names + v) 0 ≡ v → ⊥) → k' ≡ k → Ranking orders w₀ w' at n names base (j + 1) k'
+    ranking-past ne ek =
         let other : among v groups ≡ false = is-false (among v groups) (λ t. ne (name-at ∙ listed-name (part w₀ names n) v t .1)) in
-        rw (ew, ek) (record { few = omega (arith, i .few); written = rw (one-more, in-order-past (part orders at j) groups v other) (i .written) })
+        rw ek (record {
+          few = omega (arith, i .few);
+          written = rw (one-more, in-order-past (part orders at j) groups v other) (written-behind (getD w (place + v) 0) (omega (arith, i .few)) (i .written));
+        })
 
 pub ranking-all :
     {orders w₀ w : List ℕ} {at n names base j k : ℕ} → j ≡ n → Ranking orders w₀ w at n names base j k

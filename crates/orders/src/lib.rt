@@ -84,7 +84,8 @@ pub fn bad_order(orders: &[u32], d: usize, n: usize, w: &mut [u32], base: usize)
     i
 }
 
-// The places of all groups as their names stand in the order at `at`; returns how many they are.
+// The places of all groups as their names stand in the order at `at`; returns how many they are. Every vertex's place is written, and counted only where the vertex
+// names its group; otherwise the next one takes its word.
 pub fn ranked(
     orders: &[u32],
     at: usize,
@@ -104,8 +105,9 @@ pub fn ranked(
     while j < n {
         let v = orders[at + j];
         let i = v as usize;
-        if w[names + i] == v {
-            w[base + k] = w[place + i];
+        let name = w[names + i];
+        w[base + k] = w[place + i];
+        if name == v {
             k += 1;
         }
         j += 1;

@@ -28,7 +28,7 @@ write-order-requires : tie.Need-write-order-requires Inv-loop μ-loop
 write-order-requires c κs =
     let l = c .before .before .before .before in
     let s = start l in
-    (turns-ready (s .pre .0) (l .loop .inv), (c .before .before .if1 .taken, omega (arith, turns-within (s .pre .0) (l .loop .inv) (s .pre .1) (c .before .before .if1 .taken), l .loop .inv .long)))
+    (turns-ready (s .pre .0) (l .loop .inv), (omega arith, omega (arith, turns-within (s .pre .0) (l .loop .inv) (s .pre .1) (c .before .before .if1 .taken), l .loop .inv .long)))
 
 add-at : tie.Need-add-at Inv-loop μ-loop
 add-at c =

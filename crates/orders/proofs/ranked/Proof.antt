@@ -35,32 +35,32 @@ shared-slice-read-v c = search needs
 cast-i : tie.Need-cast-i Inv-loop μ-loop
 cast-i c = omega (arith, vertex (c .before))
 
-add-if1 : tie.Need-add-if1 Inv-loop μ-loop
-add-if1 c = omega (arith, vertex (c .before))
+add-name : tie.Need-add-name Inv-loop μ-loop
+add-name c = omega (arith, vertex (c .before))
 
-mul-if1 : tie.Need-mul-if1 Inv-loop μ-loop
-mul-if1 c = omega (arith, vertex (c .before))
+mul-name : tie.Need-mul-name Inv-loop μ-loop
+mul-name c = omega (arith, vertex (c .before))
 
-slice-read-if1 : tie.Need-slice-read-if1 Inv-loop μ-loop
-slice-read-if1 c = vertex (c .before .before) .name-in
+slice-read-name : tie.Need-slice-read-name Inv-loop μ-loop
+slice-read-name c = vertex (c .before .before) .name-in
 
 add-w : tie.Need-add-w Inv-loop μ-loop
-add-w c = omega (arith, vertex (c .before .before .before))
+add-w c = omega (arith, vertex (c .before .before))
 
 mul-w : tie.Need-mul-w Inv-loop μ-loop
-mul-w c = omega (arith, vertex (c .before .before .before))
+mul-w c = omega (arith, vertex (c .before .before))
 
 slice-read-w : tie.Need-slice-read-w Inv-loop μ-loop
-slice-read-w c = vertex (c .before .before .before .before) .place-in
+slice-read-w c = vertex (c .before .before .before) .place-in
 
 add-w-2 : tie.Need-add-w-2 Inv-loop μ-loop
-add-w-2 c = omega (arith, vertex (c .before .before .before .before))
+add-w-2 c = omega (arith, vertex (c .before .before .before))
 
 mul-w-2 : tie.Need-mul-w-2 Inv-loop μ-loop
-mul-w-2 c = omega (arith, vertex (c .before .before .before .before))
+mul-w-2 c = omega (arith, vertex (c .before .before .before))
 
 slice-write-w : tie.Need-slice-write-w Inv-loop μ-loop
-slice-write-w c = omega (arith, vertex (c .before .before .before .before))
+slice-write-w c = omega (arith, vertex (c .before .before .before))
 
 add-k : tie.Need-add-k Inv-loop μ-loop
 add-k c = omega (arith, vertex (c .before .before .before .before))
@@ -73,11 +73,11 @@ loop-less c = search needs
 
 loop-again : tie.Need-loop-again Inv-loop μ-loop
 loop-again c =
-    let l = c .before .before .before .before in
-    let f = l .before .pre in
-    let i = l .loop .inv .1 in
-    let h = c .before .before .before .loop-test .taken in
-    (omega arith, ⊎-elim (λ t. ranking-more f i h (t .0 .taken) (t .2) (t .3)) (λ t. ranking-past f i h (t .0 .left) (t .1) (t .2)) (c .if1 .came))
+    let v = c .before .before .before .before in
+    let f = v .before .before .pre in
+    let i = v .before .loop .inv .1 in
+    let h = v .loop-test .taken in
+    (omega arith, ⊎-elim (λ t. ranking-more f i h (t .0 .taken) (t .1)) (λ t. ranking-past f i h (t .0 .left) (t .1)) (c .if1 .came))
 
 same-length : tie.Need-same-length Inv-loop μ-loop
 same-length c = c .before .loop .inv .1 .written .kept .long
@@ -96,9 +96,9 @@ ranked-spec =
     mul-v
     shared-slice-read-v
     cast-i
-    add-if1
-    mul-if1
-    slice-read-if1
+    add-name
+    mul-name
+    slice-read-name
     add-w
     mul-w
     slice-read-w
