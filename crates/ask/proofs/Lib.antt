@@ -12,4 +12,5 @@ pub mod Soundness
 pub mod Asking
 pub mod Refusals
 pub mod Answered
+pub mod Words
 pub mod Theorems

@@ -1,0 +1,2 @@
+-- The laws of the whole run.
+pub mod Answering
