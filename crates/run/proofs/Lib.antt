@@ -1,2 +1,5 @@
 -- The laws of the whole run.
 pub mod Answering
+pub mod Finished
+pub mod Whole
+pub mod Theorems

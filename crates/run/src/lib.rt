@@ -25,7 +25,11 @@ pub const MOST_OUTPUT: usize = 54 * MOST_QUESTIONS;
 // The words and bytes that a build is lent: 16n + 4 x edges + 64, and 50 + 2n + 6k + 2c + 8dk at the program's bounds.
 const WORK: usize = 16 * MOST_VERTICES + 4 * MOST_EDGES + 64;
 
-const INDEX: usize = 50 + 2 * MOST_VERTICES + 6 * MOST_VERTICES + 2 * MOST_EDGES + 8 * MOST_ORDERS * MOST_VERTICES;
+const INDEX: usize = 50
+    + 2 * MOST_VERTICES
+    + 6 * MOST_VERTICES
+    + 2 * MOST_EDGES
+    + 8 * MOST_ORDERS * MOST_VERTICES;
 
 // A refusal that is printed alone.
 fn put_refused(out: &mut [u8], number: u32, extra: u32) -> usize
@@ -48,7 +52,12 @@ fn put_told(out: &mut [u8], at: usize, index: &[u8], source: u32, target: u32) -
             reason,
             opened,
         } => print::put_said(out, at, says, reason, opened),
-        Asked::Refused { number, extra } => print::put_refusal(out, at, number as u32, extra as u32),
+        Asked::Refused { number, extra } => print::put_refusal(
+            out,
+            at,
+            number as u32,
+            extra as u32,
+        ),
     }
 }
 
