@@ -1,8 +1,9 @@
 -- What a run promises, by its contract alone: two results that it allows are equal, and the bytes that it counts are what the program is defined to print.
 use mathlib.Core.List.{List, _++_}
 use mathlib.Core.Path.{_≡_, sym, ap, _∙_}
-use Prim.Native.Nat.{ℕ}
-use lib.ListN.{length, take, drop}
+use Prim.Native.Nat.{ℕ, _≤_}
+use native.Mathlib.Omega.{arith}
+use lib.ListN.{length, take, drop, length-append}
 use lib.Seq.{take-at, drop-at}
 use Rattle.text.specs.Output.{output}
 
@@ -23,3 +24,7 @@ run-prints {text} {out} {r} X = rw (X .writes) (take-at (output text) (drop r ou
 
 pub run-keeps : {text out : List ℕ} {r : ℕ} {o : List ℕ} → Allowed text out r o → drop r o ≡ drop r out
 run-keeps {text} {out} {r} X = rw (X .writes) (drop-at (output text) (drop r out) r (sym (X .counts)))
+
+-- the output holds the bytes that are counted
+pub run-within : {text out : List ℕ} {r : ℕ} {o : List ℕ} → Allowed text out r o → r ≤ length o
+run-within {text} {out} {r} X = omega (arith, X .counts, ap length (X .writes), length-append (output text) (drop r out))
