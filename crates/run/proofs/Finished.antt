@@ -4,8 +4,8 @@ use mathlib.Core.Path.{_≡_, sym, ap, _∙_}
 use Prim.Native.Nat.{ℕ, _≤_}
 use native.Mathlib.Omega.{arith}
 use lib.ListN.{length, take, length-take}
-use Rattle.lineage.specs.Stored.{form1, encode}
-use Rattle.lineage.specs.Calls.{answered, built, buildAnswer}
+use Rattle.lineage.specs.Stored.{form1}
+use Rattle.lineage.specs.Calls.{answered, buildAnswer}
 use Rattle.build.specs.declared.Built.{Built}
 use Rattle.build.specs.Answers.{builtOf}
 use Rattle.build.proofs.Theorems.{Allowed, total-right, build-stores}

@@ -2,4 +2,5 @@
 pub mod Answering
 pub mod Finished
 pub mod Whole
+pub mod Refusals
 pub mod Theorems

@@ -1,5 +1,4 @@
 -- `run::put_answers` meets its contract. The loop's invariant: the lines that are put, then those of the questions still to be asked, are all lines.
-use mathlib.Core.Path.{_≡_}
 use Prim.Native.Nat.{_-_}
 use native.Mathlib.Omega.{arith}
 use lib.ListN.{length}

@@ -1,5 +1,5 @@
 -- `run::put_told` meets its contract: what `ask` gives is put, an answer or a refusal, whose numbers are of 32 bits.
-use mathlib.Core.Path.{_≡_, sym, ap, _∙_}
+use mathlib.Core.Path.{sym, ap, _∙_}
 use Prim.Native.Nat.{ℕ, _<_}
 use native.Mathlib.Omega.{arith}
 use borrow.Author.Needs.{needs}
