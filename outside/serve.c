@@ -9,7 +9,7 @@
 #include <sys/mman.h>
 #include <unistd.h>
 
-/* list and build are exported for these tests alone (crate trial); where one is not linked, a request for it ends this process */
+/* list, build and the text program's run are exported for these tests alone (crate trial); where one is not linked, a request for it ends this process */
 typedef struct { uint32_t refusal, extra, count; } counted;
 
 __attribute__((weak)) counted trial_list(const uint8_t *index, size_t index_len, uint8_t *marks, size_t marks_len, uint32_t *out, size_t out_len,
@@ -17,8 +17,12 @@ __attribute__((weak)) counted trial_list(const uint8_t *index, size_t index_len,
 __attribute__((weak)) counted trial_build(const uint32_t *sources, size_t sources_len, const uint32_t *targets, size_t targets_len,
                                           const uint32_t *orders, size_t orders_len, uint32_t *work, size_t work_len, uint8_t *out, size_t out_len,
                                           uint32_t n, uint32_t d);
+__attribute__((weak)) size_t trial_run(const uint8_t *text, size_t text_len, uint8_t *out);
 
-enum { OPEN = 1, ASK = 2, LIST = 3, BUILD = 4, ASK_ALL = 5 };
+enum { OPEN = 1, ASK = 2, LIST = 3, BUILD = 4, ASK_ALL = 5, RUN = 6 };
+
+/* the bytes that a run is lent for its output, and what they hold before it */
+enum { MOST_OUTPUT = 294894, PATTERN = 0xa5 };
 
 static void take(void *to, size_t size) {
     if (fread(to, 1, size, stdin) != size) exit(2);
@@ -37,15 +41,20 @@ static void give(const void *from, size_t size) {
 /* a lent buffer: `size` bytes that end where the forbidden page begins */
 typedef struct { uint8_t *at, *room; size_t size, whole, length; } lent;
 
-static lent buffer(size_t element) {
+static lent room(size_t length, size_t element) {
     size_t page = (size_t)sysconf(_SC_PAGESIZE);
     lent b;
-    b.length = number();
+    b.length = length;
     b.size = b.length * element;
     b.whole = (b.size + page - 1) / page * page + page;
     b.room = mmap(NULL, b.whole, PROT_READ | PROT_WRITE, MAP_PRIVATE | MAP_ANONYMOUS, -1, 0);
     if (b.room == MAP_FAILED || mprotect(b.room + b.whole - page, page, PROT_NONE)) exit(3);
     b.at = b.room + b.whole - page - b.size;
+    return b;
+}
+
+static lent buffer(size_t element) {
+    lent b = room(number(), element);
     take(b.at, b.size);
     return b;
 }
@@ -115,6 +124,18 @@ static void serve_build(void) {
     give_back(out);
 }
 
+/* how many bytes are printed, how many behind them are not as they were, and the bytes printed */
+static void serve_run(void) {
+    lent text = buffer(1), out = room(MOST_OUTPUT, 1);
+    memset(out.at, PATTERN, out.size);
+    uint32_t r[2] = {(uint32_t)trial_run(text.at, text.length, out.at), 0};
+    for (size_t i = r[0]; i < out.size; i++) r[1] += out.at[i] != PATTERN;
+    give(r, sizeof r);
+    give(out.at, r[0]);
+    done(text);
+    done(out);
+}
+
 int main(void) {
     uint32_t call;
     while (fread(&call, 4, 1, stdin) == 1) {
@@ -124,6 +145,7 @@ int main(void) {
         case LIST: if (!trial_list) return 5; serve_list(); break;
         case BUILD: if (!trial_build) return 5; serve_build(); break;
         case ASK_ALL: serve_ask_all(); break;
+        case RUN: if (!trial_run) return 5; serve_run(); break;
         default: return 4;
         }
         if (fflush(stdout)) return 2;

@@ -126,6 +126,15 @@ pub fn build_around(library: &mut Library, input: &Input) {
     }
 }
 
+/// A text through the text program's run: what both print.
+pub fn text(library: &mut Library, text: &[u8]) -> Vec<u8> {
+    let printed = library.run(text);
+    let expected = independent::run_text(text);
+    let shown = String::from_utf8_lossy;
+    assert_eq!(shown(&printed), shown(&expected), "on {:?}", shown(text));
+    printed
+}
+
 /// Pairs of vertices: all of them where they are few, a sample otherwise.
 pub fn pairs(chance: &mut Chance, n: usize, most: usize) -> Vec<(u32, u32)> {
     if n * n <= most {

@@ -2,6 +2,7 @@
 //! contents of every buffer that it could write.
 
 pub mod compare;
+pub mod texts;
 
 use independent::{Answer, Counts, Refusal};
 use std::io::{BufReader, BufWriter, Read, Write};
@@ -36,6 +37,7 @@ const ASK: u32 = 2;
 const LIST: u32 = 3;
 const BUILD: u32 = 4;
 const ASK_ALL: u32 = 5;
+const RUN: u32 = 6;
 
 /// The server that `outside/make` made, unless the environment names another.
 fn server() -> String {
@@ -161,6 +163,41 @@ impl Library {
         self.bytes_back(out);
         outcome(refusal, extra, total == 0, total)
     }
+
+    /// The text program's run on a text: what it prints. The output behind that is as it was.
+    pub fn run(&mut self, text: &[u8]) -> Vec<u8> {
+        self.number(RUN);
+        self.bytes(text);
+        let [printed, altered] = self.reply();
+        let mut out = vec![0; printed as usize];
+        self.bytes_back(&mut out);
+        assert_eq!(altered, 0, "the output behind what is printed keeps its contents");
+        out
+    }
+}
+
+/// The text program itself, fed piece by piece through a pipe and read the same way: what it writes.
+pub fn run_program(text: &[u8], piece: usize) -> Vec<u8> {
+    let mut child = Command::new(concat!(env!("CARGO_MANIFEST_DIR"), "/../target/outside/answers"))
+        .stdin(Stdio::piped())
+        .stdout(Stdio::piped())
+        .spawn()
+        .expect("the program starts: run outside/make first");
+    let (mut to, mut from) = (child.stdin.take().unwrap(), child.stdout.take().unwrap());
+    let fed = text.to_vec();
+    // a program that has seen too many bytes reads no more
+    let feeder = std::thread::spawn(move || fed.chunks(piece).try_for_each(|part| to.write_all(part)).is_ok());
+    let (mut printed, mut part) = (Vec::new(), vec![0; piece]);
+    loop {
+        match from.read(&mut part).expect("its output is read") {
+            0 => break,
+            size => printed.extend(&part[..size]),
+        }
+    }
+    let whole = feeder.join().expect("its input is written");
+    assert!(whole || text.len() > 32_768, "it reads its input to the end");
+    assert!(child.wait().expect("it ends").success());
+    printed
 }
 
 /// Refusal 0 is none; with a refusal the numbers of the answer are 0.

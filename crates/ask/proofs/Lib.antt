@@ -10,4 +10,5 @@ pub mod Rules
 pub mod Soundness
 pub mod Refusals
 pub mod Answered
+pub mod Words
 pub mod Theorems

@@ -1,3 +1,2 @@
 -- The laws that the proofs of this crate cite, and what a host may rely on.
-pub mod Words
 pub mod Theorems

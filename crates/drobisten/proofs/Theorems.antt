@@ -18,7 +18,7 @@ use Rattle.ask.proofs.Theorems.{asked-right}
 use Rattle.drobisten.specs.declared.DrobistenOpened.{DrobistenOpened}
 use Rattle.drobisten.specs.declared.DrobistenAsked.{DrobistenAsked}
 use Rattle.drobisten.specs.Host.{hostOpened, hostAsked, openedBy, askedBy}
-use Rattle.drobisten.proofs.Words.{Told, outcome-told}
+use Rattle.ask.proofs.Words.{Told, outcome-told}
 
 -- a refusal's number is above 0; of an answer nothing is asked
 abbrev Some : ℕ → ℕ → Type 0

@@ -6,4 +6,5 @@ pub mod Blocks
 pub mod Pairs
 pub mod Whole
 pub mod Putting
+pub mod Bounded
 pub mod Longest

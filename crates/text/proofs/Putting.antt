@@ -136,7 +136,7 @@ said-is says t reason opened e = ap (λ (b : Bool). said (record { says = b; rea
 pub two-short : (x y : ℕ) → length (twoNumbers x y) ≤ 21
 two-short x y = omega (arith, number-short x, number-short y, length-append (decimal x) (bytes " " ++ decimal y))
 
-told-short : (o : Outcome Said) → length (told o) ≤ 29
+pub told-short : (o : Outcome Said) → length (told o) ≤ 29
 told-short (refused number extra) = omega (arith, two-short number extra)
 told-short (answered a) = go (a .says) (two-short (a .reason) (a .opened))
   where
@@ -144,8 +144,11 @@ told-short (answered a) = go (a .says) (two-short (a .reason) (a .opened))
     go true h = omega arith
     go false h = omega arith
 
+pub question-short : (u v : ℕ) → length (question u v) ≤ 24
+question-short u v = omega (arith, length-append (twoNumbers u v) (bytes " "), two-short u v)
+
 -- the line of a question
 pub line-short : (u v : ℕ) (o : Outcome Said) → length (questionLine u v o) ≤ 54
 line-short u v o =
     omega
-    (arith, length-append (question u v) (told o ++ bytes "\n"), length-append (twoNumbers u v) (bytes " "), two-short u v, length-append (told o) (bytes "\n"), told-short o)
+    (arith, length-append (question u v) (told o ++ bytes "\n"), question-short u v, length-append (told o) (bytes "\n"), told-short o)

@@ -1,7 +1,7 @@
 // The text program's inside: the line reader, what a text says, and the printer.
-mod line;
-mod print;
-mod read;
+pub mod line;
+pub mod print;
+pub mod read;
 
 // The program's bounds, and the most questions that fit a text: a line of one takes 6 bytes at least.
 pub const MOST_BYTES: usize = 32768;

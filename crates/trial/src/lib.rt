@@ -2,6 +2,7 @@
 // here; what is compared outside is the call itself.
 use build::Built;
 use list::Listed;
+use run::MOST_OUTPUT;
 
 // A count, or a refusal with its number and its extra number.
 #[repr(C)]
@@ -59,4 +60,9 @@ pub extern "C" fn trial_build(
             count: 0,
         },
     }
+}
+
+#[no_mangle]
+pub extern "C" fn trial_run(text: &[u8], out: &mut [u8; MOST_OUTPUT]) -> usize {
+    run::run(text, out)
 }

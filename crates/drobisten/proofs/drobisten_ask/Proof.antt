@@ -9,7 +9,7 @@ use lib.ListN.{getD}
 use Rattle.lineage.specs.Calls.{answered}
 use Rattle.ask.specs.Asked.{askedOf}
 use Rattle.drobisten.specs.Host.{hostAsked}
-use Rattle.drobisten.proofs.Words.{Words, ask-refused}
+use Rattle.ask.proofs.Words.{Words, ask-refused}
 use Rattle.drobisten.proofs.drobisten_ask.Statement.{statement}
 use Rattle.drobisten.proofs.drobisten_ask.Tie as tie
 

@@ -6,7 +6,7 @@ use borrow.Author.Needs.{needs}
 use lib.ListN.{getD}
 use Rattle.open.specs.Opened.{openedOf}
 use Rattle.drobisten.specs.Host.{hostOpened}
-use Rattle.drobisten.proofs.Words.{Words, Small, open-refused, open-answered}
+use Rattle.ask.proofs.Words.{Words, Small, open-refused, open-answered}
 use Rattle.drobisten.proofs.drobisten_open.Statement.{statement}
 use Rattle.drobisten.proofs.drobisten_open.Tie as tie
 

@@ -1,0 +1,6 @@
+-- The laws of the whole run.
+pub mod Answering
+pub mod Finished
+pub mod Whole
+pub mod Refusals
+pub mod Theorems
