@@ -5,6 +5,7 @@ pub mod Every
 pub mod Parts
 pub mod Joined
 pub mod Rising
+pub mod Halving
 -- Reachability, groups, names, levels.
 pub mod Edges
 pub mod Reaches

@@ -8,11 +8,14 @@ use native.Mathlib.Omega.{arith}
 use native.Mathlib.Numerals.{add-one}
 use native.Mathlib.Decide.{decLt}
 use native.Mathlib.Nat.{mul-le-mul-left, mul-le-mul-right, mul-suc, mul-add, pow-suc, add-zero, add-assoc}
+use lib.Dec.{ltb}
 use lib.ListN.{length, getD, take, drop, set}
 use lib.Arith.{lt-of-le-ne}
 use lib.Seq.{ext-getD}
 use Rattle.lineage.specs.Lists.{part}
 use Rattle.lineage.specs.Numbers.{leAt, numAt, numbers, leBytes}
+use Rattle.laws.proofs.Rising.{Rises, those-short}
+use Rattle.laws.proofs.Halving.{countBelow, Side, sides}
 use Rattle.laws.proofs.Lists.{table-long, table-at}
 use Rattle.laws.proofs.Parts.{part-length, part-at}
 use Rattle.numbers.specs.Put.{put}
@@ -100,6 +103,21 @@ module _ (w : ℕ) (s : List ℕ) where
   pub numbers-at : (k i : ℕ) → i < k → getD (numbers w s k) i 0 ≡ numAt w s i
   unfolding numbers
   numbers-at k i h = table-at (numAt w s) k i 0 h
+
+-- how many of them are below v is on the side of position i that number i tells, where they rise
+module _ (w k : ℕ) (s : List ℕ) (v : ℕ) where
+  pub count-most : countBelow v (numbers w s k) ≤ k
+  count-most = omega (arith, those-short (λ x. ltb x v) (numbers w s k), numbers-long w s k)
+
+  module _ (rise : Rises (numbers w s k)) (i r : ℕ) (low : i < k) (e : r ≡ numAt w s i) where
+    side : Side v (numbers w s k) i
+    side = sides v (numbers w s k) rise i (omega (arith, numbers-long w s k))
+
+    pub count-over : r < v → i < countBelow v (numbers w s k)
+    count-over h = side .0 (omega (arith, numbers-at w s k i low))
+
+    pub count-under : v ≤ r → countBelow v (numbers w s k) ≤ i
+    count-under h = side .1 (omega (arith, numbers-at w s k i low))
 
 -- the numbers of a part are a part of the numbers
 pub numbers-part : (w : ℕ) (s : List ℕ) (k a n : ℕ) → a + n ≤ k → numbers w (part s (w * a) (w * n)) n ≡ part (numbers w s k) a n

@@ -3,7 +3,9 @@ ghost use mathlib.Core.Path.{_≡_};
 ghost use Prim.Native.Nat.{_+_, _*_, _%_, _^_, _≤_, _<_};
 ghost use lib.ListN.{length, replicate};
 ghost use Rattle.lineage.specs.Lists.{part, cleared};
-ghost use Rattle.lineage.specs.Numbers.{Width, leAt, numAt, leBytes, written};
+ghost use Rattle.lineage.specs.Numbers.{Width, leAt, numAt, numbers, leBytes, written};
+ghost use Rattle.laws.proofs.Rising.{Rises};
+ghost use Rattle.laws.proofs.Halving.{countBelow};
 ghost use Rattle.numbers.specs.Put.{put};
 ghost use Rattle.numbers.specs.Regions.{Kept, Part};
 
@@ -59,6 +61,26 @@ pub fn numbers_from(s: &[u8], w: usize, from: usize, count: usize) -> &[u8]
     let start = bytes_of(w, from);
     let end = bytes_of(w, from + count);
     &s[start..end]
+}
+
+// How many of k rising numbers are below x, found by halves: where x stands among them, or would stand.
+pub fn count_below(s: &[u8], w: usize, k: usize, x: usize) -> usize
+    requires { ⌜ Width w ⌝ }
+    requires { ⌜ w * k ≤ length (now s) ⌝ }
+    requires { ⌜ Rises (numbers w (now s) k) ⌝ }
+    ensures { λ r. ⌜ r ≡ countBelow x (numbers w (now (s .entry)) k) ⌝ }
+{
+    let mut low = 0;
+    let mut high = k;
+    while low < high {
+        let half = low + (high - low) / 2;
+        if num(s, w, half) < x {
+            low = half + 1;
+        } else {
+            high = half;
+        }
+    }
+    low
 }
 
 // Writes v, its lowest w bytes, from position p on.

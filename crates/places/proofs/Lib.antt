@@ -1,4 +1,3 @@
 -- The laws that the proofs of this crate and of those above cite.
-pub mod Halving
 pub mod Lent
 pub mod Vertices

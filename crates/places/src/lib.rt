@@ -1,4 +1,4 @@
-// The place of a group: where its name stands in the group list, found by halving, since the list rises.
+// The place of a group: where its name stands in the group list, found by halves, since the list rises.
 ghost use mathlib.Core.Bool.{true};
 ghost use mathlib.Core.Path.{_≡_};
 ghost use Prim.Native.Nat.{_*_, _≤_};
@@ -16,15 +16,5 @@ pub fn place_of(groups: &[u8], w: usize, k: usize, name: usize) -> usize
     requires { ⌜ among name (numbers w (now groups) k) ≡ true ⌝ }
     ensures { λ r. ⌜ r ≡ placeOf (numbers w (now (groups .entry)) k) name ⌝ }
 {
-    let mut low = 0;
-    let mut high = k;
-    while 1 < high - low {
-        let half = low + (high - low) / 2;
-        if numbers::num(groups, w, half) <= name {
-            low = half;
-        } else {
-            high = half;
-        }
-    }
-    low
+    numbers::count_below(groups, w, k, name)
 }

@@ -1,71 +1,51 @@
--- A number looked for in a rising list by halves: what stands below `low` is less, what stands from `high` on is greater, so it can only stand between.
-use mathlib.Core.Bool.{true, false}
-use mathlib.Core.Path.{_≡_, sym, _∙_}
+-- A group's children as a part of the child entries: its numbers are the group's row, which rises; so a child is found in it by halves.
 use mathlib.Core.List.{List, []}
-use Prim.Native.Nat.{ℕ, zero, suc, _+_, _-_, _≤_, _<_}
+use mathlib.Core.Bool.{false}
+use mathlib.Core.Path.{_≡_, sym, ap, ap₂, _∙_}
+use Prim.Native.Nat.{ℕ, _+_, _-_, _*_, _^_, _≤_, _<_}
 use native.Mathlib.Omega.{arith}
-use native.Mathlib.Decide.{decLt}
-use native.Mathlib.Nat.{add-suc}
+use native.Mathlib.Nat.{mul-le-mul-left}
+use lib.Dec.{eqb}
 use lib.ListN.{length, getD}
-use Rattle.lineage.specs.Lists.{among, position}
-use Rattle.laws.proofs.Tests.{is-false}
-use Rattle.laws.proofs.Lists.{in-getD, position-low, at-position}
+use Rattle.lineage.specs.Lists.{among, part}
+use Rattle.lineage.specs.Numbers.{numAt, numbers}
+use Rattle.lineage.specs.Sound.{childOf}
+use Rattle.laws.proofs.Rising.{Rises, next-rises}
+use Rattle.laws.proofs.Halving.{countBelow, found-none, found-at}
+use Rattle.numbers.specs.Regions.{Part}
+use Rattle.numbers.proofs.Numbers.{numbers-long, numbers-at, numbers-part}
 use Rattle.stored.specs.Sections.{childrenIn}
-use Rattle.sound_groups.specs.Fit.{Places}
+use Rattle.stored.proofs.Sections.{row-is}
+use Rattle.sound_groups.specs.Fit.{Row, Places}
 use Rattle.sound_groups.proofs.Row.{row-up}
 
--- each number is below the next
-pub record Climbs (xs : List ℕ) : Type 0 where
-  pub next : (i : ℕ) → suc i < length xs → getD xs i 0 < getD xs (suc i) 0
+module _ {w k c p from len : ℕ} {starts children : List ℕ} (P : Places w starts children k c) (R : Row w starts k c p from len) where
+  abbrev row : List ℕ
+  row = getD (childrenIn w starts children k c) p []
 
--- and so not above any later one
-climbs-to : {xs : List ℕ} → Climbs xs → (d i : ℕ) → i + d < length xs → getD xs i 0 ≤ getD xs (i + d) 0
-climbs-to {xs} U zero i h = let e : i + 0 ≡ i = omega arith in rw e (omega arith)
-climbs-to {xs} U (suc d) i h =
-    rw (add-suc i d) (omega (arith, climbs-to U d i (omega arith), U .next (i + d) (omega arith)))
+  -- the part lies within the entries
+  pub row-fits : (from + len < 2 ^ 32) × (w * (from + len) ≤ length children)
+  row-fits = let H = P .entries .held in (omega (arith, R .within, H .few), omega (arith, mul-le-mul-left w (R .within), H .long))
 
-climbs : {xs : List ℕ} → Climbs xs → (i j : ℕ) → i ≤ j → j < length xs → getD xs i 0 ≤ getD xs j 0
-climbs {xs} U i j l h =
-    let e : i + (j - i) ≡ j = omega arith in
-    rw e at (climbs-to U (j - i) i (omega arith))
+  module _ {entries : List ℕ} (S : Part children (w * from) (w * len) entries) where
+    row-numbers : numbers w entries len ≡ row
+    row-numbers =
+        let size : len ≡ numAt w starts (p + 1) - numAt w starts p = omega (arith, R .begins, R .ends) in
+        ap (λ (z : List ℕ). numbers w z len) (S .is)
+        ∙ numbers-part w children c from len (R .within)
+        ∙ ap₂ (part (numbers w children c)) (R .begins) size
+        ∙ sym (row-is w starts children k c p (R .low))
 
--- q can only stand from low to high
-pub record Between (xs : List ℕ) (q low high : ℕ) : Type 0 where
-  pub ordered : low ≤ high
-  pub within : high ≤ length xs
-  pub below : (i : ℕ) → i < low → getD xs i 0 < q
-  pub above : (i : ℕ) → high ≤ i → i < length xs → q < getD xs i 0
+    pub row-rises : Rises (numbers w entries len)
+    row-rises = rw row-numbers (next-rises row (row-up P (R .low)))
 
-pub between-all : (xs : List ℕ) (q len : ℕ) → length xs ≡ len → Between xs q 0 len
-between-all xs q len e = record { ordered = omega arith; within = omega arith; below = λ i h. absurd (omega arith); above = λ i l h. absurd (omega arith) }
+    -- where q stands among them, or would stand
+    module _ (q : ℕ) {at : ℕ} (is : at ≡ countBelow q (numbers w entries len)) where
+      pub child-none : len ≤ at → false ≡ childOf (childrenIn w starts children k c) p q
+      child-none h = found-none q (numbers w entries len) row-rises (omega (arith, numbers-long w entries len)) ∙ ap (among q) row-numbers
 
-module _ {xs : List ℕ} {q low high mid x : ℕ} (U : Climbs xs) (B : Between xs q low high) (l : low ≤ mid) (h : mid < high) (e : x ≡ getD xs mid 0) where
-  pub between-right : x < q → Between xs q (mid + 1) high
-  between-right g = record {
-    ordered = omega arith;
-    within = B .within;
-    below = λ i j. omega (arith, climbs U i mid (omega arith) (omega (arith, B .within)));
-    above = B .above;
-  }
-
-  pub between-left : q < x → Between xs q low mid
-  between-left g = record {
-    ordered = l;
-    within = omega (arith, B .within);
-    below = B .below;
-    above = λ i j t. omega (arith, climbs U mid i j t);
-  }
-
-  pub between-here : x ≡ q → true ≡ among q xs
-  between-here z = let f : getD xs mid 0 ≡ q = sym e ∙ z in sym (rw f at (in-getD xs mid (omega (arith, B .within))))
-
-pub between-none : {xs : List ℕ} {q low high : ℕ} → Between xs q low high → high ≤ low → false ≡ among q xs
-between-none {xs} {q} {low} {high} B l = sym (is-false (among q xs) (λ t. at t (decLt (position q xs) low)))
-  where
-    at : among q xs ≡ true → Dec (position q xs < low) → ⊥
-    at t (yes h) = omega (arith, B .below (position q xs) h, at-position q xs t)
-    at t (no h) = omega (arith, B .above (position q xs) (omega arith) (position-low q xs t), at-position q xs t)
-
--- a row that has passed its test climbs
-pub row-climbs : {w k c p : ℕ} {starts children : List ℕ} → Places w starts children k c → p < k → Climbs (getD (childrenIn w starts children k c) p [])
-row-climbs P h = record { next = row-up P h }
+      pub child-at : {x : ℕ} → at < len → x ≡ numAt w entries at → eqb x q ≡ childOf (childrenIn w starts children k c) p q
+      child-at {x} h e =
+          found-at q (numbers w entries len) row-rises (omega (arith, numbers-long w entries len))
+          (e ∙ sym (numbers-at w entries len at h) ∙ ap (λ (i : ℕ). getD (numbers w entries len) i 0) is)
+          ∙ ap (among q) row-numbers

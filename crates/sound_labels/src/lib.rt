@@ -13,7 +13,9 @@ ghost use Rattle.sound_labels.specs.Tests.{triplesAlone, leastBelow, lab
 ghost use Rattle.sound_labels.specs.Marks.{unmarked, Within, Tells};
 ghost use Rattle.sound_labels.specs.Fit.{Triples, Labels, Labelled, Ranked, Labellings};
 use numbers::clear_marks;
+use numbers::count_below;
 use numbers::num;
+use numbers::numbers_from;
 use sound_groups::row_span;
 
 // Where s, m and e stand in a triple.
@@ -213,21 +215,13 @@ fn child_in(
 {
     let row = row_span(starts, w, k, c, p);
     let from = row.from;
-    let mut low = 0;
-    let mut high = row.len;
-    while low < high {
-        let middle = low + (high - low) / 2;
-        let x = num(children, w, from + middle);
-        if x == q {
-            return true;
-        }
-        if x < q {
-            low = middle + 1;
-        } else {
-            high = middle;
-        }
+    let len = row.len;
+    let entries = numbers_from(children, w, from, len);
+    let at = count_below(entries, w, len, q);
+    if len <= at {
+        return false;
     }
-    false
+    num(entries, w, at) == q
 }
 
 // Whether the inner interval of group p is its own rank and, side by side, the inner intervals of children of p.

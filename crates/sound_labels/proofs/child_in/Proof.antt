@@ -1,103 +1,46 @@
--- `sound_labels::child_in` meets its contract. The invariant: in the row, which rises, q can only stand from `low` to `high`.
-use mathlib.Core.List.{[]}
-use Prim.Native.Nat.{_-_}
+-- `sound_labels::child_in` meets its contract: the group's children rise, and q is one of them where it stands behind those below it.
 use native.Mathlib.Omega.{arith}
-use lib.ListN.{getD}
-use Rattle.sound_groups.proofs.Row.{can-read-child, row-has, child-was}
-use Rattle.sound_labels.proofs.Search.{Between, between-all, between-right, between-left, between-here, between-none, row-climbs}
+use Rattle.numbers.proofs.Numbers.{room}
+use Rattle.sound_labels.proofs.Search.{row-fits, row-rises, child-none, child-at}
 use Rattle.sound_labels.proofs.child_in.Statement.{statement}
 use Rattle.sound_labels.proofs.child_in.Tie as tie
-use Rattle.stored.specs.Sections.{childrenIn}
 
-abbrev Inv-loop : tie.InvT-loop
-Inv-loop starts children w k c p q from low₀ high₀ low high = Between (getD (childrenIn w starts children k c) p []) q low high
-
-abbrev μ-loop : tie.MeasureT-loop
-μ-loop starts children w k c p q from low₀ high₀ low high = high - low
-
--- where the function starts, from its loop
-abbrev start : tie.At-loop Inv-loop μ-loop → tie.Start Inv-loop μ-loop
-start l = l .before .before .before .before
-
-row-span-requires : tie.Need-row-span-requires Inv-loop μ-loop
+row-span-requires : tie.Need-row-span-requires
 row-span-requires c κs = (c .before .before .pre .0 .entries .rows, c .before .before .pre .1)
 
-loop-holds : tie.Need-loop-holds Inv-loop μ-loop
-loop-holds c = between-all _ _ _ (row-has (c .before .before .before .pre .0 .entries) (c .row-span .ensures))
+-- where the function starts
+abbrev start : tie.After-row-span → tie.Start
+start c = c .before .before .before
 
-sub-middle : tie.Need-sub-middle Inv-loop μ-loop
-sub-middle c = omega arith
+numbers-from-requires : tie.Need-numbers-from-requires
+numbers-from-requires c κs = let s = start c in (s .pre .0 .entries .held .width, row-fits (s .pre .0) (c .row-span .ensures))
 
-add-middle : tie.Need-add-middle Inv-loop μ-loop
-add-middle c = let l = c .before in omega (arith, row-has (start l .pre .0 .entries) (l .before .row-span .ensures), l .before .row-span .ensures)
+count-below-requires : tie.Need-count-below-requires
+count-below-requires c κs =
+    let r = c .before in
+    let s = start r in
+    (s .pre .0 .entries .held .width, (omega (arith, c .numbers-from .ensures .long), row-rises (s .pre .0) (r .row-span .ensures) (c .numbers-from .ensures)))
 
-add-num : tie.Need-add-num Inv-loop μ-loop
-add-num c = let l = c .before in omega (arith, row-has (start l .pre .0 .entries) (l .before .row-span .ensures), l .before .row-span .ensures)
-
-num-requires : tie.Need-num-requires Inv-loop μ-loop
-num-requires c κs =
-    let l = c .before in
-    let P = start l .pre .0 in
-    let R = l .before .row-span .ensures in
-    can-read-child (P .entries) R (omega (arith, row-has (P .entries) R))
-
-returns : tie.Need-returns Inv-loop μ-loop
+returns : tie.Need-returns
 returns c =
-    let n = c .before in
-    let l = n .before .before in
-    let P = start l .pre .0 in
-    let R = l .before .row-span .ensures in
-    between-here (row-climbs P (start l .pre .1)) (l .loop .inv) (omega arith) (omega arith)
-    (child-was (P .entries) R (omega (arith, row-has (P .entries) R)) (n .num .ensures .0)) (c .if1 .taken)
+    let b = c .before in
+    let e = b .before in
+    let r = e .before in
+    child-none (start r .pre .0) (r .row-span .ensures) (e .numbers-from .ensures) _ (b .count-below .ensures) (c .if1 .taken)
 
-add-low : tie.Need-add-low Inv-loop μ-loop
-add-low c =
-    let l = c .before .before .before .before in
-    omega (arith, row-has (start l .pre .0 .entries) (l .before .row-span .ensures), l .before .row-span .ensures)
+num-requires : tie.Need-num-requires
+num-requires c κs =
+    let b = c .before in
+    let e = b .before in
+    let r = e .before in
+    (start r .pre .0 .entries .held .width, room _ _ _ _ (c .if1 .left) (omega (arith, e .numbers-from .ensures .long)))
 
-loop-less : tie.Need-loop-less Inv-loop μ-loop
-loop-less c = omega arith
-
-loop-again : tie.Need-loop-again Inv-loop μ-loop
-loop-again c =
-    let n = c .before .before in
-    let l = n .before .before in
-    let P = start l .pre .0 in
-    let R = l .before .row-span .ensures in
-    between-right (row-climbs P (start l .pre .1)) (l .loop .inv) (omega arith) (omega arith)
-    (child-was (P .entries) R (omega (arith, row-has (P .entries) R)) (n .num .ensures .0)) (c .if2 .taken)
-
-loop-less-2 : tie.Need-loop-less-2 Inv-loop μ-loop
-loop-less-2 c = omega arith
-
-loop-again-2 : tie.Need-loop-again-2 Inv-loop μ-loop
-loop-again-2 c =
-    let n = c .before .before in
-    let l = n .before .before in
-    let P = start l .pre .0 in
-    let R = l .before .row-span .ensures in
-    between-left (row-climbs P (start l .pre .1)) (l .loop .inv) (omega arith) (omega arith)
-    (child-was (P .entries) R (omega (arith, row-has (P .entries) R)) (n .num .ensures .0)) (omega arith)
-
-returns-2 : tie.Need-returns-2 Inv-loop μ-loop
-returns-2 c = between-none (c .before .loop .inv) (c .loop-test .left)
+returns-2 : tie.Need-returns-2
+returns-2 c =
+    let b = c .before .before in
+    let e = b .before in
+    let r = e .before in
+    child-at (start r .pre .0) (r .row-span .ensures) (e .numbers-from .ensures) _ (b .count-below .ensures) (c .before .if1 .left) (c .num .ensures .0)
 
 pub child-in-spec : {M : Type 1} → statement M
-child-in-spec =
-    tie.close
-    (tie.spec
-    Inv-loop
-    μ-loop
-    row-span-requires
-    loop-holds
-    sub-middle
-    add-middle
-    add-num
-    num-requires
-    returns
-    add-low
-    loop-less
-    loop-again
-    loop-less-2
-    loop-again-2
-    returns-2)
+child-in-spec = tie.close (tie.spec row-span-requires numbers-from-requires count-below-requires returns num-requires returns-2)
