@@ -3,8 +3,8 @@
 //     bench all | build | quick
 //
 // prints a line for each figure: measure, kind of graph, n, d, kind of pairs, who, and nanoseconds of processor time for one build, one opening or one question. A
-// figure is the least of several repetitions, in which those that are compared take turns. `build` measures the build alone, on the random acyclic graph; `quick` is
-// one small size with few repetitions, and serves to see that all agree.
+// figure is the least of several repetitions, in which those that are compared take turns. `build` measures the build alone, on random acyclic graphs; `quick` is one
+// small size with few repetitions, and serves to see that all agree.
 #include "graphs.hpp"
 #include "peers.hpp"
 #include <cstdio>
@@ -35,11 +35,8 @@ static void must(bool holds, const char *what) {
 
 // ---------------------------------------------------------------- measuring
 
-struct Job {
-    const char *who;
-    std::function<void()> run;
-    double per = 1; // what is counted in one run
-};
+static bool quick;
+static volatile uint32_t sink; // takes the answers, so that they are worked out
 
 struct Where {
     const char *measure, *kind;
@@ -48,8 +45,10 @@ struct Where {
     const char *pairs;
 };
 
-static int rounds;
-static double span; // seconds that one repetition takes at least
+struct Job {
+    const char *who;
+    std::function<void()> run;
+};
 
 static double now() {
     timespec t;
@@ -63,15 +62,37 @@ static double once(const Job &job, int times) {
     return (now() - begun) / times;
 }
 
-static void measure(const Where &w, const std::vector<Job> &jobs) {
+// One run of a job does `count` of what is measured. A repetition takes some milliseconds.
+static void measure(const Where &w, double count, const std::vector<Job> &jobs) {
+    int rounds = quick ? 2 : 9;
+    double span = quick ? 0.0002 : 0.004;
     std::vector<int> times;
     std::vector<double> least(jobs.size(), 1e9);
     for (const Job &job : jobs) once(job, 1), times.push_back(1 + span / (once(job, 1) + 1e-9));
     for (int r = 0; r < rounds; r++)
         for (size_t i = 0; i < jobs.size(); i++) least[i] = std::min(least[i], once(jobs[i], times[i]));
     for (size_t i = 0; i < jobs.size(); i++)
-        printf("%s\t%s\t%u\t%d\t%s\t%s\t%.2f\n", w.measure, w.kind, w.n, w.d, w.pairs, jobs[i].who, least[i] * 1e9 / jobs[i].per);
+        printf("%s\t%s\t%u\t%d\t%s\t%s\t%.2f\n", w.measure, w.kind, w.n, w.d, w.pairs, jobs[i].who, least[i] * 1e9 / count);
     fflush(stdout);
+}
+
+// A graph with all that is made of it.
+struct Case {
+    Graph graph;
+    Search search;
+    Closure closure;
+    std::map<std::string, Pairs> pairs;
+    Grail grail;
+    Bytes index;
+};
+
+// Several graphs of a size are measured in turn, as a processor learns the branches of a small one by heart.
+using Cases = std::vector<Case>;
+
+template <class F> static std::function<void()> each(Cases &cases, F one) {
+    return [&cases, one] {
+        for (Case &c : cases) one(c);
+    };
 }
 
 // ---------------------------------------------------------------- build and open
@@ -103,42 +124,46 @@ static Bytes stored_form(const Grail &a) {
     return bytes;
 }
 
-static Bytes build(Where w, const Graph &g, const Numbers &orders, Grail &grail, Closure &closure) {
-    uint32_t n = g.n, edges = g.from.size();
-    Numbers work(16 * n + 4 * edges + 64);
-    Bytes out(50 + 8 * n + 2 * edges + 8 * w.d * n);
-    counted r;
-    auto ours = [&] {
-        r = trial_build(g.from.data(), edges, g.to.data(), edges, orders.data(), orders.size(), work.data(), work.size(), out.data(), out.size(), n, w.d);
+static void build(Where w, Cases &cases, const Numbers &orders) {
+    const uint32_t n = w.n, most_edges = 16384;
+    Numbers work(16 * n + 4 * most_edges + 64);
+    Bytes out(50 + 8 * n + 2 * most_edges + 8 * w.d * n);
+    Closure closure;
+    auto ours = [&](const Case &c) {
+        const Numbers &from = c.graph.from, &to = c.graph.to;
+        size_t needed = 16 * n + 4 * from.size() + 64;
+        counted r = trial_build(from.data(), from.size(), to.data(), to.size(), orders.data(), orders.size(), work.data(), needed, out.data(), out.size(), n, w.d);
+        must(r.refusal == 0, "a build is refused");
+        return r.count;
     };
     w.measure = "build", w.pairs = "-";
-    measure(w, {{"ours", ours}, {"grail", [&] { grail.build(g, orders, w.d); }}, {"closure", [&] { closure.build(g); }}});
-    must(r.refusal == 0, "a build is refused");
-    out.resize(r.count);
-    must(out == stored_form(grail), "the peer builds another index");
-    return out;
+    measure(w, cases.size(), {{"ours", each(cases, ours)},
+                              {"grail", each(cases, [&](Case &c) { c.grail.build(c.graph, orders, w.d); })},
+                              {"closure", each(cases, [&](Case &c) { closure.build(c.graph); })}});
+    for (Case &c : cases) {
+        c.index.assign(out.begin(), out.begin() + ours(c));
+        must(c.index == stored_form(c.grail), "the peer builds another index");
+    }
 }
 
-static volatile uint32_t sink;
-
-static void open(Where w, const Bytes &index, const Grail &built) {
+static void open(Where w, Cases &cases) {
     Bytes marks(w.n), scratch;
     Grail loaded;
-    drobisten_opened r;
-    bool sound = false;
-    auto pass = [&] {
-        const uint16_t *numbers = (const uint16_t *)index.data();
+    auto ours = [&](const Case &c) { must(drobisten_open(c.index.data(), c.index.size(), marks.data(), w.n).refusal == 0, "an index is refused"); };
+    auto check = [&](const Case &c) { must(Stored(c.index.data()).sound(scratch), "the peer refuses an index"); };
+    auto load = [&](const Case &c) { Stored(c.index.data()).load(loaded); };
+    auto pass = [&](const Case &c) {
+        const uint16_t *numbers = (const uint16_t *)c.index.data();
         uint32_t sum = 0;
-        for (size_t i = 0; i < index.size() / 2; i++) sum += numbers[i];
+        for (size_t i = 0; i < c.index.size() / 2; i++) sum += numbers[i];
         sink = sum;
     };
     w.measure = "open", w.pairs = "-";
-    measure(w, {{"ours", [&] { r = drobisten_open(index.data(), index.size(), marks.data(), w.n); }},
-                {"check", [&] { sound = Stored(index.data()).sound(scratch); }},
-                {"load", [&] { Stored(index.data()).load(loaded); }},
-                {"pass", pass}});
-    must(r.refusal == 0 && sound, "an index that was built is not sound");
-    must(stored_form(loaded) == index && loaded.groups.place == built.groups.place, "the peer loads another index");
+    measure(w, cases.size(), {{"ours", each(cases, ours)}, {"check", each(cases, check)}, {"load", each(cases, load)}, {"pass", each(cases, pass)}});
+    for (const Case &c : cases) {
+        load(c);
+        must(stored_form(loaded) == c.index, "the peer loads another index");
+    }
 }
 
 // The peer's check and the library's on damaged contents.
@@ -172,66 +197,83 @@ static Pairs choose(const std::string &which, const Closure &closure, uint32_t n
     return pairs;
 }
 
-static void questions(Where w, const Bytes &index, const Pairs &pairs, Grail &grail, Search &search, const Closure &closure) {
-    uint32_t n = w.n;
-    Bytes marks(n);
-    auto ask = [&](uint32_t u, uint32_t v) { return drobisten_ask(index.data(), index.size(), marks.data(), n, u, v); };
-    // the marks are 0 before every question, as the check leaves them: a question that opened nothing has not touched them
-    auto ask_alone = [&](uint32_t u, uint32_t v) {
-        drobisten_asked r = unchecked_ask(index.data(), index.size(), marks.data(), n, u, v);
-        if (r.opened) memset(marks.data(), 0, n);
-        return r;
+static drobisten_asked ask(const Case &c, Bytes &marks, uint32_t u, uint32_t v) {
+    return drobisten_ask(c.index.data(), c.index.size(), marks.data(), c.graph.n, u, v);
+}
+
+// The marks are 0 before, as the check would leave them.
+static drobisten_asked ask_alone(const Case &c, Bytes &marks, uint32_t u, uint32_t v) {
+    return unchecked_ask(c.index.data(), c.index.size(), marks.data(), c.graph.n, u, v);
+}
+
+// The next pair of each graph in turn, a check for each question.
+static void asks(Where w, Cases &cases) {
+    Bytes marks(w.n), alone(w.n), scratch;
+    size_t turn = 0;
+    auto pair = [&](const Case &c) {
+        const Pairs &pairs = c.pairs.at(w.pairs);
+        return pairs[turn++ % pairs.size()];
     };
-    // all pairs in turn, by one who answers yes or no
-    auto each = [&](size_t count, auto answer) {
-        return [&pairs, count, answer] {
+    auto ours = [&](const Case &c) {
+        auto [u, v] = pair(c);
+        sink = ask(c, marks, u, v).yes;
+    };
+    auto check = [&](Case &c) {
+        auto [u, v] = pair(c);
+        sink = Stored(c.index.data()).sound(scratch) && c.grail.reaches(u, v);
+    };
+    w.measure = "ask";
+    measure(w, cases.size(), {{"ours", each(cases, ours)}, {"check", each(cases, check)}});
+    for (const Case &c : cases)
+        for (int i = 0; i < 20; i++) {
+            auto [u, v] = pair(c);
+            alone.assign(w.n, 0);
+            drobisten_asked a = ask(c, marks, u, v), b = ask_alone(c, alone, u, v);
+            must(a.refusal == 0 && !memcmp(&a, &b, sizeof a) && marks == alone, "a question alone gets another answer than with the check");
+        }
+}
+
+// All pairs of one graph, whose index is known to be sound.
+static void questions(Where w, Case &c) {
+    const Pairs &pairs = c.pairs.at(w.pairs);
+    Bytes marks(w.n);
+    auto all = [&](auto answer) {
+        return [&pairs, answer] {
             uint32_t yes = 0;
-            for (size_t i = 0; i < count; i++) yes += answer(pairs[i].first, pairs[i].second);
+            for (auto [u, v] : pairs) yes += answer(u, v);
             sink = yes;
         };
     };
+    // a question that opened nothing has left the marks at 0
+    auto ours = [&](uint32_t u, uint32_t v) {
+        drobisten_asked r = ask_alone(c, marks, u, v);
+        if (r.opened) memset(marks.data(), 0, w.n);
+        return r.yes;
+    };
+    auto grail = [&](uint32_t u, uint32_t v) { return c.grail.reaches(u, v); };
+    auto search = [&](uint32_t u, uint32_t v) { return c.search.reaches(u, v); };
+    auto closure = [&](uint32_t u, uint32_t v) { return c.closure.reaches(u, v); };
+    w.measure = "question";
+    measure(w, pairs.size(), {{"ours", all(ours)}, {"grail", all(grail)}, {"search", all(search)}, {"closure", all(closure)}});
     double opened = 0;
     for (auto [u, v] : pairs) {
-        drobisten_asked a = ask(u, v);
-        Bytes marked = marks;
-        memset(marks.data(), 0, n);
-        drobisten_asked b = unchecked_ask(index.data(), index.size(), marks.data(), n, u, v);
-        must(a.refusal == 0 && !memcmp(&a, &b, sizeof a) && marked == marks, "a question alone gets another answer than with the check");
-        memset(marks.data(), 0, n);
-        must(grail.reaches(u, v) == (a.yes == 1) && (uint32_t)grail.opened == a.opened, "GRAIL answers otherwise");
-        must(search.reaches(u, v) == (a.yes == 1), "breadth-first search answers otherwise");
-        must(closure.reaches(u, v) == (a.yes == 1), "the closure answers otherwise");
-        opened += a.opened;
+        marks.assign(w.n, 0);
+        drobisten_asked r = ask_alone(c, marks, u, v);
+        bool yes = r.yes;
+        must(r.refusal == 0 && grail(u, v) == yes && (uint32_t)c.grail.opened == r.opened, "GRAIL answers otherwise");
+        must(search(u, v) == yes, "breadth-first search answers otherwise");
+        must(closure(u, v) == yes, "the closure answers otherwise");
+        opened += r.opened;
     }
-    printf("opened\t%s\t%u\t%d\t%s\tours\t%.2f\n", w.kind, n, w.d, w.pairs, opened / pairs.size());
-
-    size_t few = std::min<size_t>(pairs.size(), 32), all = pairs.size();
-    Bytes scratch;
-    auto check_and_ask = [&](uint32_t u, uint32_t v) {
-        must(Stored(index.data()).sound(scratch), "an index that was built is not sound");
-        return grail.reaches(u, v);
-    };
-    auto by_grail = [&](uint32_t u, uint32_t v) { return grail.reaches(u, v); };
-    auto by_search = [&](uint32_t u, uint32_t v) { return search.reaches(u, v); };
-    auto by_closure = [&](uint32_t u, uint32_t v) { return closure.reaches(u, v); };
-    w.measure = "ask";
-    measure(w, {{"ours", each(few, [&](uint32_t u, uint32_t v) { return ask(u, v).yes; }), double(few)},
-                {"check", each(few, check_and_ask), double(few)},
-                {"search", each(few, by_search), double(few)}});
-    memset(marks.data(), 0, n);
-    w.measure = "question";
-    measure(w, {{"ours", each(all, [&](uint32_t u, uint32_t v) { return ask_alone(u, v).yes; }), double(all)},
-                {"grail", each(all, by_grail), double(all)},
-                {"search", each(all, by_search), double(all)},
-                {"closure", each(all, by_closure), double(all)}});
+    printf("opened\t%s\t%u\t%d\t%s\tours\t%.2f\n", w.kind, w.n, w.d, w.pairs, opened / pairs.size());
 }
 
 // The copy without the check has none: it answers over a labelling whose last place by rank is wrong, which no question reads and every check finds.
-static void check_is_cut(Bytes index, uint32_t n) {
-    Bytes marks(n);
-    index.back() ^= 0x80;
-    must(drobisten_ask(index.data(), index.size(), marks.data(), n, 0, 1).refusal == DROBISTEN_CONTENTS, "unsound contents are answered");
-    must(unchecked_ask(index.data(), index.size(), marks.data(), n, 0, 1).refusal == 0, "the copy without the check checks");
+static void check_is_cut(Case c) {
+    Bytes marks(c.graph.n);
+    c.index.back() ^= 0x80;
+    must(ask(c, marks, 0, 1).refusal == DROBISTEN_CONTENTS, "unsound contents are answered");
+    must(ask_alone(c, marks, 0, 1).refusal == 0, "the copy without the check checks");
 }
 
 // ---------------------------------------------------------------- all of it
@@ -239,20 +281,17 @@ static void check_is_cut(Bytes index, uint32_t n) {
 int main(int words, char **word) {
     std::string what = words == 2 ? word[1] : "";
     must(what == "all" || what == "build" || what == "quick", "all, build or quick?");
-    bool quick = what == "quick";
-    rounds = quick ? 2 : 9;
-    span = quick ? 0.0002 : 0.004;
+    quick = what == "quick";
     for (const std::string &kind : KINDS) {
         if (what == "build" && kind != "dag") continue;
         for (uint32_t n : quick ? Numbers{500} : Numbers{500, 1000, 2000, 4096}) {
             Chance chance(n);
-            Graph g = graph(kind, n, chance);
-            Grail grail;
-            Search search;
-            Closure closure;
-            search.build(g), closure.build(g);
-            std::map<std::string, Pairs> pairs;
-            for (const char *which : {"reachable", "unreachable", "mixed"}) pairs[which] = choose(which, closure, n, 500, chance);
+            Cases cases(quick ? 2 : 8192 / n);
+            for (Case &c : cases) {
+                c.graph = graph(kind, n, chance);
+                c.search.build(c.graph), c.closure.build(c.graph);
+                for (const char *which : {"reachable", "unreachable", "mixed"}) c.pairs[which] = choose(which, c.closure, n, &c == &cases[0] && !quick ? 4000 : 100, chance);
+            }
             for (int d : {1, 2, 5}) {
                 Where w{"", kind.c_str(), n, d, ""};
                 Numbers orders;
@@ -260,14 +299,15 @@ int main(int words, char **word) {
                     Numbers order = chance.order(n);
                     orders.insert(orders.end(), order.begin(), order.end());
                 }
-                Bytes index = build(w, g, orders, grail, closure);
+                build(w, cases, orders);
                 if (what == "build") continue;
-                open(w, index, grail);
-                damage(index, chance);
-                check_is_cut(index, n);
-                for (const auto &[which, chosen] : pairs) {
-                    w.pairs = which.c_str();
-                    questions(w, index, chosen, grail, search, closure);
+                open(w, cases);
+                damage(cases[0].index, chance);
+                check_is_cut(cases[0]);
+                for (const char *which : {"reachable", "unreachable", "mixed"}) {
+                    w.pairs = which;
+                    asks(w, cases);
+                    questions(w, cases[0]);
                 }
             }
         }
