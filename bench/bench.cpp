@@ -64,7 +64,7 @@ static double once(const Job &job, int times) {
 
 // One run of a job does `count` of what is measured. A repetition takes some milliseconds.
 static void measure(const Where &w, double count, const std::vector<Job> &jobs) {
-    int rounds = quick ? 2 : 9;
+    int rounds = quick ? 2 : 15;
     double span = quick ? 0.0002 : 0.004;
     std::vector<int> times;
     std::vector<double> least(jobs.size(), 1e9);

@@ -1,5 +1,5 @@
 # The tables of docs/FIGURES.md and its plot, from the figures that bench prints: measure, graph, n, d, pairs, who, nanoseconds.
-# awk -v svg=FILE -f bench/page.awk FIGURES: the tables go to the output, the plot to FILE.
+# awk -v svg=FILE -f bench/page.awk FIGURES: the tables go to the output, the plot to FILE. Without FILE: the table of builds alone, of the graphs that were built.
 BEGIN {
     FS = "\t"
     sizes = split("500 1000 2000 4096", N, " ")
@@ -44,14 +44,19 @@ function heading(words, columns,    line, i) {
     print line "|"
 }
 
-function tables(    a, j, p, kind, d, pairs) {
+function builds(    a, j, kind, d) {
     print "### Build: ours to GRAIL\n"
     heading("| graph | d | n = 500 | 1,000 | 2,000 | 4,096 | slope, ours | slope, GRAIL | ours, 4,096 | GRAIL, 4,096 | closure, 4,096 |", 11)
     for (a = 1; a in KIND; a++) for (j = 1; j in D; j++) {
         kind = KIND[a]; d = D[j]
+        if (!(("build", kind, most, d, "-", "ours") in T)) continue
         print "| " title[kind] " | " d ratios("build", kind, d, "-", "grail") " | " slope("build", kind, d, "-", "ours") " | " slope("build", kind, d, "-", "grail") \
             " | " told(time("build", kind, most, d, "-", "ours")) " | " told(time("build", kind, most, d, "-", "grail")) " | " told(time("build", kind, most, d, "-", "closure")) " |"
     }
+}
+
+function tables(    a, j, p, kind, d, pairs) {
+    builds()
     print "\n### Open: ours to the same check in C++\n"
     heading("| graph | d | n = 500 | 1,000 | 2,000 | 4,096 | slope, ours | ours, 4,096 | to loading | to one pass |", 10)
     for (a = 1; a in KIND; a++) for (j = 1; j in D; j++) {
@@ -61,10 +66,11 @@ function tables(    a, j, p, kind, d, pairs) {
             " | " ratio(time("open", kind, most, d, "-", "ours"), time("open", kind, most, d, "-", "pass")) " |"
     }
     print "\n### Single question with its check, mixed pairs: ours to the same check in C++ and GRAIL's question\n"
-    heading("| graph | d | n = 500 | 1,000 | 2,000 | 4,096 | slope, ours | ours, 4,096 | to breadth-first search |", 9)
+    heading("| graph | d | n = 500 | 1,000 | 2,000 | 4,096 | slope, ours | ours, 4,096 | reachable | unreachable | to search, mixed |", 11)
     for (a = 1; a in KIND; a++) for (j = 1; j in D; j++) {
         kind = KIND[a]; d = D[j]
         print "| " title[kind] " | " d ratios("ask", kind, d, "mixed", "check") " | " slope("ask", kind, d, "mixed", "ours") " | " told(time("ask", kind, most, d, "mixed", "ours")) \
+            " | " told(time("ask", kind, most, d, "reachable", "ours")) " | " told(time("ask", kind, most, d, "unreachable", "ours")) \
             " | " ratio(time("ask", kind, most, d, "mixed", "ours"), time("question", kind, most, d, "mixed", "search")) " |"
     }
     print "\n### Question alone: ours to GRAIL\n"
@@ -133,4 +139,7 @@ function plot() {
     draw("</svg>")
 }
 
-END { tables(); plot() }
+END {
+    if (svg == "") builds()
+    else { tables(); plot() }
+}
