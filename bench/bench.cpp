@@ -1,0 +1,315 @@
+// Measures the library beside its peers (peers.hpp) on the same graphs, orders and pairs, and compares all that they answer: the first difference ends it with an error.
+//
+//     bench all | build | quick
+//
+// prints a line for each figure: measure, kind of graph, n, d, kind of pairs, who, and nanoseconds of processor time for one build, one opening or one question. A
+// figure is the least of several repetitions, in which those that are compared take turns. `build` measures the build alone, on random acyclic graphs; `quick` is one
+// small size with few repetitions, and serves to see that all agree.
+#include "graphs.hpp"
+#include "peers.hpp"
+#include <cstdio>
+#include <cstdlib>
+#include <ctime>
+#include <drobisten.h>
+#include <functional>
+#include <map>
+
+extern "C" {
+struct counted {
+    uint32_t refusal, extra, count;
+};
+counted trial_build(const uint32_t *sources, size_t sources_len, const uint32_t *targets, size_t targets_len, const uint32_t *orders, size_t orders_len, uint32_t *work,
+                    size_t work_len, uint8_t *out, size_t out_len, uint32_t n, uint32_t d);
+// the library's own drobisten_ask, in a copy whose check of the contents says yes and does nothing (bench/run makes it)
+drobisten_asked unchecked_ask(const uint8_t *index, size_t index_len, uint8_t *marks, size_t marks_len, uint32_t source, uint32_t target);
+}
+
+using Bytes = std::vector<uint8_t>;
+using Pairs = std::vector<std::pair<uint32_t, uint32_t>>;
+
+static void must(bool holds, const char *what) {
+    if (holds) return;
+    fprintf(stderr, "bench: %s\n", what);
+    exit(1);
+}
+
+// ---------------------------------------------------------------- measuring
+
+static bool quick;
+static volatile uint32_t sink; // takes the answers, so that they are worked out
+
+struct Where {
+    const char *measure, *kind;
+    uint32_t n;
+    int d;
+    const char *pairs;
+};
+
+struct Job {
+    const char *who;
+    std::function<void()> run;
+};
+
+static double now() {
+    timespec t;
+    clock_gettime(CLOCK_PROCESS_CPUTIME_ID, &t);
+    return t.tv_sec + t.tv_nsec * 1e-9;
+}
+
+static double once(const Job &job, int times) {
+    double begun = now();
+    for (int i = 0; i < times; i++) job.run();
+    return (now() - begun) / times;
+}
+
+// One run of a job does `count` of what is measured. A repetition takes some milliseconds.
+static void measure(const Where &w, double count, const std::vector<Job> &jobs) {
+    int rounds = quick ? 2 : 15;
+    double span = quick ? 0.0002 : 0.004;
+    std::vector<int> times;
+    std::vector<double> least(jobs.size(), 1e9);
+    for (const Job &job : jobs) once(job, 1), times.push_back(1 + span / (once(job, 1) + 1e-9));
+    for (int r = 0; r < rounds; r++)
+        for (size_t i = 0; i < jobs.size(); i++) least[i] = std::min(least[i], once(jobs[i], times[i]));
+    for (size_t i = 0; i < jobs.size(); i++)
+        printf("%s\t%s\t%u\t%d\t%s\t%s\t%.2f\n", w.measure, w.kind, w.n, w.d, w.pairs, jobs[i].who, least[i] * 1e9 / count);
+    fflush(stdout);
+}
+
+// A graph with all that is made of it.
+struct Case {
+    Graph graph;
+    Search search;
+    Closure closure;
+    std::map<std::string, Pairs> pairs;
+    Grail grail;
+    Bytes index;
+};
+
+// Several graphs of a size are measured in turn, as a processor learns the branches of a small one by heart.
+using Cases = std::vector<Case>;
+
+template <class F> static std::function<void()> each(Cases &cases, F one) {
+    return [&cases, one] {
+        for (Case &c : cases) one(c);
+    };
+}
+
+// ---------------------------------------------------------------- build and open
+
+static void put(Bytes &to, uint32_t x, int width) {
+    for (int i = 0; i < width; i++) to.push_back(x >> 8 * i);
+}
+
+// The stored form of what the peer has built, to compare with the library's.
+static Bytes stored_form(const Grail &a) {
+    const Groups &g = a.groups;
+    uint32_t n = g.place.size(), k = g.k, c = g.children.item.size(), d = a.d, at = 48;
+    Bytes bytes;
+    for (uint32_t x : {1u, n, k, c, d}) put(bytes, x, 4);
+    for (uint32_t size : {n, k, k, k + 1, c, 4 * d * k}) put(bytes, at, 4), at += 2 * size;
+    put(bytes, at, 4);
+    for (int p : g.place) put(bytes, g.list[p], 2);
+    for (const Ints *section : {&g.list, &g.level, &g.children.start, &g.children.item})
+        for (int x : *section) put(bytes, x, 2);
+    for (uint32_t j = 0; j < d; j++) {
+        Ints ranked(k);
+        for (uint32_t p = 0; p < k; p++) {
+            const Label &l = a.labels[p * d + j];
+            for (int x : {l.s, l.m, l.e}) put(bytes, x, 2);
+            ranked[l.e - 1] = p;
+        }
+        for (int p : ranked) put(bytes, p, 2);
+    }
+    return bytes;
+}
+
+static void build(Where w, Cases &cases, const Numbers &orders) {
+    const uint32_t n = w.n, most_edges = 16384;
+    Numbers work(16 * n + 4 * most_edges + 64);
+    Bytes out(50 + 8 * n + 2 * most_edges + 8 * w.d * n);
+    Closure closure;
+    auto ours = [&](const Case &c) {
+        const Numbers &from = c.graph.from, &to = c.graph.to;
+        size_t needed = 16 * n + 4 * from.size() + 64;
+        counted r = trial_build(from.data(), from.size(), to.data(), to.size(), orders.data(), orders.size(), work.data(), needed, out.data(), out.size(), n, w.d);
+        must(r.refusal == 0, "a build is refused");
+        return r.count;
+    };
+    w.measure = "build", w.pairs = "-";
+    measure(w, cases.size(), {{"ours", each(cases, ours)},
+                              {"grail", each(cases, [&](Case &c) { c.grail.build(c.graph, orders, w.d); })},
+                              {"closure", each(cases, [&](Case &c) { closure.build(c.graph); })}});
+    for (Case &c : cases) {
+        c.index.assign(out.begin(), out.begin() + ours(c));
+        must(c.index == stored_form(c.grail), "the peer builds another index");
+    }
+}
+
+static void open(Where w, Cases &cases) {
+    Bytes marks(w.n), scratch;
+    Grail loaded;
+    auto ours = [&](const Case &c) { must(drobisten_open(c.index.data(), c.index.size(), marks.data(), w.n).refusal == 0, "an index is refused"); };
+    auto check = [&](const Case &c) { must(Stored(c.index.data()).sound(scratch), "the peer refuses an index"); };
+    auto load = [&](const Case &c) { Stored(c.index.data()).load(loaded); };
+    auto pass = [&](const Case &c) {
+        const uint16_t *numbers = (const uint16_t *)c.index.data();
+        uint32_t sum = 0;
+        for (size_t i = 0; i < c.index.size() / 2; i++) sum += numbers[i];
+        sink = sum;
+    };
+    w.measure = "open", w.pairs = "-";
+    measure(w, cases.size(), {{"ours", each(cases, ours)}, {"check", each(cases, check)}, {"load", each(cases, load)}, {"pass", each(cases, pass)}});
+    for (const Case &c : cases) {
+        load(c);
+        must(stored_form(loaded) == c.index, "the peer loads another index");
+    }
+}
+
+// The peer's check and the library's on damaged contents.
+static void damage(const Bytes &index, Chance &chance) {
+    Bytes marks(4096), scratch;
+    for (int i = 0; i < 100; i++) {
+        Bytes bad = index;
+        uint16_t *field = (uint16_t *)&bad[48 + 2 * chance.below((index.size() - 48) / 2)];
+        *field = chance.below(2) ? chance.below(4096) : *field + 1 - 2 * chance.below(2);
+        uint32_t refusal = drobisten_open(bad.data(), bad.size(), marks.data(), marks.size()).refusal;
+        must(refusal == (Stored(bad.data()).sound(scratch) ? 0 : 15), "the peer judges damaged contents otherwise");
+    }
+}
+
+// ---------------------------------------------------------------- questions
+
+// Pairs of two different vertices: any, or those that a path joins, or those that none does.
+static Pairs choose(const std::string &which, const Closure &closure, uint32_t n, size_t count, Chance &chance) {
+    Pairs pairs;
+    while (pairs.size() < count) {
+        uint32_t u = chance.below(n), v = chance.below(n);
+        if (which == "reachable") { // any source, then any of what it reaches
+            Numbers reached;
+            for (v = 0; v < n; v++)
+                if (v != u && closure.reaches(u, v)) reached.push_back(v);
+            if (reached.empty()) continue;
+            v = reached[chance.below(reached.size())];
+        }
+        if (u != v && (which == "mixed" || closure.reaches(u, v) == (which == "reachable"))) pairs.push_back({u, v});
+    }
+    return pairs;
+}
+
+static drobisten_asked ask(const Case &c, Bytes &marks, uint32_t u, uint32_t v) {
+    return drobisten_ask(c.index.data(), c.index.size(), marks.data(), c.graph.n, u, v);
+}
+
+// The marks are 0 before, as the check would leave them.
+static drobisten_asked ask_alone(const Case &c, Bytes &marks, uint32_t u, uint32_t v) {
+    return unchecked_ask(c.index.data(), c.index.size(), marks.data(), c.graph.n, u, v);
+}
+
+// The next pair of each graph in turn, a check for each question.
+static void asks(Where w, Cases &cases) {
+    Bytes marks(w.n), alone(w.n), scratch;
+    size_t turn = 0;
+    auto pair = [&](const Case &c) {
+        const Pairs &pairs = c.pairs.at(w.pairs);
+        return pairs[turn++ % pairs.size()];
+    };
+    auto ours = [&](const Case &c) {
+        auto [u, v] = pair(c);
+        sink = ask(c, marks, u, v).yes;
+    };
+    auto check = [&](Case &c) {
+        auto [u, v] = pair(c);
+        sink = Stored(c.index.data()).sound(scratch) && c.grail.reaches(u, v);
+    };
+    w.measure = "ask";
+    measure(w, cases.size(), {{"ours", each(cases, ours)}, {"check", each(cases, check)}});
+    for (const Case &c : cases)
+        for (int i = 0; i < 20; i++) {
+            auto [u, v] = pair(c);
+            alone.assign(w.n, 0);
+            drobisten_asked a = ask(c, marks, u, v), b = ask_alone(c, alone, u, v);
+            must(a.refusal == 0 && !memcmp(&a, &b, sizeof a) && marks == alone, "a question alone gets another answer than with the check");
+        }
+}
+
+// All pairs of one graph, whose index is known to be sound.
+static void questions(Where w, Case &c) {
+    const Pairs &pairs = c.pairs.at(w.pairs);
+    Bytes marks(w.n);
+    auto all = [&](auto answer) {
+        return [&pairs, answer] {
+            uint32_t yes = 0;
+            for (auto [u, v] : pairs) yes += answer(u, v);
+            sink = yes;
+        };
+    };
+    // a question that opened nothing has left the marks at 0
+    auto ours = [&](uint32_t u, uint32_t v) {
+        drobisten_asked r = ask_alone(c, marks, u, v);
+        if (r.opened) memset(marks.data(), 0, w.n);
+        return r.yes;
+    };
+    auto grail = [&](uint32_t u, uint32_t v) { return c.grail.reaches(u, v); };
+    auto search = [&](uint32_t u, uint32_t v) { return c.search.reaches(u, v); };
+    auto closure = [&](uint32_t u, uint32_t v) { return c.closure.reaches(u, v); };
+    w.measure = "question";
+    measure(w, pairs.size(), {{"ours", all(ours)}, {"grail", all(grail)}, {"search", all(search)}, {"closure", all(closure)}});
+    double opened = 0;
+    for (auto [u, v] : pairs) {
+        marks.assign(w.n, 0);
+        drobisten_asked r = ask_alone(c, marks, u, v);
+        bool yes = r.yes;
+        must(r.refusal == 0 && grail(u, v) == yes && (uint32_t)c.grail.opened == r.opened, "GRAIL answers otherwise");
+        must(search(u, v) == yes, "breadth-first search answers otherwise");
+        must(closure(u, v) == yes, "the closure answers otherwise");
+        opened += r.opened;
+    }
+    printf("opened\t%s\t%u\t%d\t%s\tours\t%.2f\n", w.kind, w.n, w.d, w.pairs, opened / pairs.size());
+}
+
+// The copy without the check has none: it answers over a labelling whose last place by rank is wrong, which no question reads and every check finds.
+static void check_is_cut(Case c) {
+    Bytes marks(c.graph.n);
+    c.index.back() ^= 0x80;
+    must(ask(c, marks, 0, 1).refusal == DROBISTEN_CONTENTS, "unsound contents are answered");
+    must(ask_alone(c, marks, 0, 1).refusal == 0, "the copy without the check checks");
+}
+
+// ---------------------------------------------------------------- all of it
+
+int main(int words, char **word) {
+    std::string what = words == 2 ? word[1] : "";
+    must(what == "all" || what == "build" || what == "quick", "all, build or quick?");
+    quick = what == "quick";
+    for (const std::string &kind : KINDS) {
+        if (what == "build" && kind != "dag") continue;
+        for (uint32_t n : quick ? Numbers{500} : Numbers{500, 1000, 2000, 4096}) {
+            Chance chance(n);
+            Cases cases(quick ? 2 : 8192 / n);
+            for (Case &c : cases) {
+                c.graph = graph(kind, n, chance);
+                c.search.build(c.graph), c.closure.build(c.graph);
+                for (const char *which : {"reachable", "unreachable", "mixed"}) c.pairs[which] = choose(which, c.closure, n, &c == &cases[0] && !quick ? 4000 : 100, chance);
+            }
+            for (int d : {1, 2, 5}) {
+                Where w{"", kind.c_str(), n, d, ""};
+                Numbers orders;
+                for (int j = 0; j < d; j++) {
+                    Numbers order = chance.order(n);
+                    orders.insert(orders.end(), order.begin(), order.end());
+                }
+                build(w, cases, orders);
+                if (what == "build") continue;
+                open(w, cases);
+                damage(cases[0].index, chance);
+                check_is_cut(cases[0]);
+                for (const char *which : {"reachable", "unreachable", "mixed"}) {
+                    w.pairs = which;
+                    asks(w, cases);
+                    questions(w, cases[0]);
+                }
+            }
+        }
+    }
+}

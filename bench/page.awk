@@ -1,0 +1,145 @@
+# The tables of docs/FIGURES.md and its plot, from the figures that bench prints: measure, graph, n, d, pairs, who, nanoseconds.
+# awk -v svg=FILE -f bench/page.awk FIGURES: the tables go to the output, the plot to FILE. Without FILE: the table of builds alone, of the graphs that were built.
+BEGIN {
+    FS = "\t"
+    sizes = split("500 1000 2000 4096", N, " ")
+    split("1 2 5", D, " ")
+    split("dag loops tree layers line", KIND, " ")
+    split("reachable unreachable mixed", PAIRS, " ")
+    title["dag"] = "random acyclic"; title["loops"] = "with loops"; title["tree"] = "tree-like"; title["layers"] = "layers"; title["line"] = "line"
+    most = N[sizes]
+}
+{ T[$1, $2, $3, $4, $5, $6] = $7 }
+
+function time(measure, kind, n, d, pairs, who) { return T[measure, kind, n, d, pairs, who] }
+
+# a time in words: three digits and a unit
+function told(ns) {
+    if (ns < 1000) return sprintf("%.3g ns", ns)
+    if (ns < 999500) return sprintf("%.3g µs", ns / 1000)
+    return sprintf("%.3g ms", ns / 1000000)
+}
+
+function ratio(a, b) { return sprintf(a / b < 9.995 ? "%.2f" : "%.0f", a / b) }
+
+# ours to a peer's, at every size
+function ratios(measure, kind, d, pairs, peer,    i, line) {
+    for (i = 1; i <= sizes; i++) line = line " | " ratio(time(measure, kind, N[i], d, pairs, "ours"), time(measure, kind, N[i], d, pairs, peer))
+    return line
+}
+
+# the slope of log time over log n, by least squares
+function slope(measure, kind, d, pairs, who,    i, x, y, sx, sy, sxx, sxy) {
+    for (i = 1; i <= sizes; i++) {
+        x = log(N[i]); y = log(time(measure, kind, N[i], d, pairs, who))
+        sx += x; sy += y; sxx += x * x; sxy += x * y
+    }
+    return sprintf("%.2f", (sizes * sxy - sx * sy) / (sizes * sxx - sx * sx))
+}
+
+function heading(words, columns,    line, i) {
+    print words
+    line = "|---|---"
+    for (i = 3; i <= columns; i++) line = line "|---:"
+    print line "|"
+}
+
+function builds(    a, j, kind, d) {
+    print "### Build: ours to GRAIL\n"
+    heading("| graph | d | n = 500 | 1,000 | 2,000 | 4,096 | slope, ours | slope, GRAIL | ours, 4,096 | GRAIL, 4,096 | closure, 4,096 |", 11)
+    for (a = 1; a in KIND; a++) for (j = 1; j in D; j++) {
+        kind = KIND[a]; d = D[j]
+        if (!(("build", kind, most, d, "-", "ours") in T)) continue
+        print "| " title[kind] " | " d ratios("build", kind, d, "-", "grail") " | " slope("build", kind, d, "-", "ours") " | " slope("build", kind, d, "-", "grail") \
+            " | " told(time("build", kind, most, d, "-", "ours")) " | " told(time("build", kind, most, d, "-", "grail")) " | " told(time("build", kind, most, d, "-", "closure")) " |"
+    }
+}
+
+function tables(    a, j, p, kind, d, pairs) {
+    builds()
+    print "\n### Open: ours to the same check in C++\n"
+    heading("| graph | d | n = 500 | 1,000 | 2,000 | 4,096 | slope, ours | ours, 4,096 | to loading | to one pass |", 10)
+    for (a = 1; a in KIND; a++) for (j = 1; j in D; j++) {
+        kind = KIND[a]; d = D[j]
+        print "| " title[kind] " | " d ratios("open", kind, d, "-", "check") " | " slope("open", kind, d, "-", "ours") " | " told(time("open", kind, most, d, "-", "ours")) \
+            " | " ratio(time("open", kind, most, d, "-", "ours"), time("open", kind, most, d, "-", "load")) \
+            " | " ratio(time("open", kind, most, d, "-", "ours"), time("open", kind, most, d, "-", "pass")) " |"
+    }
+    print "\n### Single question with its check, mixed pairs: ours to the same check in C++ and GRAIL's question\n"
+    heading("| graph | d | n = 500 | 1,000 | 2,000 | 4,096 | slope, ours | ours, 4,096 | reachable | unreachable | to search, mixed |", 11)
+    for (a = 1; a in KIND; a++) for (j = 1; j in D; j++) {
+        kind = KIND[a]; d = D[j]
+        print "| " title[kind] " | " d ratios("ask", kind, d, "mixed", "check") " | " slope("ask", kind, d, "mixed", "ours") " | " told(time("ask", kind, most, d, "mixed", "ours")) \
+            " | " told(time("ask", kind, most, d, "reachable", "ours")) " | " told(time("ask", kind, most, d, "unreachable", "ours")) \
+            " | " ratio(time("ask", kind, most, d, "mixed", "ours"), time("question", kind, most, d, "mixed", "search")) " |"
+    }
+    print "\n### Question alone: ours to GRAIL\n"
+    heading("| graph, pairs | d | n = 500 | 1,000 | 2,000 | 4,096 | ours, 4,096 | GRAIL | search | closure | groups opened |", 11)
+    for (a = 1; a in KIND; a++) for (p = 1; p in PAIRS; p++) for (j = 1; j in D; j++) {
+        kind = KIND[a]; d = D[j]; pairs = PAIRS[p]
+        print "| " title[kind] ", " pairs " | " d ratios("question", kind, d, pairs, "grail") " | " told(time("question", kind, most, d, pairs, "ours")) \
+            " | " told(time("question", kind, most, d, pairs, "grail")) " | " told(time("question", kind, most, d, pairs, "search")) \
+            " | " told(time("question", kind, most, d, pairs, "closure")) " | " sprintf("%.1f", time("opened", kind, most, d, pairs, "ours")) " |"
+    }
+}
+
+# ---------------------------------------------------------------- the plot: four panels, cost over size, both logarithmic
+
+function draw(line) { print line > svg }
+
+function across(n) { return left + (log(n) - log(400)) / (log(5000) - log(400)) * 300 }
+
+function up(ns) { return top + 220 - (log(ns) - log(low)) / (log(high) - log(low)) * 220 }
+
+function panel(name, x, y, from, to,    i, ns) {
+    left = x; top = y; low = from; high = to; label = top + 10
+    draw("<text x='" left "' y='" top - 12 "' class='name'>" name "</text>")
+    for (ns = low; ns <= high * 1.001; ns *= 10) {
+        draw("<line x1='" left "' x2='" left + 300 "' y1='" up(ns) "' y2='" up(ns) "' class='grid'/>")
+        draw("<text x='" left - 6 "' y='" up(ns) + 4 "' text-anchor='end'>" told(ns) "</text>")
+    }
+    for (i = 1; i <= sizes; i++) draw("<text x='" across(N[i]) "' y='" top + 238 "' text-anchor='middle'>" N[i] "</text>")
+}
+
+function curve(words, colour, dashes, measure, d, pairs, who,    i, points, style) {
+    for (i = 1; i <= sizes; i++) points = points " " sprintf("%.1f,%.1f", across(N[i]), up(time(measure, "dag", N[i], d, pairs, who)))
+    style = "fill='none' stroke='" colour "' stroke-width='2' stroke-dasharray='" dashes "'"
+    draw("<polyline points='" points "' " style "/>")
+    draw("<polyline points='" left + 312 "," label - 4 " " left + 340 "," label - 4 "' " style "/>")
+    draw("<text x='" left + 346 "' y='" label "'>" words "</text>")
+    label += 18
+}
+
+function by_d(words, dashes, measure, pairs, who,    j) {
+    for (j = 1; j in D; j++) curve(words ", d = " D[j], COLOUR[j], dashes, measure, D[j], pairs, who)
+}
+
+function plot() {
+    split("#1f77b4 #d95f02 #2ca02c", COLOUR, " ")
+    draw("<svg xmlns='http://www.w3.org/2000/svg' viewBox='0 0 1120 640' font-family='sans-serif' font-size='12'>")
+    draw("<style>.grid { stroke: #ddd } .name { font-size: 14px; font-weight: bold }</style><rect width='1120' height='640' fill='white'/>")
+    panel("Build", 80, 40, 10000, 10000000)
+    by_d("ours", "", "build", "-", "ours")
+    by_d("GRAIL", "6 4", "build", "-", "grail")
+    curve("closure", "#777", "2 3", "build", 1, "-", "closure")
+    panel("Open", 620, 40, 100, 10000000)
+    by_d("ours", "", "open", "-", "ours")
+    by_d("check in C++", "6 4", "open", "-", "check")
+    curve("one pass, d = 5", "#777", "2 3", "open", 5, "-", "pass")
+    panel("Single question with its check, mixed pairs", 80, 350, 100, 10000000)
+    by_d("ours", "", "ask", "mixed", "ours")
+    by_d("in C++", "6 4", "ask", "mixed", "check")
+    curve("search", "#777", "2 3", "question", 1, "mixed", "search")
+    panel("Question alone, mixed pairs", 620, 350, 1, 10000)
+    by_d("ours", "", "question", "mixed", "ours")
+    by_d("GRAIL", "6 4", "question", "mixed", "grail")
+    curve("search", "#777", "2 3", "question", 1, "mixed", "search")
+    curve("closure", "#777", "", "question", 1, "mixed", "closure")
+    draw("<text x='560' y='628' text-anchor='middle'>processor time over vertices, random acyclic graphs with four edges a vertex, both axes logarithmic</text>")
+    draw("</svg>")
+}
+
+END {
+    if (svg == "") builds()
+    else { tables(); plot() }
+}
