@@ -16,7 +16,7 @@ use Rattle.lineage.specs.Index.{Index, indexOf, Made}
 use Rattle.lineage.specs.Stored.{countsIn, headerAt, formOf, stretch, section, decode}
 use Rattle.lineage.specs.Question.{placeIn, netOf, answer}
 use Rattle.lineage.specs.Calls.{answered, indexIn, Said, askAnswer, askMarks}
-use Rattle.laws.proofs.Rising.{Distinct}
+use Rattle.laws.specs.Rising.{Distinct}
 use Rattle.laws.proofs.Grouped.{group-name}
 use Rattle.laws.proofs.Sound.{made-long}
 use Rattle.laws.proofs.Lists.{table-long}

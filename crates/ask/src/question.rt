@@ -126,9 +126,10 @@ pub fn question(
     ensures { λ r. ⌜ answerBy r (now (marks .exit)) ≡ answer (indexAt l (now (names .entry)) (now (groups .entry)) (now (levels .entry)) (now (starts .entry)) (now (children .entry)) (now (labels .entry))) u v ⌝ }
 {
     let w = l.width;
+    let n = l.n;
     let k = l.k;
-    let x = places::place_of(groups, w, k, numbers::num(names, w, u));
-    let t = places::place_of(groups, w, k, numbers::num(names, w, v));
+    let x = places::place_of(groups, w, n, k, numbers::num(names, w, u));
+    let t = places::place_of(groups, w, n, k, numbers::num(names, w, v));
     decide(
         groups,
         levels,

@@ -9,7 +9,7 @@ use Rattle.lineage.specs.Lists.{part}
 use Rattle.lineage.specs.Graph.{Graph, namesOf, groupList}
 use Rattle.lineage.specs.Labels.{Order, finished}
 use Rattle.laws.specs.Passes.{row, TwoPasses, pass₁, pass₂}
-use Rattle.laws.proofs.Rising.{Distinct}
+use Rattle.laws.specs.Rising.{Distinct}
 use Rattle.laws.proofs.Visited.{distinct}
 use Rattle.laws.proofs.TwoPasses.{passes-made}
 use Rattle.laws.proofs.Parts.{part-length}

@@ -15,8 +15,10 @@ use Rattle.lineage.specs.Labels.{Forest, done, visit, finished, subtree}
 use Rattle.laws.specs.Passes.{trees}
 use Rattle.laws.proofs.Tests.{clash}
 use Rattle.laws.proofs.Lists.{there, in-getD, in-left, position-past}
-use Rattle.laws.proofs.Rising.{Distinct, distinct-apart, distinct-right, position-getD}
-use Rattle.laws.proofs.Ranks.{before, behind, run, subtree-self}
+use Rattle.laws.specs.Rising.{Distinct}
+use Rattle.laws.proofs.Rising.{distinct-apart, distinct-right, position-getD}
+use Rattle.laws.specs.Visits.{before}
+use Rattle.laws.proofs.Ranks.{behind, run, subtree-self}
 use Rattle.groups.specs.Trees.{Lows, treesFrom, treesOf}
 use Rattle.groups.proofs.Trees.{trees-step}
 

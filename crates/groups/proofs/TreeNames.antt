@@ -12,7 +12,8 @@ use Rattle.lineage.specs.Graph.{Graph, Ends, stay, nameOf, namesOf}
 use Rattle.lineage.specs.Labels.{Forest, finished}
 use Rattle.laws.specs.Passes.{TwoPasses, trees, Together, both, beyond}
 use Rattle.laws.proofs.Lists.{here, there, in-cons, in-left, in-right, in-append, upto-low, map-same}
-use Rattle.laws.proofs.Rising.{Distinct, distinct-apart, distinct-right}
+use Rattle.laws.specs.Rising.{Distinct}
+use Rattle.laws.proofs.Rising.{distinct-apart, distinct-right}
 use Rattle.laws.proofs.Names.{name-smallest, name-low, name-own, names-long, name-at}
 use Rattle.laws.proofs.Visited.{distinct}
 use Rattle.laws.proofs.Trees.{joined-trees}

@@ -12,7 +12,8 @@ use Rattle.laws.specs.Visits.{Visits}
 use Rattle.laws.specs.Passes.{TwoPasses}
 use Rattle.laws.proofs.Lists.{in-upto, upto-low, length-upto, among-reverse}
 use Rattle.laws.proofs.Edges.{edge-turned}
-use Rattle.laws.proofs.Rising.{Distinct, rises-upto, rises-distinct, pigeonhole}
+use Rattle.laws.specs.Rising.{Distinct}
+use Rattle.laws.proofs.Rising.{rises-upto, rises-distinct, pigeonhole}
 use Rattle.laws.proofs.Visited.{held, listed, distinct, from-todo}
 use Rattle.laws.proofs.Closed.{leads-keeps}
 use Rattle.rows.proofs.Orders.{order-low}

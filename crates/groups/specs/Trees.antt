@@ -7,7 +7,7 @@ use Prim.Native.Nat.{ℕ, zero, suc, _-_, _<_}
 use lib.ListN.{length, getD}
 use Rattle.lineage.specs.Lists.{upto, among, least, part}
 use Rattle.lineage.specs.Labels.{Forest, finished}
-use Rattle.laws.proofs.Ranks.{before}
+use Rattle.laws.specs.Visits.{before}
 
 -- the list is the second list of a traversal
 abbrev pub Lows : Forest → List ℕ → Type 0

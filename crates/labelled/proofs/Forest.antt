@@ -11,7 +11,7 @@ use Rattle.lineage.specs.Labels.{Order, inOrder, outer, Forest, finished, fores
 use Rattle.lineage.specs.Sound.{childOf}
 use Rattle.laws.specs.Laid.{Below}
 use Rattle.laws.proofs.Lists.{table-at, table-long}
-use Rattle.laws.proofs.Rising.{Distinct}
+use Rattle.laws.specs.Rising.{Distinct}
 use Rattle.laws.proofs.Grouped.{child-in}
 use Rattle.laws.proofs.Labelled.{finished-once}
 use Rattle.laws.proofs.Parts.{part-length}

@@ -11,8 +11,9 @@ use Rattle.lineage.specs.Labels.{Order, inOrder, Forest, finished, subtree, for
 use Rattle.lineage.specs.Sound.{childOf}
 use Rattle.laws.specs.Sound.{SoundGroups}
 use Rattle.laws.proofs.Lists.{upto-low, at-position, position-low, map-same, table-at}
-use Rattle.laws.proofs.Rising.{Distinct}
-use Rattle.laws.proofs.Ranks.{before, m-made}
+use Rattle.laws.specs.Rising.{Distinct}
+use Rattle.laws.specs.Visits.{before}
+use Rattle.laws.proofs.Ranks.{m-made}
 use Rattle.laws.proofs.Grouped.{child-in}
 use Rattle.laws.proofs.Labelled.{finished-all, finished-low, finished-once, e-is, labelling-sound}
 use Rattle.rows.proofs.Orders.{order-low}

@@ -13,7 +13,8 @@ use Rattle.laws.specs.Leads.{OneGroup}
 use Rattle.laws.specs.Sound.{SoundGroups}
 use Rattle.laws.proofs.Tests.{is-false}
 use Rattle.laws.proofs.Lists.{those-pass, those-keep, in-upto, upto-low, length-upto, getD-mapped, position-low, in-getD}
-use Rattle.laws.proofs.Rising.{Rises, rises-upto, rises-those, rises-next, those-lt, those-short}
+use Rattle.laws.specs.Rising.{Rises}
+use Rattle.laws.proofs.Rising.{rises-upto, rises-those, rises-next, those-lt, those-short}
 use Rattle.laws.proofs.Edges.{child-to}
 use Rattle.laws.proofs.Reaches.{reaches-on, reaches-exactly}
 use Rattle.laws.proofs.Names

@@ -14,9 +14,10 @@ use Rattle.lineage.specs.Labels.{Forest, visit, after, finished}
 use Rattle.laws.specs.Visits.{Visits, over, skip, enter}
 use Rattle.laws.proofs.Tests.{clash}
 use Rattle.laws.proofs.Lists.{here, there, in-cons, in-left, in-right, position-past, position-left}
-use Rattle.laws.proofs.Rising.{Distinct, distinct-right, distinct-apart, distinct-left}
+use Rattle.laws.specs.Rising.{Distinct}
+use Rattle.laws.proofs.Rising.{distinct-right, distinct-apart, distinct-left}
 use Rattle.laws.proofs.Visited.{parts, seen-cases, listed}
-use Rattle.laws.proofs.Ranks.{before}
+use Rattle.laws.specs.Visits.{before}
 use Rattle.laws.proofs.Forests.{Ranking, Fits, none, tree, entered-finished, block-up, member-rank}
 
 module _ (R : Ranking) where

@@ -17,7 +17,8 @@ use Rattle.laws.specs.Leads.{Down}
 use Rattle.laws.specs.Sound.{SoundGroups}
 use Rattle.laws.proofs.Tests.{is-false}
 use Rattle.laws.proofs.Lists.{those-pass, those-keep, in-upto, upto-low, position-low, at-position, in-getD}
-use Rattle.laws.proofs.Rising.{Distinct, position-getD, Rises, rises-upto, rises-those, rises-distinct, next-rises}
+use Rattle.laws.specs.Rising.{Distinct, Rises}
+use Rattle.laws.proofs.Rising.{position-getD, rises-upto, rises-those, rises-distinct, next-rises}
 use Rattle.laws.proofs.Levels.{Falls, level-falls, leads-bounded}
 
 -- the group list: all that are their own name, rising

@@ -1,8 +1,10 @@
--- In a rising list the numbers below v stand first, so how many they are can be found by halves; it is where v stands, or would stand.
+-- In a rising list the numbers below v stand first, so how many they are can be found by halves; it is where v stands, or would stand. As the numbers
+-- are all different, they are at most v; and those that are not below v, but below n, are at most n - v.
 use mathlib.Core.Bool.{Bool, true, false, false≢true}
+use mathlib.Core.Logic.{_⊎_, inl, inr}
 use mathlib.Core.Path.{_≡_, refl, sym, ap, _∙_}
 use mathlib.Core.List.{List, [], _∷_}
-use Prim.Native.Nat.{ℕ, zero, suc, _≤_, _<_}
+use Prim.Native.Nat.{ℕ, zero, suc, _+_, _≤_, _<_}
 use native.Mathlib.Nat.{not-suc-le-zero}
 use native.Mathlib.Decide.{ℕ-discrete}
 use native.Mathlib.Omega.{arith}
@@ -10,13 +12,10 @@ use lib.Dec.{eqb, ltb}
 use lib.ListN.{length, getD}
 use borrow.Author.Tests.{eqb-true, eq-eqb, ne-eqb, ltb-true, ltb-false, lt-ltb, le-ltb}
 use Rattle.lineage.specs.Lists.{among, those, position}
+use Rattle.laws.specs.Rising.{Rises, countBelow}
 use Rattle.laws.proofs.Tests.{is-false}
-use Rattle.laws.proofs.Lists.{those-yes, those-no, those-none, position-low, at-position, in-getD}
-use Rattle.laws.proofs.Rising.{Rises}
-
--- how many numbers of the list are below v
-abbrev pub countBelow : ℕ → List ℕ → ℕ
-countBelow v xs = length (those (λ x. ltb x v) xs)
+use Rattle.laws.proofs.Lists.{here, there, in-cons, those-yes, those-no, those-pass, those-none, position-low, at-position, in-getD}
+use Rattle.laws.proofs.Rising.{rises-those, rises-fit}
 
 module _ (v : ℕ) where
   abbrev below : ℕ → Bool
@@ -44,6 +43,24 @@ module _ (v : ℕ) where
       at false e (suc j) l ih =
           let up : x < getD xs j 0 = r .0 (getD xs j 0) (in-getD xs j (omega arith)) in
           rw (those-no below x xs e, none-behind x xs r (ltb-false x v e)) ((λ z. absurd (omega (arith, ltb-false x v e))), λ z. omega arith)
+
+  -- the halving may begin between these two
+  pub count-most : (xs : List ℕ) → Rises xs → countBelow v xs ≤ v
+  count-most xs r =
+      omega (arith, rises-fit 0 v (those below xs) (rises-those below xs r) (λ y i. (omega arith, ltb-true y v (those-pass below y xs i .0))))
+
+  pub count-least : (n : ℕ) (xs : List ℕ) → Rises xs → ((y : ℕ) → among y xs ≡ true → y < n) → v ≤ n → v + length xs ≤ n + countBelow v xs
+  count-least n [] r l h = omega arith
+  count-least n (x ∷ xs) r l h = at (ltb x v) refl (count-least n xs (r .1) (λ y i. l y (there y x xs i)) h)
+    where
+      at : (b : Bool) → ltb x v ≡ b → v + length xs ≤ n + countBelow v xs → v + suc (length xs) ≤ n + countBelow v (x ∷ xs)
+      at true e ih = rw (those-yes below x xs e) (omega arith)
+      at false e ih =
+          omega (arith, rises-fit v n (x ∷ xs) r (λ y i. (from y (in-cons y x xs i), l y i)), l x (here x xs))
+        where
+          from : (y : ℕ) → (y ≡ x) ⊎ (among y xs ≡ true) → v ≤ y
+          from y (inl same) = omega (arith, ltb-false x v e)
+          from y (inr j) = omega (arith, ltb-false x v e, r .0 y j)
 
   -- where v stands
   pub position-below : (xs : List ℕ) → Rises xs → among v xs ≡ true → countBelow v xs ≡ position v xs

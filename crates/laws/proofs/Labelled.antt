@@ -16,12 +16,14 @@ use Rattle.laws.specs.Visits.{Visits}
 use Rattle.laws.specs.Sound.{SoundLabelling, SoundGroups}
 use Rattle.laws.proofs.Lists.{those-pass, those-keep, map-same, in-upto, upto-low, length-upto, table-at, table-long, position-low, at-position, in-getD, greatest-in}
 use Rattle.laws.proofs.Joined.{joined-in}
-use Rattle.laws.proofs.Rising.{Distinct, position-getD, rises-upto, rises-distinct, pigeonhole}
+use Rattle.laws.specs.Rising.{Distinct}
+use Rattle.laws.proofs.Rising.{position-getD, rises-upto, rises-distinct, pigeonhole}
 use Rattle.laws.proofs.Grouped.{group-name, groups-distinct, child-in, levels-fall}
 use Rattle.laws.proofs.Traversal.{unique, nextIn, forest-visits}
 use Rattle.laws.proofs.Visited.{held, listed, followed, distinct, from-todo}
 use Rattle.laws.proofs.Closed.{leads-keeps}
-use Rattle.laws.proofs.Ranks.{before, m-made, inner-law}
+use Rattle.laws.specs.Visits.{before}
+use Rattle.laws.proofs.Ranks.{m-made, inner-law}
 use Rattle.laws.proofs.Forests.{Fits, entered, entered-finished, member-m}
 use Rattle.laws.proofs.Fitted.{visits-fits, visits-fall}
 use Rattle.laws.proofs.Walks.{rankingOf, fits-walk, fits-block}

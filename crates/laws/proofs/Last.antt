@@ -16,7 +16,8 @@ use Rattle.laws.proofs.Tests.{clash, or-false-left, or-false-right}
 use Rattle.laws.proofs.Lists.{among-append, in-cons, in-left, in-append}
 use Rattle.laws.proofs.Rising.{distinct-apart}
 use Rattle.laws.proofs.Visited.{held, listed, followed, fresh, distinct, subtree-leads}
-use Rattle.laws.proofs.Ranks.{before, behind, run, subtree-self, subtree-finished}
+use Rattle.laws.specs.Visits.{before}
+use Rattle.laws.proofs.Ranks.{behind, run, subtree-self, subtree-finished}
 
 -- what stands past x in a list
 abbrev pub past : ℕ → List ℕ → List ℕ

@@ -11,7 +11,8 @@ use Rattle.lineage.specs.Lists.{upto, among, those}
 use Rattle.lineage.specs.Graph.{placeOf}
 use Rattle.lineage.specs.Labels.{Order, inOrder}
 use Rattle.laws.proofs.Lists.{in-left, in-right, those-append, those-pass, those-keep, those-all, those-none, map-same, those-split, in-upto, length-upto, position-low, at-position, in-getD, in-map, of-map}
-use Rattle.laws.proofs.Rising.{Distinct, position-getD, Rises, rises-upto, rises-those, rises-distinct, rises-unique}
+use Rattle.laws.specs.Rising.{Distinct, Rises}
+use Rattle.laws.proofs.Rising.{position-getD, rises-upto, rises-those, rises-distinct, rises-unique}
 
 module _ (groups : List ℕ) where
   -- the vertex names a group

@@ -12,16 +12,9 @@ use borrow.Author.Tests.{eqb-true, eq-eqb}
 use Rattle.lineage.specs.Lists.{among, position, least}
 use Rattle.lineage.specs.Labels.{Forest, done, visit, finished, subtree}
 use Rattle.laws.proofs.Lists.{among-append, here, in-one, in-left, in-right, in-append, map-same, position-past, position-in, least-at, least-above}
-use Rattle.laws.proofs.Rising.{Distinct, distinct-right, distinct-apart}
-
--- what was finished before x was entered
-abbrev pub before : ℕ → Forest → List ℕ
-before x done = []
-before x (visit p below next) =
-    elim (eqb x p) [
-      | true ↦ []
-      | false ↦ elim (among x (finished below)) [ true ↦ before x below | false ↦ finished below ++ (p ∷ before x next) ]
-    ]
+use Rattle.laws.specs.Rising.{Distinct}
+use Rattle.laws.specs.Visits.{before}
+use Rattle.laws.proofs.Rising.{distinct-right, distinct-apart}
 
 -- what is finished once x is
 abbrev pub behind : ℕ → Forest → List ℕ

@@ -4,20 +4,16 @@ use mathlib.Core.Bool.{Bool, true, false, not, false≢true}
 use mathlib.Core.Logic.{_⊎_, inl, inr}
 use mathlib.Core.Path.{_≡_, refl, ap, ap₂}
 use mathlib.Core.List.{List, [], _∷_, _++_}
-use Prim.Native.Nat.{ℕ, zero, suc, _+_, _<_, _≤_}
+use Prim.Native.Nat.{ℕ, zero, suc, _+_, _-_, _<_, _≤_}
 use native.Mathlib.Nat.{not-suc-le-zero}
 use native.Mathlib.Omega.{arith}
 use lib.Dec.{eqb}
 use lib.ListN.{length, getD}
 use borrow.Author.Tests.{eq-eqb, ne-eqb}
 use Rattle.lineage.specs.Lists.{upto, among, those, firstOf, position}
+use Rattle.laws.specs.Rising.{Distinct, Rises}
 use Rattle.laws.proofs.Tests.{clash, is-false}
 use Rattle.laws.proofs.Lists.{among-append, here, there, in-cons, in-one, in-left, in-right, in-append, Kept, those-yes, those-no, those-pass, those-keep, those-all, those-split, in-upto, upto-low, length-upto, position-low, at-position, in-getD}
-
--- no number stands twice
-abbrev pub Distinct : List ℕ → Type 0
-Distinct [] = Unit {0}
-Distinct (x ∷ xs) = (among x xs ≡ false) × Distinct xs
 
 -- joined lists without repeats, where they share no number, and the way back
 pub distinct-append : (a b : List ℕ) → Distinct a → Distinct b → ((x : ℕ) → among x a ≡ true → among x b ≡ false) → Distinct (a ++ b)
@@ -49,11 +45,6 @@ position-getD (x ∷ xs) d (suc i) h =
     let l : i < length xs = omega arith in
     let apart : eqb (getD xs i 0) x ≡ false = ne-eqb (getD xs i 0) x (λ e. clash (rw e at (in-getD xs i l)) (d .0)) in
     rw (apart, position) (ap suc (position-getD xs (d .1) i l))
-
--- each number is less than those after it
-abbrev pub Rises : List ℕ → Type 0
-Rises [] = Unit {0}
-Rises (x ∷ xs) = ((y : ℕ) → among y xs ≡ true → x < y) × Rises xs
 
 rises-snoc : (xs : List ℕ) (n : ℕ) → Rises xs → ((y : ℕ) → among y xs ≡ true → y < n) → Rises (xs ++ (n ∷ []))
 rises-snoc [] n r l = ((λ y i. absurd (false≢true i)), tt)
@@ -95,6 +86,13 @@ rises-unique (x ∷ xs) (y ∷ ys) r s to from =
     ap₂ _∷_ same (rises-unique xs ys (r .1) (s .1)
     (λ q i. elim (in-cons q y ys (to q (there q x xs i))) [ inl e ↦ absurd (omega (arith, r .0 q i)) | inr j ↦ j ])
     (λ q i. elim (in-cons q x xs (from q (there q y ys i))) [ inl e ↦ absurd (omega (arith, s .0 q i)) | inr j ↦ j ]))
+
+-- a rising list of numbers from a on and below n has room between them
+pub rises-fit : (a n : ℕ) (xs : List ℕ) → Rises xs → ((y : ℕ) → among y xs ≡ true → (a ≤ y) × (y < n)) → length xs ≤ n - a
+rises-fit a n [] r l = omega arith
+rises-fit a n (x ∷ xs) r l =
+    let at : (a ≤ x) × (x < n) = l x (here x xs) in
+    omega (arith, at .0, at .1, rises-fit (suc x) n xs (r .1) (λ y i. (r .0 y i, l y (there y x xs i) .1)))
 
 -- rising, neighbour by neighbour
 pub rises-next : (xs : List ℕ) → Rises xs → (i : ℕ) → suc i < length xs → getD xs i 0 < getD xs (suc i) 0

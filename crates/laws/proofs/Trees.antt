@@ -11,7 +11,8 @@ use Rattle.laws.specs.Passes.{trees, OnlyOne}
 use Rattle.laws.proofs.Tests.{clash}
 use Rattle.laws.proofs.Lists.{among-append}
 use Rattle.laws.proofs.Joined.{in-joined}
-use Rattle.laws.proofs.Rising.{Distinct, distinct-right, distinct-apart}
+use Rattle.laws.specs.Rising.{Distinct}
+use Rattle.laws.proofs.Rising.{distinct-right, distinct-apart}
 
 -- the trees one after the other are the order of finishing
 pub joined-trees : (f : Forest) → joined (trees f) ≡ finished f

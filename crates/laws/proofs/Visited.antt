@@ -13,7 +13,8 @@ use Rattle.laws.specs.Leads.{Leads, stay, step}
 use Rattle.laws.specs.Visits.{Visits, over, skip, enter}
 use Rattle.laws.proofs.Tests.{or-cases, clash, is-false, or-false-left, or-false-right}
 use Rattle.laws.proofs.Lists.{here, there, in-cons, in-one, in-left, in-right, in-append}
-use Rattle.laws.proofs.Rising.{Distinct, distinct-append}
+use Rattle.laws.specs.Rising.{Distinct}
+use Rattle.laws.proofs.Rising.{distinct-append}
 use Rattle.laws.proofs.Traversal.{kept}
 
 -- a group of a forest stands below the first root, is that root, or stands in a later tree

@@ -17,7 +17,7 @@ use Rattle.lineage.specs.Labels.{Forest, done, visit, nobodysChild, finished, L
 use Rattle.lineage.specs.Sound.{childOf}
 use Rattle.laws.specs.Sound.{LeftWalk, arrived, left, SoundLabelling}
 use Rattle.laws.proofs.Lists.{among-append, in-cons, in-append}
-use Rattle.laws.proofs.Ranks.{before}
+use Rattle.laws.specs.Visits.{before}
 use Rattle.laws.proofs.Forests.{Ranking, Fits, none, tree, entered, joinF, block-up, join-fits}
 
 -- a labelling over given children, as functions of places

@@ -1,4 +1,5 @@
 -- What the laws are told in: relations that only proofs need.
+pub mod Rising
 pub mod Leads
 pub mod Visits
 pub mod Passes

@@ -15,7 +15,7 @@ use Rattle.lineage.specs.Index.{Index, indexOf}
 use Rattle.lineage.specs.Question.{netOf, placeIn, answer, downstream}
 use Rattle.laws.specs.Leads.{Down}
 use Rattle.laws.specs.Sound.{Sound}
-use Rattle.laws.proofs.Rising.{Rises}
+use Rattle.laws.specs.Rising.{Rises}
 use Rattle.laws.proofs.Grouped.{place-low}
 use Rattle.laws_answers.specs.Walks.{Through}
 use Rattle.laws.proofs.Every.{every-from}

@@ -14,7 +14,8 @@ use Rattle.lineage.specs.Question.{placeIn, isDownstream, downstream}
 use Rattle.laws.specs.Leads.{Down, stay}
 use Rattle.laws.specs.Sound.{Sound}
 use Rattle.laws.proofs.Lists.{those-pass, those-keep, in-upto, upto-low}
-use Rattle.laws.proofs.Rising.{Rises, rises-upto, rises-those}
+use Rattle.laws.specs.Rising.{Rises}
+use Rattle.laws.proofs.Rising.{rises-upto, rises-those}
 use Rattle.laws.proofs.Grouped.{place-low, leads-exactly}
 
 module _ (I : Index) where

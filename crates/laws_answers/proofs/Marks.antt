@@ -12,7 +12,7 @@ use lib.Seq.{getD-set-same, getD-set-other}
 use borrow.Author.Tests.{eqb-true, eqb-false, eq-eqb, ne-eqb}
 use Rattle.lineage.specs.Lists.{among, ones}
 use Rattle.laws.proofs.Lists.{here, there, in-map, of-map}
-use Rattle.laws.proofs.Rising.{Distinct}
+use Rattle.laws.specs.Rising.{Distinct}
 use Rattle.laws_answers.specs.Walks.{_∈_}
 
 -- m with a mark for each group of o

@@ -11,7 +11,7 @@ use Rattle.lineage.specs.Lists.{among}
 use Rattle.lineage.specs.Walk.{Net, Walked, marked, follow, pick, tryWith, openAt}
 use Rattle.laws.proofs.Tests.{or-cases, or-false-left, or-false-right}
 use Rattle.laws.proofs.Lists.{here, there}
-use Rattle.laws.proofs.Rising.{Distinct}
+use Rattle.laws.specs.Rising.{Distinct}
 use Rattle.laws_answers.specs.Walks.{_∈_, End, nowhere, yes-at, Tries, over, hit, met, cut, finds, goes-on}
 use Rattle.laws_answers.proofs.Tries.{each, Lower}
 use Rattle.laws_answers.proofs.Marks.{painted, Spots, marked-is}

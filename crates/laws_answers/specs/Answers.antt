@@ -9,7 +9,7 @@ use Rattle.lineage.specs.Lists.{among, upto, ones}
 use Rattle.lineage.specs.Labels.{Labelling}
 use Rattle.lineage.specs.Index.{Index}
 use Rattle.lineage.specs.Question.{inside, outside, rule2, rule3, rule4, netOf, walk, Answer}
-use Rattle.laws.proofs.Rising.{Distinct}
+use Rattle.laws.specs.Rising.{Distinct}
 use Rattle.laws_answers.specs.Walks.{nowhere, yes-at, Walks}
 
 -- the marks before a question: n bytes, all 0

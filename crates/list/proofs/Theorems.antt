@@ -19,7 +19,7 @@ use Rattle.lineage.specs.Question.{downstream}
 use Rattle.lineage.specs.Calls.{Check, check, answered, anyApplies, indexIn, listEarly, listLate, listAnswer, listOutput}
 use Rattle.laws.specs.Sound.{Sound}
 use Rattle.laws.proofs.Tests.{or-false-left, or-false-right, and-right}
-use Rattle.laws.proofs.Rising.{Rises}
+use Rattle.laws.specs.Rising.{Rises}
 use Rattle.laws.proofs.Decides.{sound-decides}
 use Rattle.laws.proofs.Sound.{made-long, made-paths}
 use Rattle.laws_answers.proofs.Built.{reached-low}

@@ -19,13 +19,14 @@ fn rank_of(index: &[u8], l: Layout, u: usize) -> usize
     ensures { λ r. ⌜ r ≡ rankIn (indexIn (now (index .entry))) u ⌝ }
 {
     let w = l.width;
+    let n = l.n;
     let k = l.k;
     let d = l.d;
     let names = parts::names(index, l);
     let groups = parts::groups(index, l);
     let labels = parts::labels(index, l);
     let triples = parts::triples(labels, w, k, d, 0);
-    let p = place_of(groups, w, k, num(names, w, u));
+    let p = place_of(groups, w, n, k, num(names, w, u));
     num(triples, w, 3 * p + 2)
 }
 

@@ -14,8 +14,10 @@ use lib.Arith.{lt-of-le-ne}
 use lib.Seq.{ext-getD}
 use Rattle.lineage.specs.Lists.{part}
 use Rattle.lineage.specs.Numbers.{leAt, numAt, numbers, leBytes}
-use Rattle.laws.proofs.Rising.{Rises, those-short}
-use Rattle.laws.proofs.Halving.{countBelow, Side, sides}
+use Rattle.laws.specs.Rising.{Rises}
+use Rattle.laws.proofs.Rising.{those-short}
+use Rattle.laws.specs.Rising.{countBelow}
+use Rattle.laws.proofs.Halving.{Side, sides}
 use Rattle.laws.proofs.Lists.{table-long, table-at}
 use Rattle.laws.proofs.Parts.{part-length, part-at}
 use Rattle.numbers.specs.Put.{put}

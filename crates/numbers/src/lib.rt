@@ -4,8 +4,8 @@ ghost use Prim.Native.Nat.{_+_, _*_, _%_, _^_, _≤_, _<_};
 ghost use lib.ListN.{length, replicate};
 ghost use Rattle.lineage.specs.Lists.{part, cleared};
 ghost use Rattle.lineage.specs.Numbers.{Width, leAt, numAt, numbers, leBytes, written};
-ghost use Rattle.laws.proofs.Rising.{Rises};
-ghost use Rattle.laws.proofs.Halving.{countBelow};
+ghost use Rattle.laws.specs.Rising.{Rises};
+ghost use Rattle.laws.specs.Rising.{countBelow};
 ghost use Rattle.numbers.specs.Put.{put};
 ghost use Rattle.numbers.specs.Regions.{Kept, Part};
 
@@ -63,24 +63,25 @@ pub fn numbers_from(s: &[u8], w: usize, from: usize, count: usize) -> &[u8]
     &s[start..end]
 }
 
-// How many of k rising numbers are below x, found by halves: where x stands among them, or would stand.
-pub fn count_below(s: &[u8], w: usize, k: usize, x: usize) -> usize
+// How many of the first k numbers of a rising stretch are below x, where that is from `low` to `high`: found by halves.
+pub fn count_below(s: &[u8], w: usize, k: usize, x: usize, low: usize, high: usize) -> usize
     requires { ⌜ Width w ⌝ }
     requires { ⌜ w * k ≤ length (now s) ⌝ }
     requires { ⌜ Rises (numbers w (now s) k) ⌝ }
+    requires { ⌜ (low ≤ countBelow x (numbers w (now s) k)) × ((countBelow x (numbers w (now s) k) ≤ high) × (high ≤ k)) ⌝ }
     ensures { λ r. ⌜ r ≡ countBelow x (numbers w (now (s .entry)) k) ⌝ }
 {
-    let mut low = 0;
-    let mut high = k;
-    while low < high {
-        let half = low + (high - low) / 2;
+    let mut from = low;
+    let mut to = high;
+    while from < to {
+        let half = from + (to - from) / 2;
         if num(s, w, half) < x {
-            low = half + 1;
+            from = half + 1;
         } else {
-            high = half;
+            to = half;
         }
     }
-    low
+    from
 }
 
 // Writes v, its lowest w bytes, from position p on.

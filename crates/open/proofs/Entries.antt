@@ -12,7 +12,8 @@ use Rattle.lineage.specs.Lists.{upto, among, those, position, joined}
 use Rattle.lineage.specs.Graph.{Graph, someEdge, groupList, isChild, childrenOf}
 use Rattle.laws.proofs.Tests.{and-right, clash, is-false}
 use Rattle.laws.proofs.Lists.{here, there, those-append, those-yes, those-no, those-none, upto-low}
-use Rattle.laws.proofs.Rising.{Distinct, position-getD, rises-distinct, rises-those, rises-upto, those-le}
+use Rattle.laws.specs.Rising.{Distinct}
+use Rattle.laws.proofs.Rising.{position-getD, rises-distinct, rises-those, rises-upto, those-le}
 
 -- how many pass one test or another
 those-or : (p q : ℕ → Bool) (xs : List ℕ) → length (those (λ x. p x || q x) xs) ≤ length (those p xs) + length (those q xs)

@@ -10,8 +10,8 @@ use Rattle.lineage.specs.Graph.{placeOf}
 use Rattle.lineage.specs.Numbers.{numAt, numbers}
 use Rattle.lineage.specs.Question.{placeIn}
 use Rattle.laws.specs.Sound.{SoundGroups}
-use Rattle.laws.proofs.Rising.{Rises}
-use Rattle.laws.proofs.Grouped.{groups-rise, name-group, place-low}
+use Rattle.laws.specs.Rising.{Rises}
+use Rattle.laws.proofs.Grouped.{listed-name, groups-rise, name-group, place-low}
 use Rattle.laws.proofs.Decides.{sound-decides}
 use Rattle.numbers.proofs.Numbers.{numbers-long, numbers-at}
 use Rattle.stored.specs.declared.header.Layout.{Layout}
@@ -36,6 +36,10 @@ module _ {l : Layout} {names groups levels starts children labels : List ℕ} (S
   -- the group list rises
   pub list-rises : Rises (numbers w groups k)
   list-rises = rw (lent-sound .groups-are) (groups-rise (numbers w names n))
+
+  -- and names vertices
+  pub list-low : (y : ℕ) → among y (numbers w groups k) ≡ true → y < n
+  list-low y i = omega (arith, listed-name (numbers w names n) y (rw (lent-sound .groups-are) at i) .0, numbers-long w names n)
 
   -- the group of vertex u, whose name was read
   module _ {u name : ℕ} (h : u < n) (named : name ≡ numAt w names u) where

@@ -10,8 +10,10 @@ use lib.ListN.{length, getD}
 use Rattle.lineage.specs.Lists.{among, part}
 use Rattle.lineage.specs.Numbers.{numAt, numbers}
 use Rattle.lineage.specs.Sound.{childOf}
-use Rattle.laws.proofs.Rising.{Rises, next-rises}
-use Rattle.laws.proofs.Halving.{countBelow, found-none, found-at}
+use Rattle.laws.specs.Rising.{Rises}
+use Rattle.laws.proofs.Rising.{next-rises}
+use Rattle.laws.specs.Rising.{countBelow}
+use Rattle.laws.proofs.Halving.{found-none, found-at}
 use Rattle.numbers.specs.Regions.{Part}
 use Rattle.numbers.proofs.Numbers.{numbers-long, numbers-at, numbers-part}
 use Rattle.stored.specs.Sections.{childrenIn}

@@ -217,7 +217,7 @@ fn child_in(
     let from = row.from;
     let len = row.len;
     let entries = numbers_from(children, w, from, len);
-    let at = count_below(entries, w, len, q);
+    let at = count_below(entries, w, len, q, 0, len);
     if len <= at {
         return false;
     }

@@ -11,8 +11,10 @@ use Rattle.lineage.specs.Lists.{among, upto, position, least}
 use Rattle.lineage.specs.Labels.{Forest, done, visit, finished, subtree, labelsBy}
 use Rattle.laws.proofs.Tests.{or-left}
 use Rattle.laws.proofs.Lists.{among-append, in-getD, table-at, position-low, position-left, position-past}
-use Rattle.laws.proofs.Rising.{Distinct, distinct-left, distinct-right, distinct-apart, position-getD}
-use Rattle.laws.proofs.Ranks.{before, m-made}
+use Rattle.laws.specs.Rising.{Distinct}
+use Rattle.laws.proofs.Rising.{distinct-left, distinct-right, distinct-apart, position-getD}
+use Rattle.laws.specs.Visits.{before}
+use Rattle.laws.proofs.Ranks.{m-made}
 use Rattle.traversal.specs.Lows.{lows}
 
 lows-long : (b : ℕ) (f : Forest) → length (lows b f) ≡ length (finished f)

@@ -1,6 +1,6 @@
 -- `sound_labels::child_in` meets its contract: the group's children rise, and q is one of them where it stands behind those below it.
 use native.Mathlib.Omega.{arith}
-use Rattle.numbers.proofs.Numbers.{room}
+use Rattle.numbers.proofs.Numbers.{room, count-most}
 use Rattle.sound_labels.proofs.Search.{row-fits, row-rises, child-none, child-at}
 use Rattle.sound_labels.proofs.child_in.Statement.{statement}
 use Rattle.sound_labels.proofs.child_in.Tie as tie
@@ -18,8 +18,16 @@ numbers-from-requires c κs = let s = start c in (s .pre .0 .entries .held .widt
 count-below-requires : tie.Need-count-below-requires
 count-below-requires c κs =
     let r = c .before in
-    let s = start r in
-    (s .pre .0 .entries .held .width, (omega (arith, c .numbers-from .ensures .long), row-rises (s .pre .0) (r .row-span .ensures) (c .numbers-from .ensures)))
+    let s = start r in (
+      s .pre .0 .entries .held .width,
+      (
+        omega (arith, c .numbers-from .ensures .long),
+        (
+          row-rises (s .pre .0) (r .row-span .ensures) (c .numbers-from .ensures),
+          (omega arith, (count-most _ _ _ _, omega arith)),
+        ),
+      ),
+    )
 
 returns : tie.Need-returns
 returns c =

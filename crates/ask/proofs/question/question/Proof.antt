@@ -3,7 +3,7 @@ use native.Mathlib.Omega.{arith}
 use mathlib.Core.Path.{_∙_}
 use borrow.Author.Needs.{needs}
 use Rattle.numbers.proofs.Numbers.{room}
-use Rattle.places.proofs.Vertices.{list-rises, name-listed, vertex-low, vertex-placed}
+use Rattle.places.proofs.Vertices.{list-rises, list-low, name-listed, vertex-low, vertex-placed}
 use Rattle.ask.proofs.Soundness.{fit-marks, none-marked, marks-few, question-is}
 use Rattle.ask.proofs.question.question.Statement.{statement}
 use Rattle.ask.proofs.question.question.Tie as tie
@@ -21,7 +21,7 @@ place-of-requires : tie.Need-place-of-requires
 place-of-requires c κs =
     let s = entry (c .before) in
     let S = s .pre .0 in
-    (S .width, (omega (arith, S .groups-long), (list-rises S, name-listed S (s .pre .1 .0) (c .num .ensures .0))))
+    (S .width, ((omega (arith, S .groups-long), S .groups-few), (list-rises S, (list-low S, name-listed S (s .pre .1 .0) (c .num .ensures .0)))))
 
 num-requires-2 : tie.Need-num-requires-2
 num-requires-2 c κs =
@@ -33,7 +33,7 @@ place-of-requires-2 : tie.Need-place-of-requires-2
 place-of-requires-2 c κs =
     let s = entry (c .before .before .before) in
     let S = s .pre .0 in
-    (S .width, (omega (arith, S .groups-long), (list-rises S, name-listed S (s .pre .1 .1 .0) (c .num2 .ensures .0))))
+    (S .width, ((omega (arith, S .groups-long), S .groups-few), (list-rises S, (list-low S, name-listed S (s .pre .1 .1 .0) (c .num2 .ensures .0)))))
 
 decide-requires : tie.Need-decide-requires
 decide-requires c κs =

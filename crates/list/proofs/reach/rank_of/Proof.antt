@@ -3,7 +3,7 @@ use Prim.Native.Nat.{_<_}
 use native.Mathlib.Omega.{arith}
 use borrow.Author.Needs.{needs}
 use Rattle.numbers.proofs.Numbers.{room}
-use Rattle.places.proofs.Vertices.{list-rises, name-listed, vertex-low, vertex-placed}
+use Rattle.places.proofs.Vertices.{list-rises, list-low, name-listed, vertex-low, vertex-placed}
 use Rattle.places.proofs.Lent.{Six, lent}
 use Rattle.list.proofs.Contents.{stretchOf, with-names}
 use Rattle.list.proofs.Fitted.{rank-read, rank-is}
@@ -39,7 +39,7 @@ place-of-requires : tie.Need-place-of-requires
 place-of-requires c κs =
     let t = c .before in
     let S = lent (entry t .pre .0 .laid) (given t) (entry t .pre .0 .contents) in
-    (S .width, (omega (arith, S .groups-long), (list-rises S, name-listed S (entry t .pre .1) (c .num .ensures .0))))
+    (S .width, ((omega (arith, S .groups-long), S .groups-few), (list-rises S, (list-low S, name-listed S (entry t .pre .1) (c .num .ensures .0)))))
 
 -- the place that was found
 place-low : (c : tie.After-place-of) → c .place-of .result < entry (c .before .before) .args .l .k
