@@ -1,5 +1,5 @@
--- What open and ask give fits the host's 32-bit numbers. A byte is below 256, so each number of a header is below 2 ^ 32; every extra number and every count is 0,
--- 1 or a number of the header.
+-- What open and ask give fits 32-bit numbers, which the C face and the text program's printer take. A byte is below 256, so each number of a header is below
+-- 2 ^ 32; every extra number and every count is 0, 1 or a number of the header.
 use mathlib.Core.Bool.{Bool, true, false}
 use mathlib.Core.Path.{_≡_, sym, subst}
 use mathlib.Core.List.{List, [], _∷_, _++_}

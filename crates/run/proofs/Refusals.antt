@@ -18,7 +18,7 @@ use Rattle.lineage.specs.Stored.{form1, mostLabellings, Counts, countsOf, encod
 use Rattle.lineage.specs.Calls.{Check, check, Outcome, answered, refuse, outcome, Input, orderAt, ordersOf, badEdge, badOrder, workNeeded, built, lengthOf, buildAnswer, buildOutput, buildWork, indexIn, formChecks, contentsCheck, openAnswer, Said, saidOf, askAnswer}
 use Rattle.laws.proofs.Names.{names-long}
 use Rattle.laws.proofs.Sound.{made-sound}
-use Rattle.numbers.proofs.Tables.{table-long}
+use Rattle.laws.proofs.Lists.{table-long}
 use Rattle.orders.proofs.Permutations.{orders-of}
 use Rattle.stored.proofs.Checks.{passed-first}
 use Rattle.stored.proofs.Offsets.{total-at-2}
