@@ -224,12 +224,13 @@ static void asks(Where w, Cases &cases) {
     };
     w.measure = "ask";
     measure(w, cases.size(), {{"ours", each(cases, ours)}, {"check", each(cases, check)}});
-    for (const Case &c : cases)
+    for (Case &c : cases)
         for (int i = 0; i < 20; i++) {
             auto [u, v] = pair(c);
             alone.assign(w.n, 0);
             drobisten_asked a = ask(c, marks, u, v), b = ask_alone(c, alone, u, v);
             must(a.refusal == 0 && !memcmp(&a, &b, sizeof a) && marks == alone, "a question alone gets another answer than with the check");
+            must(c.grail.reaches(u, v) == (a.yes == 1), "GRAIL answers otherwise");
         }
 }
 

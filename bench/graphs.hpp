@@ -1,5 +1,5 @@
 // The graphs that are measured: five kinds, at any size, the same ones for the same seed on every machine. Vertices are numbered at random, so that no number tells
-// where a vertex stands; but for the line, each kind has about four edges a vertex, and so 16,384 at 4,096 vertices, the most that a build takes.
+// where a vertex stands. But for the tree and the line there are four edges a vertex, and so at 4,096 vertices 16,384, the most that a build takes.
 #pragma once
 #include <algorithm>
 #include <cmath>
