@@ -16,10 +16,10 @@ use Rattle.numbers.proofs.Numbers.{numbers-long, numbers-at}
 use Rattle.stored.specs.declared.header.Layout.{Layout}
 use Rattle.stored.specs.Sections.{childrenIn, indexFrom, indexAt}
 use Rattle.stored.proofs.Sections.{children-long, starts-rise, starts-within, row-long, row-at}
-use Rattle.ask.specs.Fit.{count, groupsIn, Fit}
+use Rattle.walk.specs.Fit.{count, groupsIn, Fit}
 use Rattle.places.specs.Lent.{Lent}
 use Rattle.places.proofs.Vertices.{lent-sound}
-use Rattle.ask.proofs.Rows.{count-is}
+use Rattle.walk.proofs.Rows.{count-is}
 
 module _ {l : Layout} {names groups levels starts children labels : List ℕ} (S : Lent l names groups levels starts children labels) where
   abbrev w : ℕ

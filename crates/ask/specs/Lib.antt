@@ -1,5 +1,3 @@
--- What the contracts inside this crate say of the stored sections.
-pub mod Intervals
-pub mod Fit
+-- What the contracts of this crate say of answers and replies.
 pub mod Replies
 pub mod Asked

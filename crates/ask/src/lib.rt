@@ -5,9 +5,7 @@ ghost use Rattle.lineage.specs.Calls.{askAnswer, askMarks};
 ghost use Rattle.stored.specs.Header.{Laid};
 ghost use Rattle.ask.specs.Asked.{askedOf, lateAnswer, lateMarks};
 
-pub mod intervals;
 pub mod question;
-pub mod walk;
 
 use stored::header;
 use stored::header::Header;

@@ -7,12 +7,10 @@ ghost use Rattle.lineage.specs.Numbers.{numAt};
 ghost use Rattle.lineage.specs.Question.{between, answer};
 ghost use Rattle.stored.specs.Sections.{indexAt};
 ghost use Rattle.places.specs.Lent.{Lent};
-ghost use Rattle.ask.specs.Fit.{groupsIn, Fit};
+ghost use Rattle.walk.specs.Fit.{groupsIn, Fit};
 ghost use Rattle.ask.specs.Replies.{answerBy};
-use crate::intervals;
-use crate::walk;
-use crate::walk::Seen;
 use stored::header::Layout;
+use walk::Seen;
 
 // Yes or no, the reason, the number of the labelling that decided (0 where none did), and the number of groups opened.
 pub struct Reply {
