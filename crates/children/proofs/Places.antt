@@ -18,7 +18,7 @@ use Rattle.laws.proofs.TwoPasses.{edge-rows}
 use Rattle.laws.proofs.Laid.{below-in}
 use Rattle.rows.specs.Rows.{mapped, turnedRow, strippedRow}
 use Rattle.rows.proofs.Pairs.{mapped-low}
-use Rattle.rows.proofs.Singles.{stripped-turned}
+use Rattle.stripping.proofs.Singles.{stripped-turned}
 use Rattle.children.specs.Places.{childPlaces, parentPlaces}
 use Rattle.children.proofs.Rows.{turned-those}
 

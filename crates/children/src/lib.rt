@@ -23,8 +23,8 @@ pub fn children(
     let children = starts + k + 1;
     rows::count_up(w, sequence, k);
     rows::rows(targets, sources, w, place, n, k, starts);
-    rows::turn(w, starts, children, e, k, sequence, base);
-    let c = rows::strip(w, base, parents, e, k, starts);
-    rows::turn(w, starts, children, c, k, sequence, base);
+    turning::turn(w, starts, children, e, k, sequence, base);
+    let c = stripping::strip(w, base, parents, e, k, starts);
+    turning::turn(w, starts, children, c, k, sequence, base);
     c
 }

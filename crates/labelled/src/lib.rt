@@ -28,7 +28,7 @@ fn order_rows(
     let roots = base + n;
     orders::ranked(orders, at, n, w, names, place, base);
     let q = orders::roots(w, parents, k, base, roots);
-    rows::turn(w, parents, parents + k + 1, c, k, base, roots + k);
+    turning::turn(w, parents, parents + k + 1, c, k, base, roots + k);
     q
 }
 
