@@ -27,8 +27,9 @@ use Rattle.stored.proofs.Sections.{children-long, e-at, labels-long}
 use Rattle.sound_groups.specs.Fit.{Holds}
 use Rattle.places.specs.Lent.{Lent}
 use Rattle.places.proofs.Lent.{Six, index-at, lent}
-use Rattle.list.specs.Fit.{Spots, Ranked, Names, SoundBytes}
-use Rattle.list.specs.Sweep.{swept}
+use Rattle.sweep.specs.Fit.{Spots, Ranked}
+use Rattle.list.specs.Fit.{Names, SoundBytes}
+use Rattle.sweep.specs.Sweep.{swept}
 use Rattle.list.specs.Marks.{firstLabels, rankIn, sweptIn, startMarks, reachMarks}
 use Rattle.list.proofs.Downstream.{first-sound}
 

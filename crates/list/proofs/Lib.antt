@@ -1,6 +1,4 @@
--- The sweep, and the vertices that it lists.
-pub mod Turn
-pub mod Swept
+-- The vertices that are listed.
 pub mod Downstream
 -- The stored bytes: their sections, their refusals, their list.
 pub mod Contents
@@ -8,7 +6,5 @@ pub mod Fitted
 pub mod Refusals
 pub mod Found
 pub mod Theorems
--- The loops.
-pub mod Marking
-pub mod Sweeping
+-- The loops that count and write.
 pub mod Writing

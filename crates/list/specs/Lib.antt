@@ -1,5 +1,4 @@
 -- What the contracts inside this crate say of marks, vertices and the lent sections.
-pub mod Sweep
 pub mod Listing
 pub mod Marks
 pub mod Fit

@@ -9,7 +9,6 @@ ghost use Rattle.list.specs.Listed.{listedOf, Allowed, Passes};
 
 pub mod listing;
 pub mod reach;
-pub mod sweep;
 
 use numbers::clear_marks;
 use open::contents_sound;

@@ -6,7 +6,6 @@ ghost use Rattle.lineage.specs.Lists.{cleared};
 ghost use Rattle.lineage.specs.Calls.{indexIn};
 ghost use Rattle.list.specs.Fit.{SoundBytes};
 ghost use Rattle.list.specs.Marks.{rankIn, sweptIn, reachMarks};
-use crate::sweep;
 use numbers::num;
 use places::place_of;
 use stored::header::Layout;

@@ -5,8 +5,8 @@ use Prim.Native.Nat.{ℕ, suc, _≤_}
 use native.Mathlib.Omega.{arith}
 use lib.ListN.{length, getD}
 use borrow.Author.Tests.{eq-eqb, ne-eqb}
-use Rattle.list.specs.Sweep.{rowMarked, turn, swept}
-use Rattle.list.proofs.Turn.{turn-marked, turn-passed}
+use Rattle.sweep.specs.Sweep.{rowMarked, turn, swept}
+use Rattle.sweep.proofs.Turn.{turn-marked, turn-passed}
 
 -- the ranks from `rank` down to 1 are left
 pub record Sweeping (groups : List ℕ) (children : List (List ℕ)) (places : List ℕ) (top rank : ℕ) (before marks : List ℕ) : Type 0 where

@@ -6,8 +6,8 @@ ghost use Prim.Native.Nat.{_≤_, _<_};
 ghost use lib.ListN.{length, getD};
 ghost use Rattle.lineage.specs.Numbers.{numbers};
 ghost use Rattle.stored.specs.Sections.{childrenIn};
-ghost use Rattle.list.specs.Sweep.{rowMarked, swept};
-ghost use Rattle.list.specs.Fit.{Spots, Ranked};
+ghost use Rattle.sweep.specs.Sweep.{rowMarked, swept};
+ghost use Rattle.sweep.specs.Fit.{Spots, Ranked};
 use numbers::num;
 use sound_groups::row_span;
 

@@ -6,7 +6,7 @@ use native.Mathlib.Omega.{arith}
 use lib.ListN.{length, getD, set, length-map}
 use Rattle.laws.proofs.Lists.{getD-mapped}
 use Rattle.numbers.proofs.Marks.{Marking, marking-more, marking-all}
-use Rattle.list.specs.Sweep.{rowMarked}
+use Rattle.sweep.specs.Sweep.{rowMarked}
 
 -- i of the row are marked
 abbrev pub RowMarking : (groups row : List ℕ) → ℕ → (before marks : List ℕ) → Type 0

@@ -1,4 +1,4 @@
--- `list::sweep::mark_children` meets its contract. The invariant: marking the children from i on comes to marking the whole row.
+-- `sweep::mark_children` meets its contract. The invariant: marking the children from i on comes to marking the whole row.
 use mathlib.Core.List.{List, []}
 use Prim.Native.Nat.{ℕ, _-_, _<_}
 use native.Mathlib.Omega.{arith}
@@ -8,9 +8,9 @@ use Rattle.stored.specs.Sections.{childrenIn}
 use Rattle.sound_groups.proofs.Read.{can-read, was-read}
 use Rattle.sound_groups.proofs.Row.{can-read-child, row-has, child-was, child-low}
 use Rattle.numbers.proofs.Marks.{marking-none}
-use Rattle.list.proofs.Marking.{RowMarking, row-more, row-all}
-use Rattle.list.proofs.sweep.mark_children.Statement.{statement}
-use Rattle.list.proofs.sweep.mark_children.Tie as tie
+use Rattle.sweep.proofs.Marking.{RowMarking, row-more, row-all}
+use Rattle.sweep.proofs.mark_children.Statement.{statement}
+use Rattle.sweep.proofs.mark_children.Tie as tie
 
 abbrev Inv-loop : tie.InvT-loop
 Inv-loop groups starts children marks₀ w k c p from len i₀ marks i =

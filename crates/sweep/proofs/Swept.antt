@@ -16,8 +16,8 @@ use Rattle.laws.specs.Leads.{stay, step, Down}
 use Rattle.laws.specs.Sound.{SoundLabelling, SoundGroups}
 use Rattle.laws.proofs.Grouped.{child-in, group-name, place-one}
 use Rattle.laws.proofs.Inverse.{e-some, at-e}
-use Rattle.list.specs.Sweep.{marked, turn, swept, Reached}
-use Rattle.list.proofs.Turn.{turn-long, turn-past, turn-keeps, turn-gives, turn-from}
+use Rattle.sweep.specs.Sweep.{marked, turn, swept, Reached}
+use Rattle.sweep.proofs.Turn.{turn-long, turn-past, turn-keeps, turn-gives, turn-from}
 
 -- the marks are as many as before
 pub swept-long :

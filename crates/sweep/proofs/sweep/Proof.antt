@@ -1,12 +1,12 @@
--- `list::sweep::sweep` meets its contract. The invariant: sweeping the ranks that are left comes to the whole sweep.
+-- `sweep::sweep` meets its contract. The invariant: sweeping the ranks that are left comes to the whole sweep.
 use Prim.Native.Nat.{_+_, _-_, _≤_, _<_}
 use native.Mathlib.Omega.{arith}
 use Rattle.lineage.specs.Numbers.{numbers}
 use Rattle.stored.specs.Sections.{childrenIn}
 use Rattle.sound_groups.proofs.Read.{can-read, was-read}
-use Rattle.list.proofs.Sweeping.{Sweeping, sweeping-none, sweeping-marked, sweeping-passed, sweeping-all}
-use Rattle.list.proofs.sweep.sweep.Statement.{statement}
-use Rattle.list.proofs.sweep.sweep.Tie as tie
+use Rattle.sweep.proofs.Sweeping.{Sweeping, sweeping-none, sweeping-marked, sweeping-passed, sweeping-all}
+use Rattle.sweep.proofs.sweep.Statement.{statement}
+use Rattle.sweep.proofs.sweep.Tie as tie
 
 abbrev Inv-loop : tie.InvT-loop
 Inv-loop groups starts children places marks₀ w k c top done₀ marks done =

@@ -12,7 +12,7 @@ use Rattle.lineage.specs.Lists.{among}
 use Rattle.lineage.specs.Sound.{childOf}
 use Rattle.laws.proofs.Lists.{in-map, of-map}
 use Rattle.numbers.proofs.Marks.{marks-long, marks-past, marks-keep, marks-give, marks-from}
-use Rattle.list.specs.Sweep.{marked, rowMarked, turn}
+use Rattle.sweep.specs.Sweep.{marked, rowMarked, turn}
 
 -- a row: the names of its groups are marked
 module _ (groups : List ℕ) where
