@@ -10,8 +10,8 @@ use lib.Seq.{drop-cons}
 use Rattle.lineage.specs.Calls.{Outcome, Said, askAnswer}
 use Rattle.text.specs.Text.{mostVertices}
 use Rattle.text.specs.Output.{questionLine, answersTo}
-use Rattle.text.specs.Printer.{Put}
-use Rattle.text.proofs.Putting.{line-short, put-put, put-same, word-begins}
+use Rattle.printing.specs.Printer.{Put}
+use Rattle.printing.proofs.Putting.{line-short, put-put, put-same, word-begins}
 
 -- from number i on nothing is asked yet; what is put takes at most 27 bytes for each number passed
 pub record Answering (index asked entry : List ℕ) (i at : ℕ) (out : List ℕ) : Type 0 where

@@ -7,12 +7,12 @@ use native.Mathlib.Omega.{arith}
 use lib.ListN.{length, drop}
 use borrow.Author.Tests.{lt-ltb, le-ltb}
 use Rattle.lineage.specs.Stored.{mostLabellings}
-use Rattle.text.specs.Lines.{bytes}
+use Rattle.lines.specs.Lines.{bytes}
 use Rattle.text.specs.Text.{mostBytes, mostVertices}
-use Rattle.text.specs.declared.read.Reading.{Reading as ReadingRead}
+use Rattle.text.specs.declared.Reading.{Reading as ReadingRead}
 use Rattle.text.specs.Blocks.{readingOf, TextInto}
 use Rattle.text.specs.Output.{refusal, afterReading, output}
-use Rattle.text.specs.Printer.{placed, Put}
+use Rattle.printing.specs.Printer.{placed, Put}
 
 -- looked at before any line
 pub many-bytes : (text : List ℕ) → mostBytes < length text → refusal 17 0 ++ bytes "\n" ≡ output text

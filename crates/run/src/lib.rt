@@ -4,10 +4,10 @@ ghost use mathlib.Core.List.{_++_};
 ghost use Prim.Native.Nat.{_+_, _*_, _≤_};
 ghost use lib.ListN.{length, drop};
 ghost use Rattle.lineage.specs.Calls.{askAnswer};
-ghost use Rattle.text.specs.Lines.{bytes};
+ghost use Rattle.lines.specs.Lines.{bytes};
 ghost use Rattle.text.specs.Text.{mostVertices, says};
 ghost use Rattle.text.specs.Output.{refusal, told, questionLine, answersTo, afterReading, output};
-ghost use Rattle.text.specs.Printer.{Put};
+ghost use Rattle.printing.specs.Printer.{Put};
 use ask::Asked;
 use build::Built;
 use text::MOST_BYTES;
@@ -15,9 +15,7 @@ use text::MOST_EDGES;
 use text::MOST_ORDERS;
 use text::MOST_QUESTIONS;
 use text::MOST_VERTICES;
-use text::print;
-use text::read;
-use text::read::Reading;
+use text::Reading;
 
 // The most bytes of output: 54 for the line of each question.
 pub const MOST_OUTPUT: usize = 54 * MOST_QUESTIONS;
@@ -36,8 +34,8 @@ fn put_refused(out: &mut [u8], number: u32, extra: u32) -> usize
     requires { ⌜ 30 ≤ length (now out) ⌝ }
     ensures { λ r. ⌜ Put (now (out .entry)) 0 (refusal number extra ++ bytes "\n") r (now (out .exit)) ⌝ }
 {
-    let a = print::put_refusal(out, 0, number, extra);
-    print::put_byte(out, a, b'\n')
+    let a = printing::put_refusal(out, 0, number, extra);
+    printing::put_byte(out, a, b'\n')
 }
 
 // Asks a question, and puts what it is told: the answer, or the refusal.
@@ -51,8 +49,8 @@ fn put_told(out: &mut [u8], at: usize, index: &[u8], source: u32, target: u32) -
             says,
             reason,
             opened,
-        } => print::put_said(out, at, says, reason, opened),
-        Asked::Refused { number, extra } => print::put_refusal(
+        } => printing::put_said(out, at, says, reason, opened),
+        Asked::Refused { number, extra } => printing::put_refusal(
             out,
             at,
             number as u32,
@@ -66,9 +64,9 @@ fn put_answer(out: &mut [u8], at: usize, index: &[u8], source: u32, target: u32)
     requires { ⌜ at + 54 ≤ length (now out) ⌝ }
     ensures { λ r. ⌜ Put (now (out .entry)) at (questionLine source target (askAnswer (now (index .entry)) source target mostVertices)) r (now (out .exit)) ⌝ }
 {
-    let a = print::put_question(out, at, source, target);
+    let a = printing::put_question(out, at, source, target);
     let b = put_told(out, a, index, source, target);
-    print::put_byte(out, b, b'\n')
+    printing::put_byte(out, b, b'\n')
 }
 
 // One line per question.
@@ -118,7 +116,7 @@ pub fn run(text: &[u8], out: &mut [u8; MOST_OUTPUT]) -> usize
     let mut targets = [0u32; MOST_EDGES];
     let mut orders = [0u32; MOST_ORDERS * MOST_VERTICES];
     let mut asked = [0u32; 2 * (MOST_QUESTIONS + 1)];
-    match read::read_text(text, &mut sources, &mut targets, &mut orders, &mut asked) {
+    match text::read_text(text, &mut sources, &mut targets, &mut orders, &mut asked) {
         Reading::BadLine(line) => put_refused(out, 17, line as u32),
         Reading::Says {
             n,

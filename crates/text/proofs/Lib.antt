@@ -1,10 +1,5 @@
--- The laws of the text program's reader and printer.
-pub mod Bytes
-pub mod Decimals
-pub mod Words
+-- The laws of reading a text.
 pub mod Blocks
 pub mod Pairs
 pub mod Whole
-pub mod Putting
 pub mod Bounded
-pub mod Longest

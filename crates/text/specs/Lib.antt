@@ -1,8 +1,5 @@
--- The text program's input and output (document 01, "Text program").
-pub mod Lines
+-- What a text says, and the defined output (document 01, "Text program").
 pub mod Text
 pub mod Output
-pub mod Reader
 pub mod Blocks
-pub mod Printer
 pub mod Examples

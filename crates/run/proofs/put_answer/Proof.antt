@@ -5,7 +5,7 @@ use borrow.Author.Needs.{needs}
 use lib.ListN.{length}
 use Rattle.lineage.specs.Calls.{askAnswer}
 use Rattle.text.specs.Text.{mostVertices}
-use Rattle.text.proofs.Putting.{told-short, question-short, put-put}
+use Rattle.printing.proofs.Putting.{told-short, question-short, put-put}
 use Rattle.run.proofs.put_answer.Statement.{statement}
 use Rattle.run.proofs.put_answer.Tie as tie
 

@@ -8,7 +8,7 @@ use Rattle.build.specs.Answers.{builtOf}
 use Rattle.build.proofs.Theorems.{Allowed}
 use Rattle.text.specs.Text.{Text}
 use Rattle.text.specs.Output.{inputOf, afterBuild}
-use Rattle.text.proofs.Putting.{put-same}
+use Rattle.printing.proofs.Putting.{put-same}
 use Rattle.run.proofs.Finished.{stored-within, stored-answers}
 use Rattle.run.proofs.put_built.Statement.{statement}
 use Rattle.run.proofs.put_built.Tie as tie

@@ -1,7 +1,7 @@
 -- `run::put_refused` meets its contract: the refusal, and LF behind it.
 use native.Mathlib.Omega.{arith}
 use borrow.Author.Needs.{needs}
-use Rattle.text.proofs.Putting.{two-short, put-put}
+use Rattle.printing.proofs.Putting.{two-short, put-put}
 use Rattle.run.proofs.put_refused.Statement.{statement}
 use Rattle.run.proofs.put_refused.Tie as tie
 

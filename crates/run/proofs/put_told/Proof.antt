@@ -7,7 +7,7 @@ use lib.ListN.{getD}
 use Rattle.ask.specs.Asked.{askedOf}
 use Rattle.ask.proofs.Words.{Words, ask-refused}
 use Rattle.text.specs.Output.{told}
-use Rattle.text.proofs.Putting.{put-same}
+use Rattle.printing.proofs.Putting.{put-same}
 use Rattle.run.proofs.put_told.Statement.{statement}
 use Rattle.run.proofs.put_told.Tie as tie
 

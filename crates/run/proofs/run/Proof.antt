@@ -5,7 +5,7 @@ use native.Mathlib.Omega.{arith}
 use borrow.Author.Needs.{needs}
 use lib.ListN.{length}
 use lib.Seq.{length-take-le}
-use Rattle.text.specs.declared.read.Reading.the-variants.{Says, BadLine}
+use Rattle.text.specs.declared.Reading.the-variants.{Says, BadLine}
 use Rattle.text.specs.Text.{mostBytes}
 use Rattle.text.specs.Blocks.{Within}
 use Rattle.run.proofs.Whole.{many-bytes, read-prints, printed, orders-within}

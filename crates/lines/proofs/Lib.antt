@@ -1,0 +1,4 @@
+-- The laws of the line reader.
+pub mod Bytes
+pub mod Decimals
+pub mod Words

@@ -1,0 +1,3 @@
+-- The laws of the printer, and how long the output is at most.
+pub mod Putting
+pub mod Longest

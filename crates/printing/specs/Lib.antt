@@ -1,0 +1,2 @@
+-- What the printer leaves in a lent buffer.
+pub mod Printer
