@@ -1,5 +1,4 @@
 -- The laws of the whole run.
-pub mod Answering
 pub mod Finished
 pub mod Whole
 pub mod Refusals

@@ -3,12 +3,10 @@ ghost use mathlib.Core.Path.{_≡_};
 ghost use mathlib.Core.List.{_++_};
 ghost use Prim.Native.Nat.{_+_, _*_, _≤_};
 ghost use lib.ListN.{length, drop};
-ghost use Rattle.lineage.specs.Calls.{askAnswer};
 ghost use Rattle.lines.specs.Lines.{bytes};
-ghost use Rattle.text.specs.Text.{mostVertices, says};
-ghost use Rattle.text.specs.Output.{refusal, told, questionLine, answersTo, afterReading, output};
+ghost use Rattle.text.specs.Text.{says};
+ghost use Rattle.text.specs.Output.{refusal, afterReading, output};
 ghost use Rattle.printing.specs.Printer.{Put};
-use ask::Asked;
 use build::Built;
 use text::MOST_BYTES;
 use text::MOST_EDGES;
@@ -38,51 +36,6 @@ fn put_refused(out: &mut [u8], number: u32, extra: u32) -> usize
     printing::put_byte(out, a, b'\n')
 }
 
-// Asks a question, and puts what it is told: the answer, or the refusal.
-fn put_told(out: &mut [u8], at: usize, index: &[u8], source: u32, target: u32) -> usize
-    requires { ⌜ at + 29 ≤ length (now out) ⌝ }
-    ensures { λ r. ⌜ Put (now (out .entry)) at (told (askAnswer (now (index .entry)) source target mostVertices)) r (now (out .exit)) ⌝ }
-{
-    let mut marks = [0u8; MOST_VERTICES];
-    match ask::ask(index, source, target, &mut marks) {
-        Asked::Answer {
-            says,
-            reason,
-            opened,
-        } => printing::put_said(out, at, says, reason, opened),
-        Asked::Refused { number, extra } => printing::put_refusal(
-            out,
-            at,
-            number as u32,
-            extra as u32,
-        ),
-    }
-}
-
-// The line of one question.
-fn put_answer(out: &mut [u8], at: usize, index: &[u8], source: u32, target: u32) -> usize
-    requires { ⌜ at + 54 ≤ length (now out) ⌝ }
-    ensures { λ r. ⌜ Put (now (out .entry)) at (questionLine source target (askAnswer (now (index .entry)) source target mostVertices)) r (now (out .exit)) ⌝ }
-{
-    let a = printing::put_question(out, at, source, target);
-    let b = put_told(out, a, index, source, target);
-    printing::put_byte(out, b, b'\n')
-}
-
-// One line per question.
-fn put_answers(out: &mut [u8], index: &[u8], asked: &[u32]) -> usize
-    requires { ⌜ 27 * length (now asked) ≤ length (now out) ⌝ }
-    ensures { λ r. ⌜ Put (now (out .entry)) 0 (answersTo (now (index .entry)) (now (asked .entry))) r (now (out .exit)) ⌝ }
-{
-    let mut i = 0;
-    let mut at = 0;
-    while i + 1 < asked.len() {
-        at = put_answer(out, at, index, asked[i], asked[i + 1]);
-        i += 2;
-    }
-    at
-}
-
 // Builds what a good text says, and asks its questions.
 fn put_built(
     out: &mut [u8],
@@ -100,7 +53,7 @@ fn put_built(
     let mut index = [0u8; INDEX];
     match build::build(n, sources, targets, orders, d, &mut work, &mut index) {
         Built::Refused { number, extra } => put_refused(out, number, extra),
-        Built::Total(total) => put_answers(out, &index[..total as usize], asked),
+        Built::Total(total) => answering::put_answers(out, &index[..total as usize], asked),
     }
 }
 

@@ -1,4 +1,4 @@
--- `run::put_answer` meets its contract: the question, what it is told, and LF, one put behind the other.
+-- `answering::put_answer` meets its contract: the question, what it is told, and LF, one put behind the other.
 use Prim.Native.Nat.{_+_, _≤_}
 use native.Mathlib.Omega.{arith}
 use borrow.Author.Needs.{needs}
@@ -6,8 +6,8 @@ use lib.ListN.{length}
 use Rattle.lineage.specs.Calls.{askAnswer}
 use Rattle.text.specs.Text.{mostVertices}
 use Rattle.printing.proofs.Putting.{told-short, question-short, put-put}
-use Rattle.run.proofs.put_answer.Statement.{statement}
-use Rattle.run.proofs.put_answer.Tie as tie
+use Rattle.answering.proofs.put_answer.Statement.{statement}
+use Rattle.answering.proofs.put_answer.Tie as tie
 
 -- the function's start, from where the question was put
 abbrev start : tie.After-put-question → tie.Start

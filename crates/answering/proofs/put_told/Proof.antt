@@ -1,4 +1,4 @@
--- `run::put_told` meets its contract: what `ask` gives is put, an answer or a refusal, whose numbers are of 32 bits.
+-- `answering::put_told` meets its contract: what `ask` gives is put, an answer or a refusal, whose numbers are of 32 bits.
 use mathlib.Core.Path.{sym, ap, _∙_}
 use Prim.Native.Nat.{ℕ, _<_}
 use native.Mathlib.Omega.{arith}
@@ -8,8 +8,8 @@ use Rattle.ask.specs.Asked.{askedOf}
 use Rattle.ask.proofs.Words.{Words, ask-refused}
 use Rattle.text.specs.Output.{told}
 use Rattle.printing.proofs.Putting.{put-same}
-use Rattle.run.proofs.put_told.Statement.{statement}
-use Rattle.run.proofs.put_told.Tie as tie
+use Rattle.answering.proofs.put_told.Statement.{statement}
+use Rattle.answering.proofs.put_told.Tie as tie
 
 -- what is lent are bytes
 index-bytes : (a : tie.After-ask) (i : ℕ) → getD (a .before .before .before .before .args .index .now) i 0 < 256

@@ -1,10 +1,10 @@
--- `run::put_answers` meets its contract. The loop's invariant: the lines that are put, then those of the questions still to be asked, are all lines.
+-- `answering::put_answers` meets its contract. The loop's invariant: the lines that are put, then those of the questions still to be asked, are all lines.
 use Prim.Native.Nat.{_-_}
 use native.Mathlib.Omega.{arith}
 use lib.ListN.{length}
-use Rattle.run.proofs.Answering.{Answering, answering-begins, line-room, answering-turns, answering-ends}
-use Rattle.run.proofs.put_answers.Statement.{statement}
-use Rattle.run.proofs.put_answers.Tie as tie
+use Rattle.answering.proofs.Turns.{Answering, answering-begins, line-room, answering-turns, answering-ends}
+use Rattle.answering.proofs.put_answers.Statement.{statement}
+use Rattle.answering.proofs.put_answers.Tie as tie
 
 abbrev Inv-loop : tie.InvT-loop
 Inv-loop out₀ index asked i₀ at₀ out i at = Answering index asked out₀ i at out
