@@ -23,7 +23,7 @@ use Rattle.stored.specs.declared.header.Layout.{Layout}
 use Rattle.stored.proofs.Held.{labelling-within}
 use Rattle.stored.proofs.LabelNumbers.{numbers-of-long}
 use Rattle.writing.proofs.Behind.{blocksPut, blocks-none, blocks-more}
-use Rattle.build.specs.Memory.{childrenFrom, labelsFrom, labellingUnder, labellingBlock, GroupsStored, Ready, OrderLabelled}
+use Rattle.indexed.specs.Memory.{childrenFrom, labelsFrom, labellingUnder, labellingBlock, GroupsStored, Ready, OrderLabelled}
 
 -- j orders are gone through: their labellings are written, and the last of them is still there
 pub record Turns (l : Layout) (e : ℕ) (orders out₀ w₀ out w : List ℕ) (at j : ℕ) : Type 0 where

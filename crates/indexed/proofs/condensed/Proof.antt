@@ -1,8 +1,8 @@
--- `build::condensed` meets its contract: the children are laid out behind the places that the groups were found with.
+-- `indexed::condensed` meets its contract: the children are laid out behind the places that the groups were found with.
 use borrow.Author.Needs.{needs}
-use Rattle.build.proofs.Stored.{children-fit, condensed-found}
-use Rattle.build.proofs.condensed.Statement.{statement}
-use Rattle.build.proofs.condensed.Tie as tie
+use Rattle.indexed.proofs.Stored.{children-fit, condensed-found}
+use Rattle.indexed.proofs.condensed.Statement.{statement}
+use Rattle.indexed.proofs.condensed.Tie as tie
 
 condense-requires : tie.Need-condense-requires
 condense-requires c κs = search needs

@@ -31,10 +31,10 @@ use Rattle.stored.proofs.Encoded.{header-fits}
 use Rattle.writing.specs.Words.{groupSections}
 use Rattle.writing.specs.Fit.{GroupsFit}
 use Rattle.writing.proofs.Encoded.{Whole, firstSections, labelSection, index-put}
-use Rattle.build.specs.Input.{writtenAs}
-use Rattle.build.specs.Memory.{childrenFrom, labelsFrom, condensedIn, labellingUnder, labellingBlock, Ready, OrderLabelled}
-use Rattle.build.proofs.Orders.{label-fits}
-use Rattle.build.proofs.Turns.{total-at}
+use Rattle.indexed.specs.Written.{writtenAs}
+use Rattle.indexed.specs.Memory.{childrenFrom, labelsFrom, condensedIn, labellingUnder, labellingBlock, Ready, OrderLabelled}
+use Rattle.indexed.proofs.Orders.{label-fits}
+use Rattle.indexed.proofs.Turns.{total-at}
 
 module _ {l : Layout} {e : ℕ} {orders w₀ : List ℕ} (fit : Ready l e orders w₀) where
   abbrev groups : List ℕ

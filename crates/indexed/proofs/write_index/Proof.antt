@@ -1,10 +1,10 @@
--- `build::write_index` meets its contract: when all labellings are written, the last is still there, so the levels can be found by its ranks; then all that stands before the
+-- `indexed::write_index` meets its contract: when all labellings are written, the last is still there, so the levels can be found by its ranks; then all that stands before the
 -- labels is written from its regions.
 use native.Mathlib.Omega.{arith}
 use borrow.Author.Needs.{needs}
-use Rattle.build.proofs.Written.{levels-there, index-kept, groups-fit, index-written}
-use Rattle.build.proofs.write_index.Statement.{statement}
-use Rattle.build.proofs.write_index.Tie as tie
+use Rattle.indexed.proofs.Written.{levels-there, index-kept, groups-fit, index-written}
+use Rattle.indexed.proofs.write_index.Statement.{statement}
+use Rattle.indexed.proofs.write_index.Tie as tie
 
 -- from the levels back to the labels, to where regions are reckoned, and to the start
 abbrev labels : tie.After-levels → tie.After-write-labels

@@ -1,9 +1,9 @@
--- `build::write_order` meets its contract: the labelling that is left in its window is the one under order j, and it is written from there.
+-- `indexed::write_order` meets its contract: the labelling that is left in its window is the one under order j, and it is written from there.
 use native.Mathlib.Omega.{arith}
 use borrow.Author.Needs.{needs}
-use Rattle.build.proofs.Orders.{order-small, label-fits, order-labelled, labelling-fits, order-written}
-use Rattle.build.proofs.write_order.Statement.{statement}
-use Rattle.build.proofs.write_order.Tie as tie
+use Rattle.indexed.proofs.Orders.{order-small, label-fits, order-labelled, labelling-fits, order-written}
+use Rattle.indexed.proofs.write_order.Statement.{statement}
+use Rattle.indexed.proofs.write_order.Tie as tie
 
 abbrev start : tie.After-by-rank-from → tie.Start
 start c = c .before .before .before .before .before .before

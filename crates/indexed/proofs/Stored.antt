@@ -21,7 +21,7 @@ use Rattle.children.specs.Window.{ChildrenFit, ChildrenFound}
 use Rattle.children.proofs.Found.{ChildrenStored, children-stored}
 use Rattle.labelled.specs.Window.{childrenBy}
 use Rattle.labelled.proofs.Stored.{children-are, stored-fits}
-use Rattle.build.specs.Memory.{childrenFrom, condensedIn, GroupsStored, CondensedFit, CondensedFound}
+use Rattle.indexed.specs.Memory.{childrenFrom, condensedIn, GroupsStored, CondensedFit, CondensedFound}
 
 module _ {G : Graph} {w₀ w₁ : List ℕ} {k : ℕ} (fit : CondensedFit G w₀) (found : GroupsFound G w₀ w₁ k) where
   abbrev n : ℕ

@@ -16,7 +16,7 @@ use Rattle.labelled.specs.Fit.{LabelFit}
 use Rattle.stored.specs.declared.header.Layout.{Layout}
 use Rattle.writing.specs.Words.{labellingIn}
 use Rattle.writing.specs.Fit.{LabellingFit}
-use Rattle.build.specs.Memory.{childrenFrom, labelsFrom, labellingBlock, Ready, OrderLabelled}
+use Rattle.indexed.specs.Memory.{childrenFrom, labelsFrom, labellingBlock, Ready, OrderLabelled}
 
 module _ {l : Layout} {e : ℕ} {orders w : List ℕ} (fit : Ready l e orders w) where
   -- order j lies in the order list

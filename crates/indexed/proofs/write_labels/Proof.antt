@@ -1,10 +1,10 @@
--- `build::write_labels` meets its contract. The invariant: j orders are gone through, their labellings are written, and the last of them is still there.
+-- `indexed::write_labels` meets its contract. The invariant: j orders are gone through, their labellings are written, and the last of them is still there.
 use Prim.Native.Nat.{_-_}
 use native.Mathlib.Omega.{arith}
 use borrow.Author.Needs.{needs}
-use Rattle.build.proofs.Turns.{Turns, turns-none, turns-ready, turns-within, turns-more, turns-all}
-use Rattle.build.proofs.write_labels.Statement.{statement}
-use Rattle.build.proofs.write_labels.Tie as tie
+use Rattle.indexed.proofs.Turns.{Turns, turns-none, turns-ready, turns-within, turns-more, turns-all}
+use Rattle.indexed.proofs.write_labels.Statement.{statement}
+use Rattle.indexed.proofs.write_labels.Tie as tie
 
 abbrev Inv-loop : tie.InvT-loop
 Inv-loop out₀ l edges orders w₀ step at₀ j₀ out w at j = Turns l edges orders out₀ w₀ out w at j
