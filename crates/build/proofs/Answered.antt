@@ -14,7 +14,8 @@ use Rattle.lineage.specs.Calls.{Check, Outcome, refused, answered, outcome, any
 use Rattle.numbers.specs.Regions.{Kept}
 use Rattle.stored.specs.declared.header.Row.{Row}
 use Rattle.stored.proofs.Checks.{refused-first, passed-first, refused-applies, passed-applies}
-use Rattle.build.specs.Input.{boundsOf, writtenAs, formBy, RowFit}
+use Rattle.indexed.specs.Written.{writtenAs}
+use Rattle.build.specs.Input.{boundsOf, formBy, RowFit}
 use Rattle.build.specs.Admitted.{Admitted}
 use Rattle.build.specs.Answers.{LateBuilt}
 use Rattle.build.proofs.Checks.{all-pass, passed-is, admitted}

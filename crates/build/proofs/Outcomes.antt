@@ -20,12 +20,13 @@ use Rattle.orders.proofs.Permutations.{order-of}
 use Rattle.labelled.specs.Window.{windowSize}
 use Rattle.stored.specs.declared.header.Layout.{Layout}
 use Rattle.stored.specs.Header.{counts, layoutBy}
-use Rattle.build.specs.Input.{boundsOf, writtenAs}
+use Rattle.indexed.specs.Memory.{labelsFrom, condensedIn, CondensedFit, CondensedFound, Ready}
+use Rattle.indexed.specs.Written.{writtenAs}
+use Rattle.indexed.proofs.Written.{index-total, header-small}
+use Rattle.build.specs.Input.{boundsOf}
 use Rattle.build.specs.Admitted.{Admitted}
-use Rattle.build.specs.Memory.{labelsFrom, condensedIn, CondensedFit, CondensedFound, Ready}
 use Rattle.build.specs.Answers.{LateBuilt}
 use Rattle.build.proofs.Checks.{any-found, none-found, first-found}
-use Rattle.build.proofs.Written.{index-total, header-small}
 
 module _ {B : Input} (work : List ℕ) (A : Admitted (boundsOf 200000 1000000) B (length work)) where
   abbrev G : Graph

@@ -15,10 +15,6 @@ inputOf n sources targets d orders = record { graph = graphOf n sources targets;
 abbrev pub boundsOf : ℕ → ℕ → Form
 boundsOf vertices edges = record { number = 0; width = 0; vertices = vertices; edges = edges; entries = 0 }
 
--- a form told by its number and its width: its bytes depend on nothing else of it
-abbrev pub writtenAs : ℕ → ℕ → Form
-writtenAs number width = record { number = number; width = width; vertices = 0; edges = 0; entries = 0 }
-
 -- the form of a number, with its row of the table
 abbrev pub formBy : ℕ → Row → Form
 formBy number row = record { number = number; width = row .width; vertices = row .vertices; edges = row .edges; entries = row .entries }

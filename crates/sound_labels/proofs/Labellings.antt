@@ -8,7 +8,8 @@ use Rattle.lineage.specs.Lists.{upto, allBelow, allOf}
 use Rattle.lineage.specs.Sound.{labelsPass}
 use Rattle.numbers.specs.Regions.{Part}
 use Rattle.stored.specs.Sections.{labellingIn, triplesOf, placesOf, labelsIn}
-use Rattle.sound_labels.specs.Fit.{Labels, Labellings}
+use Rattle.sound_ranks.specs.Fit.{Labels}
+use Rattle.sound_labels.specs.Fit.{Labellings}
 use Rattle.sound_labels.specs.Tests.{labellingPasses}
 
 module _ {w k d : ℕ} {labels triples places : List ℕ} (D : Labellings w labels k d) (j : ℕ)

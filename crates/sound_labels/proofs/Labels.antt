@@ -1,5 +1,6 @@
--- The test of one labelling as its six parts: the lengths that it asks for hold by the count.
-use mathlib.Core.Bool.{Bool, _&&_}
+-- The test of one labelling as its six parts: the lengths that it asks for hold by the count. Those of ranks and inner intervals, passed, are what the
+-- walks over blocks ask for.
+use mathlib.Core.Bool.{Bool, false, not, _&&_}
 use mathlib.Core.Path.{_≡_, refl}
 use mathlib.Core.List.{List}
 use Prim.Native.Nat.{ℕ}
@@ -9,7 +10,10 @@ use Rattle.lineage.specs.Labels.{nobodysChild, Labelling}
 use Rattle.lineage.specs.Sound.{walkEnds, rankPasses, fallPasses, outerPasses, innerPasses, blockPasses, labelsPass}
 use Rattle.stored.specs.Sections.{childrenIn, labellingIn}
 use Rattle.stored.proofs.Sections.{children-long, s-long, m-long, e-long, places-long}
-use Rattle.sound_labels.specs.Tests.{triplesAlone}
+use Rattle.sound_groups.proofs.Passed.{answered}
+use Rattle.sound_ranks.specs.Fit.{Labels}
+use Rattle.sound_ranks.specs.Tests.{triplesAlone}
+use Rattle.sound_blocks.specs.Fit.{Ranked}
 
 module _ (w k c : ℕ) (starts children triples places : List ℕ) where
   abbrev rows : List (List ℕ)
@@ -38,6 +42,15 @@ module _ (w k c : ℕ) (starts children triples places : List ℕ) where
   unfolding labellingIn
   labels-is = whole-is
 
-pub inners-any : (w k : ℕ) (triples places : List ℕ) {r : Bool} → r ≡ allBelow k (innerPasses (triplesAlone w triples k)) → r ≡ allBelow k (innerPasses (labellingIn w triples places k))
+inners-any : (w k : ℕ) (triples places : List ℕ) {r : Bool} → r ≡ allBelow k (innerPasses (triplesAlone w triples k)) → r ≡ allBelow k (innerPasses (labellingIn w triples places k))
 unfolding labellingIn
 inners-any w k triples places e = e
+
+-- two functions answer a and b to the tests of ranks and inner intervals, and their caller has gone past `!a` and `!b`
+pub ranked-after : {w k : ℕ} {triples places : List ℕ} {a b : Bool} → Labels w triples places k
+    → a ≡ allBelow k (rankPasses k (labellingIn w triples places k))
+    → not a ≡ false
+    → b ≡ allBelow k (innerPasses (triplesAlone w triples k))
+    → not b ≡ false
+    → Ranked w triples places k
+ranked-after {w} {k} {triples} {places} L ea ta eb tb = record { labels = L; ranks = answered ea ta; inners = answered (inners-any w k triples places eb) tb }

@@ -1,11 +1,4 @@
-pub mod Read
-pub mod Ranks
-pub mod Falls
-pub mod Least
-pub mod Search
-pub mod Walk
-pub mod Ranked
-pub mod Blocks
+-- Laws for the tests of labellings: marks that tell who is nobody's child, and the tests of one and of all put together.
 pub mod Marks
 pub mod Labels
 pub mod Labellings

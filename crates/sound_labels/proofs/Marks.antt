@@ -11,7 +11,7 @@ use Rattle.lineage.specs.Lists.{among, cleared}
 use Rattle.numbers.specs.Marks.{markAll}
 use Rattle.numbers.proofs.Cleared.{cleared-past}
 use Rattle.numbers.proofs.Marks.{marks-past}
-use Rattle.sound_labels.specs.Marks.{unmarked}
+use Rattle.sound_blocks.specs.Marks.{unmarked}
 
 -- what the marks tell of p
 pub marked-at : (qs marks : List ℕ) (p : ℕ) → p < length marks → unmarked (markAll qs marks) p ≡ (not (among p qs) && unmarked marks p)

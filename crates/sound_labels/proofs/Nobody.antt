@@ -21,7 +21,7 @@ use Rattle.stored.specs.Sections.{childrenIn}
 use Rattle.stored.proofs.Sections.{children-long}
 use Rattle.sound_groups.specs.Fit.{Places}
 use Rattle.sound_groups.proofs.Row.{row-low}
-use Rattle.sound_labels.specs.Marks.{unmarked, Tells}
+use Rattle.sound_blocks.specs.Marks.{unmarked, Tells}
 use Rattle.sound_labels.proofs.Marks.{marked-at, marked-cleared}
 
 module _ {w k c : ℕ} {starts children : List ℕ} (P : Places w starts children k c) where

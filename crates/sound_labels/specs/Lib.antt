@@ -1,4 +1,3 @@
--- What the tests of a labelling compute, and what they ask of the stretches that they are lent.
+-- What the test of one labelling among several computes, and what is asked of the stretches that the tests are lent.
 pub mod Fit
 pub mod Tests
-pub mod Marks

@@ -1,9 +1,9 @@
 -- `sound_labels::labels_pass` meets its contract: the six functions compute the test's parts, each looked at where those before it hold.
 use mathlib.Core.Path.{_∙_}
 use Rattle.sound_groups.proofs.Passed.{and-fails, and-goes}
-use Rattle.sound_labels.specs.Fit.{Labelled}
-use Rattle.sound_labels.proofs.Ranked.{ranked-after, roots-are}
-use Rattle.sound_labels.proofs.Labels.{labels-is}
+use Rattle.sound_ranks.specs.Fit.{Labelled}
+use Rattle.sound_blocks.proofs.Ranked.{roots-are}
+use Rattle.sound_labels.proofs.Labels.{labels-is, ranked-after}
 use Rattle.sound_labels.proofs.labels_pass.Statement.{statement}
 use Rattle.sound_labels.proofs.labels_pass.Tie as tie
 

@@ -1,0 +1,19 @@
+-- The block of one group as the walk that the code makes.
+use mathlib.Core.Path.{_≡_}
+use mathlib.Core.List.{List}
+use Prim.Native.Nat.{ℕ, _+_, _-_, _*_, _<_}
+use Rattle.lineage.specs.Numbers.{numAt}
+use Rattle.lineage.specs.Sound.{childOf, walkEnds, blockPasses}
+use Rattle.stored.specs.Sections.{childrenIn, labellingIn}
+use Rattle.stored.proofs.Sections.{children-long}
+use Rattle.sound_groups.specs.Fit.{Places}
+use Rattle.sound_ranks.proofs.Read.{m-was, e-was}
+use Rattle.sound_blocks.specs.Fit.{Ranked}
+
+pub block-is : {w k c p m e : ℕ} {starts children triples places : List ℕ} → Places w starts children k c → Ranked w triples places k → p < k
+    → m ≡ numAt w triples (3 * p + 1)
+    → e ≡ numAt w triples (3 * p + 2)
+    → walkEnds (labellingIn w triples places k) (childOf (childrenIn w starts children k c) p) k (e - 1) (m - 1)
+    ≡ blockPasses (childrenIn w starts children k c) (labellingIn w triples places k) p
+block-is {w} {k} {c} {p} {m} {e} {starts} {children} {places = places} P N h im ie =
+    rw (children-long w starts children k c, ← (m-was (N .labels .triples-held) places h im), ← (e-was (N .labels .triples-held) places h ie))
