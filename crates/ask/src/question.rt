@@ -9,7 +9,7 @@ ghost use Rattle.stored.specs.Sections.{indexAt};
 ghost use Rattle.places.specs.Lent.{Lent};
 ghost use Rattle.walk.specs.Fit.{groupsIn, Fit};
 ghost use Rattle.ask.specs.Replies.{answerBy};
-use stored::header::Layout;
+use header::Layout;
 use walk::Seen;
 
 // Yes or no, the reason, the number of the labelling that decided (0 where none did), and the number of groups opened.

@@ -1,5 +1,5 @@
 // Build: from an edge list and some orders to exactly the bytes of the stored form, in lent memory.
-use stored::header::Row;
+use header::Row;
 ghost use mathlib.Core.Path.{_≡_};
 ghost use Prim.Native.Nat.{_^_, _≤_, _<_};
 ghost use lib.ListN.{length};
@@ -96,7 +96,7 @@ fn late(
         };
     }
     let found = indexed::condensed(n, sources, targets, work);
-    let l = stored::header::lay_out(width, n, found.k, found.c, d);
+    let l = header::lay_out(width, n, found.k, found.c, d);
     if out.len() < l.total {
         return Built::Refused {
             number: 9,
@@ -159,7 +159,7 @@ pub fn build(
 {
     build_form(
         1,
-        stored::header::form_row(1),
+        header::form_row(1),
         n as usize,
         sources,
         targets,

@@ -1,5 +1,5 @@
 // An index in lent memory: groups and children found in work memory, and what lies there written as the stored form, one labelling after the other.
-use stored::header::Layout;
+use header::Layout;
 ghost use mathlib.Core.Path.{_≡_};
 ghost use mathlib.Core.List.{_++_, map};
 ghost use Prim.Native.Nat.{_+_, _-_, _*_, _^_, _≤_, _<_};

@@ -10,11 +10,10 @@ ghost use Rattle.list.specs.Listed.{listedOf, Allowed, Passes};
 pub mod listing;
 pub mod reach;
 
+use header::Header;
+use header::Layout;
 use numbers::clear_marks;
 use open::contents_sound;
-use stored::header;
-use stored::header::Header;
-use stored::header::Layout;
 use stored::parts;
 
 // How many vertices are listed, or a refusal with its number and its extra number.
