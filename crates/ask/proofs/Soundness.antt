@@ -13,7 +13,7 @@ use Rattle.laws.specs.Sound.{SoundGroups}
 use Rattle.laws.proofs.Lists.{in-getD}
 use Rattle.laws.proofs.Grouped.{group-name, levels-fall}
 use Rattle.numbers.proofs.Numbers.{numbers-long, numbers-at}
-use Rattle.stored.specs.declared.header.Layout.{Layout}
+use Rattle.header.specs.declared.Layout.{Layout}
 use Rattle.stored.specs.Sections.{childrenIn, indexFrom, indexAt}
 use Rattle.stored.proofs.Sections.{children-long, starts-rise, starts-within, row-long, row-at}
 use Rattle.ask.specs.Fit.{count, groupsIn, Fit}

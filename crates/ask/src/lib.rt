@@ -2,16 +2,15 @@
 ghost use mathlib.Core.Path.{_≡_};
 ghost use lib.ListN.{length};
 ghost use Rattle.lineage.specs.Calls.{askAnswer, askMarks};
-ghost use Rattle.stored.specs.Header.{Laid};
+ghost use Rattle.header.specs.Header.{Laid};
 ghost use Rattle.ask.specs.Asked.{askedOf, lateAnswer, lateMarks};
 
 pub mod intervals;
 pub mod question;
 pub mod walk;
 
-use stored::header;
-use stored::header::Header;
-use stored::header::Layout;
+use header::Header;
+use header::Layout;
 
 // An answer: yes or no, the reason 1 to 6, and the groups opened; or a refusal with its number and its extra number.
 pub enum Asked {

@@ -12,7 +12,7 @@ ghost use Rattle.ask.specs.Replies.{answerBy};
 use crate::intervals;
 use crate::walk;
 use crate::walk::Seen;
-use stored::header::Layout;
+use header::Layout;
 
 // Yes or no, the reason, the number of the labelling that decided (0 where none did), and the number of groups opened.
 pub struct Reply {

@@ -12,8 +12,8 @@ use Rattle.lineage.specs.Index.{Index}
 use Rattle.lineage.specs.Stored.{Form, encode}
 use Rattle.lineage.specs.Calls.{Check, Outcome, refused, answered, outcome, anyApplies, Input, workNeeded, built, lengthOf, buildEarly, buildLate, buildAnswer, buildOutput, buildWork}
 use Rattle.numbers.specs.Regions.{Kept}
-use Rattle.stored.specs.declared.header.Row.{Row}
-use Rattle.stored.proofs.Checks.{refused-first, passed-first, refused-applies, passed-applies}
+use Rattle.header.specs.declared.Row.{Row}
+use Rattle.header.proofs.Checks.{refused-first, passed-first, refused-applies, passed-applies}
 use Rattle.build.specs.Input.{boundsOf, writtenAs, formBy, RowFit}
 use Rattle.build.specs.Admitted.{Admitted}
 use Rattle.build.specs.Answers.{LateBuilt}

@@ -13,7 +13,7 @@ use Rattle.numbers.specs.Put.{put}
 use Rattle.orders.proofs.Permutations.{order-room}
 use Rattle.labelled.specs.Window.{byRankAt, windowLabelling, Labelled}
 use Rattle.labelled.specs.Fit.{LabelFit}
-use Rattle.stored.specs.declared.header.Layout.{Layout}
+use Rattle.header.specs.declared.Layout.{Layout}
 use Rattle.writing.specs.Words.{labellingIn}
 use Rattle.writing.specs.Fit.{LabellingFit}
 use Rattle.build.specs.Memory.{childrenFrom, labelsFrom, labellingBlock, Ready, OrderLabelled}

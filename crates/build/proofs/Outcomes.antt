@@ -18,8 +18,8 @@ use Rattle.numbers.specs.Regions.{Kept}
 use Rattle.numbers.proofs.Regions.{kept-then, kept-wider}
 use Rattle.orders.proofs.Permutations.{order-of}
 use Rattle.labelled.specs.Window.{windowSize}
-use Rattle.stored.specs.declared.header.Layout.{Layout}
-use Rattle.stored.specs.Header.{counts, layoutBy}
+use Rattle.header.specs.declared.Layout.{Layout}
+use Rattle.header.specs.Header.{counts, layoutBy}
 use Rattle.build.specs.Input.{boundsOf, writtenAs}
 use Rattle.build.specs.Admitted.{Admitted}
 use Rattle.build.specs.Memory.{labelsFrom, condensedIn, CondensedFit, CondensedFound, Ready}

@@ -22,7 +22,7 @@ use Rattle.laws.proofs.Lists.{table-long, getD-mapped, table-at}
 use Rattle.laws_answers.proofs.Demands.{answer-right}
 use Rattle.orders.proofs.Permutations.{orders-of}
 use Rattle.stored.specs.Fits.{Fits}
-use Rattle.stored.proofs.Checks.{passed-applies}
+use Rattle.header.proofs.Checks.{passed-applies}
 use Rattle.stored.proofs.Encoded.{counts-read, encode-long, index-encode}
 use Rattle.open.proofs.Fits.{form1-wide, bounds-kept, yielded-fits}
 use Rattle.open.proofs.Theorem.{built-opens}

@@ -19,7 +19,7 @@ use Rattle.numbers.proofs.Regions.{kept-same}
 use Rattle.labelled.specs.Window.{windowSize, childrenBy}
 use Rattle.labelled.proofs.Regions.{children-same}
 use Rattle.labelled.proofs.Again.{groups-kept, labelled-since}
-use Rattle.stored.specs.declared.header.Layout.{Layout}
+use Rattle.header.specs.declared.Layout.{Layout}
 use Rattle.stored.proofs.Held.{labelling-within}
 use Rattle.stored.proofs.LabelNumbers.{numbers-of-long}
 use Rattle.writing.proofs.Behind.{blocksPut, blocks-none, blocks-more}

@@ -23,10 +23,10 @@ use Rattle.labels.specs.Fit.{UpFit}
 use Rattle.labelled.specs.Window.{byRankAt, levelsAt, windowSize, groupsBy, childrenBy}
 use Rattle.labelled.specs.Fit.{LabelFit}
 use Rattle.labelled.proofs.Again.{levels-fit, levels-beside}
-use Rattle.stored.specs.declared.header.Layout.{Layout}
-use Rattle.stored.specs.Header.{counts, layoutBy, headerOf}
+use Rattle.header.specs.declared.Layout.{Layout}
+use Rattle.header.specs.Header.{counts, layoutBy, headerOf}
 use Rattle.stored.specs.Fits.{Full}
-use Rattle.stored.proofs.Laid.{Bounded}
+use Rattle.header.proofs.Laid.{Bounded}
 use Rattle.stored.proofs.Encoded.{header-fits}
 use Rattle.writing.specs.Words.{groupSections}
 use Rattle.writing.specs.Fit.{GroupsFit}

@@ -5,7 +5,7 @@ use Rattle.lineage.specs.Numbers.{Width}
 use Rattle.lineage.specs.Stored.{Form}
 use Rattle.lineage.specs.Calls.{Input}
 use Rattle.orders.specs.Input.{graphOf}
-use Rattle.stored.specs.declared.header.Row.{Row}
+use Rattle.header.specs.declared.Row.{Row}
 
 -- an edge list and an order list of d orders
 abbrev pub inputOf : ℕ → (sources targets : List ℕ) → ℕ → List ℕ → Input

@@ -20,8 +20,8 @@ use Rattle.numbers.specs.Regions.{Kept}
 use Rattle.children.specs.Window.{childrenAt}
 use Rattle.labelled.specs.Window.{groupsBy, childrenBy, Labelled}
 use Rattle.labelled.specs.Fit.{GroupsFit}
-use Rattle.stored.specs.declared.header.Layout.{Layout}
-use Rattle.stored.specs.Header.{counts, layoutBy}
+use Rattle.header.specs.declared.Layout.{Layout}
+use Rattle.header.specs.Header.{counts, layoutBy}
 
 -- where the children lie, and where a labelling is made
 abbrev pub childrenFrom : ℕ → ℕ → ℕ → ℕ

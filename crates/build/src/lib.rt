@@ -1,6 +1,6 @@
 // Build: from an edge list and some orders to exactly the bytes of the stored form, in lent memory.
-use stored::header::Layout;
-use stored::header::Row;
+use header::Layout;
+use header::Row;
 ghost use mathlib.Core.Bool.{cond};
 ghost use mathlib.Core.Path.{_≡_};
 ghost use mathlib.Core.List.{_++_, map};
@@ -225,7 +225,7 @@ fn late(
         };
     }
     let found = condensed(n, sources, targets, work);
-    let l = stored::header::lay_out(width, n, found.k, found.c, d);
+    let l = header::lay_out(width, n, found.k, found.c, d);
     if out.len() < l.total {
         return Built::Refused {
             number: 9,
@@ -288,7 +288,7 @@ pub fn build(
 {
     build_form(
         1,
-        stored::header::form_row(1),
+        header::form_row(1),
         n as usize,
         sources,
         targets,

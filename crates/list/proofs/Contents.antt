@@ -6,8 +6,8 @@ use native.Mathlib.Omega.{arith}
 use lib.ListN.{getD}
 use Rattle.lineage.specs.Stored.{sizes, offsets, countsIn, stretch}
 use Rattle.laws.proofs.Parts.{part-length}
-use Rattle.stored.specs.declared.header.Layout.{Layout}
-use Rattle.stored.specs.Header.{layoutIn, Laid}
+use Rattle.header.specs.declared.Layout.{Layout}
+use Rattle.header.specs.Header.{layoutIn, Laid}
 use Rattle.stored.specs.Sections.{Section}
 use Rattle.stored.proofs.Offsets.{offsets-within}
 use Rattle.places.proofs.Lent.{Six}

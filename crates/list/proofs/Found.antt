@@ -10,7 +10,7 @@ use Rattle.lineage.specs.Numbers.{numbers}
 use Rattle.lineage.specs.Index.{Index}
 use Rattle.lineage.specs.Question.{inOwnList, downstream}
 use Rattle.lineage.specs.Calls.{indexIn}
-use Rattle.stored.specs.declared.header.Layout.{Layout}
+use Rattle.header.specs.declared.Layout.{Layout}
 use Rattle.stored.specs.Sections.{Section}
 use Rattle.places.proofs.Lent.{Six}
 use Rattle.list.specs.Fit.{Names, SoundBytes}

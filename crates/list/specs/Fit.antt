@@ -5,8 +5,8 @@ use mathlib.Core.List.{List}
 use Prim.Native.Nat.{ℕ, _<_}
 use Rattle.lineage.specs.Numbers.{numAt}
 use Rattle.lineage.specs.Sound.{contentsSound}
-use Rattle.stored.specs.declared.header.Layout.{Layout}
-use Rattle.stored.specs.Header.{Laid}
+use Rattle.header.specs.declared.Layout.{Layout}
+use Rattle.header.specs.Header.{Laid}
 use Rattle.sound_groups.specs.Fit.{Holds, Places}
 
 -- children that are places, and the group list, whose names each have their mark among so many

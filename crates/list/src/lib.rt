@@ -11,11 +11,10 @@ pub mod listing;
 pub mod reach;
 pub mod sweep;
 
+use header::Header;
+use header::Layout;
 use numbers::clear_marks;
 use open::contents_sound;
-use stored::header;
-use stored::header::Header;
-use stored::header::Layout;
 use stored::parts;
 
 // How many vertices are listed, or a refusal with its number and its extra number.

@@ -7,9 +7,9 @@ ghost use Rattle.lineage.specs.Calls.{indexIn};
 ghost use Rattle.list.specs.Fit.{SoundBytes};
 ghost use Rattle.list.specs.Marks.{rankIn, sweptIn, reachMarks};
 use crate::sweep;
+use header::Layout;
 use numbers::num;
 use places::place_of;
-use stored::header::Layout;
 use stored::parts;
 
 // The rank of vertex u's group in the first labelling: e stands last in the triple of its place.

@@ -7,16 +7,15 @@ ghost use Rattle.lineage.specs.Lists.{cleared};
 ghost use Rattle.lineage.specs.Numbers.{numbers};
 ghost use Rattle.lineage.specs.Sound.{startsPass, sound, contentsSound};
 ghost use Rattle.lineage.specs.Calls.{openAnswer, openMarks};
-ghost use Rattle.stored.specs.Header.{Laid};
+ghost use Rattle.header.specs.Header.{Laid};
 ghost use Rattle.stored.specs.Sections.{indexFrom};
 ghost use Rattle.open.specs.Parts.{Parts};
 ghost use Rattle.open.specs.Opened.{openedOf, lateAnswer, lateMarks};
+use header::Header;
+use header::Layout;
 use numbers::clear_marks;
 use sound_groups::groups_pass;
 use sound_labels::labels_sound;
-use stored::header;
-use stored::header::Header;
-use stored::header::Layout;
 
 // An index's counts, or a refusal with its number and its extra number.
 pub enum Opened {

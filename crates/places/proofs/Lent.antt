@@ -9,8 +9,8 @@ use Rattle.lineage.specs.Stored.{decode}
 use Rattle.lineage.specs.Sound.{startsPass, sound, contentsSound}
 use Rattle.lineage.specs.Calls.{indexIn}
 use Rattle.laws.proofs.Tests.{and-left, and-right}
-use Rattle.stored.specs.declared.header.Layout.{Layout}
-use Rattle.stored.specs.Header.{Laid}
+use Rattle.header.specs.declared.Layout.{Layout}
+use Rattle.header.specs.Header.{Laid}
 use Rattle.stored.specs.Sections.{Section, indexAt}
 use Rattle.stored.proofs.Sections.{decode-is}
 use Rattle.open.proofs.Contents.{n-is, k-is, c-is, d-is, contents-are}

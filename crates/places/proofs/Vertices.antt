@@ -14,7 +14,7 @@ use Rattle.laws.specs.Rising.{Rises}
 use Rattle.laws.proofs.Grouped.{listed-name, groups-rise, name-group, place-low}
 use Rattle.laws.proofs.Decides.{sound-decides}
 use Rattle.numbers.proofs.Numbers.{numbers-long, numbers-at}
-use Rattle.stored.specs.declared.header.Layout.{Layout}
+use Rattle.header.specs.declared.Layout.{Layout}
 use Rattle.stored.specs.Sections.{childrenIn, indexFrom, indexAt}
 use Rattle.stored.proofs.Sections.{children-long}
 use Rattle.places.specs.Lent.{Lent}

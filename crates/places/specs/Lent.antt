@@ -6,7 +6,7 @@ use Prim.Native.Nat.{ℕ, _+_, _*_, _≤_}
 use lib.ListN.{length}
 use Rattle.lineage.specs.Numbers.{Width, numbers}
 use Rattle.lineage.specs.Sound.{startsPass, sound}
-use Rattle.stored.specs.declared.header.Layout.{Layout}
+use Rattle.header.specs.declared.Layout.{Layout}
 use Rattle.stored.specs.Sections.{indexAt}
 
 -- each section is as long as the layout says, the counts are within the bounds of every form, and the contents are sound

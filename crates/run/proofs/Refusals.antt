@@ -20,7 +20,7 @@ use Rattle.laws.proofs.Names.{names-long}
 use Rattle.laws.proofs.Sound.{made-sound}
 use Rattle.laws.proofs.Lists.{table-long}
 use Rattle.orders.proofs.Permutations.{orders-of}
-use Rattle.stored.proofs.Checks.{passed-first}
+use Rattle.header.proofs.Checks.{passed-first}
 use Rattle.stored.proofs.Offsets.{total-at-2}
 use Rattle.open.proofs.Small.{groups-few}
 use Rattle.open.proofs.Entries.{entries-few}

@@ -1,8 +1,4 @@
 -- The laws of the stored form.
-pub mod Checks
-pub mod Forms
-pub mod Checked
-pub mod Laid
 pub mod Stretches
 pub mod Held
 pub mod Sections

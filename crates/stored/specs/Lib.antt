@@ -1,4 +1,3 @@
 -- What the contracts of this crate and of those above say of the stored form.
-pub mod Header
 pub mod Sections
 pub mod Fits

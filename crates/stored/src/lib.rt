@@ -1,3 +1,2 @@
-// The stored form: its header checked and read, its sections handed on as parts of the lent bytes, and both written.
-pub mod header;
+// The stored form: its sections handed on as parts of the lent bytes; bytes and index are inverse.
 pub mod parts;

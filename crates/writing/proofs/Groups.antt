@@ -9,8 +9,8 @@ use Rattle.lineage.specs.Numbers.{written}
 use Rattle.laws.proofs.Parts.{part-length}
 use Rattle.numbers.specs.Put.{put}
 use Rattle.numbers.proofs.Written.{written-long}
-use Rattle.stored.specs.declared.header.Layout.{Layout}
-use Rattle.stored.specs.Header.{counts, layoutBy, headerOf}
+use Rattle.header.specs.declared.Layout.{Layout}
+use Rattle.header.specs.Header.{counts, layoutBy, headerOf}
 use Rattle.stored.proofs.Offsets.{offsets-last, putSections, sections-put}
 use Rattle.writing.specs.Words.{groupSections}
 use Rattle.writing.specs.Fit.{GroupsFit}

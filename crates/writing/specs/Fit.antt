@@ -5,8 +5,8 @@ use Prim.Native.Nat.{ℕ, _+_, _*_, _^_, _≤_, _<_}
 use lib.ListN.{length}
 use Rattle.lineage.specs.Lists.{Every}
 use Rattle.lineage.specs.Numbers.{Width}
-use Rattle.stored.specs.declared.header.Layout.{Layout}
-use Rattle.stored.specs.Header.{counts, layoutBy, headerOf}
+use Rattle.header.specs.declared.Layout.{Layout}
+use Rattle.header.specs.Header.{counts, layoutBy, headerOf}
 
 -- s, m and e of k places
 pub record TriplesFit (out : List ℕ) (at w : ℕ) (words : List ℕ) (s m e k : ℕ) : Type 0 where

@@ -4,7 +4,7 @@ use Prim.Native.Nat.{ℕ, _+_}
 use lib.ListN.{getD}
 use Rattle.lineage.specs.Lists.{part}
 use Rattle.lineage.specs.Labels.{Labelling}
-use Rattle.stored.specs.declared.header.Layout.{Layout}
+use Rattle.header.specs.declared.Layout.{Layout}
 
 -- the triple of place p, from the regions of s, m and e
 abbrev pub tripleIn : List ℕ → (s m e : ℕ) → ℕ → List ℕ

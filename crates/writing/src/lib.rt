@@ -1,5 +1,5 @@
 // The stored form, written from work memory: all that stands before the labels, and one labelling.
-use stored::header::Layout;
+use header::Layout;
 ghost use mathlib.Core.Path.{_≡_};
 ghost use mathlib.Core.List.{[], _∷_, _++_, map};
 ghost use Prim.Native.Nat.{_+_, _*_, _≤_};
@@ -8,7 +8,7 @@ ghost use Rattle.lineage.specs.Lists.{upto, joined};
 ghost use Rattle.lineage.specs.Numbers.{Width, written};
 ghost use Rattle.lineage.specs.Stored.{labelNumbers};
 ghost use Rattle.numbers.specs.Put.{put};
-ghost use Rattle.stored.specs.Header.{headerOf};
+ghost use Rattle.header.specs.Header.{headerOf};
 ghost use Rattle.writing.specs.Words.{tripleIn, labellingIn, groupSections};
 ghost use Rattle.writing.specs.Fit.{TriplesFit, LabellingFit, GroupsFit};
 
@@ -83,7 +83,7 @@ pub fn write_groups(
     requires { ⌜ GroupsFit (now out) form l (now words) names groups levels starts children ⌝ }
     ensures { λ _. ⌜ now (out .exit) ≡ put (now (out .entry)) 0 (written 4 (headerOf form l) ++ joined (map (written (l .width)) (groupSections (now (words .entry)) l names groups levels starts children))) ⌝ }
 {
-    stored::header::write_header(out, form, l);
+    header::write_header(out, form, l);
     numbers::write_words(out, l.names, l.width, words, names, l.n);
     numbers::write_words(out, l.groups, l.width, words, groups, l.k);
     numbers::write_words(out, l.levels, l.width, words, levels, l.k);

@@ -8,7 +8,7 @@ ghost use Rattle.lineage.specs.Numbers.{Width, written};
 ghost use Rattle.lineage.specs.Stored.{headerAt, formOf, countsFit};
 ghost use Rattle.lineage.specs.Calls.{outcome};
 ghost use Rattle.numbers.specs.Put.{put};
-ghost use Rattle.stored.specs.Header.{rowOf, counts, layoutBy, layoutIn, offsetsAgree, headerOf, headerChecks, headerOutcome};
+ghost use Rattle.header.specs.Header.{rowOf, counts, layoutBy, layoutIn, offsetsAgree, headerOf, headerChecks, headerOutcome};
 
 const HEADER_LENGTH: usize = 48;
 

@@ -13,9 +13,9 @@ use Rattle.lineage.specs.Stored.{Form, Counts, headerAt, countsIn, formOf, isFo
 use Rattle.lineage.specs.Calls.{answered, refuse, outcome}
 use Rattle.laws.proofs.Tests.{neither, both}
 use Rattle.laws.proofs.Lists.{same-list}
-use Rattle.stored.specs.declared.header.Layout.{Layout}
-use Rattle.stored.specs.Header.{layoutIn, offsetsIn, offsetsOf, offsetsAgree, headerChecks, Laid}
-use Rattle.stored.proofs.Forms.{Within, form-within}
+use Rattle.header.specs.declared.Layout.{Layout}
+use Rattle.header.specs.Header.{layoutIn, offsetsIn, offsetsOf, offsetsAgree, headerChecks, Laid}
+use Rattle.header.proofs.Forms.{Within, form-within}
 
 -- counts that fit a form
 pub record Bounded (F : Form) (a : Counts) : Type 0 where

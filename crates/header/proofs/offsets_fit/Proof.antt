@@ -1,8 +1,8 @@
--- `stored::header::offsets_fit` meets its contract: the tests are those of the definition.
-use Rattle.stored.proofs.Checked.{agree-by}
+-- `header::offsets_fit` meets its contract: the tests are those of the definition.
+use Rattle.header.proofs.Checked.{agree-by}
 use borrow.Author.Needs.{needs}
-use Rattle.stored.proofs.header.offsets_fit.Statement.{statement}
-use Rattle.stored.proofs.header.offsets_fit.Tie as tie
+use Rattle.header.proofs.offsets_fit.Statement.{statement}
+use Rattle.header.proofs.offsets_fit.Tie as tie
 
 says-requires : tie.Need-says-requires
 says-requires c κs = search needs

@@ -1,8 +1,8 @@
--- `stored::header::lay_out` meets its contract: each section starts where the one before it ends. Every sum is far below what a usize holds, since the counts are bounded.
-use Rattle.stored.proofs.Checked.{laid-by}
+-- `header::lay_out` meets its contract: each section starts where the one before it ends. Every sum is far below what a usize holds, since the counts are bounded.
+use Rattle.header.proofs.Checked.{laid-by}
 use borrow.Author.Needs.{needs}
-use Rattle.stored.proofs.header.lay_out.Statement.{statement}
-use Rattle.stored.proofs.header.lay_out.Tie as tie
+use Rattle.header.proofs.lay_out.Statement.{statement}
+use Rattle.header.proofs.lay_out.Tie as tie
 
 bytes-of-requires : tie.Need-bytes-of-requires
 bytes-of-requires c κs = search needs

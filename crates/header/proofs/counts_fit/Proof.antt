@@ -1,8 +1,8 @@
--- `stored::header::counts_fit` meets its contract: the tests are those of the definition, at the row of the form.
-use Rattle.stored.proofs.Checked.{fit-by}
+-- `header::counts_fit` meets its contract: the tests are those of the definition, at the row of the form.
+use Rattle.header.proofs.Checked.{fit-by}
 use borrow.Author.Needs.{needs}
-use Rattle.stored.proofs.header.counts_fit.Statement.{statement}
-use Rattle.stored.proofs.header.counts_fit.Tie as tie
+use Rattle.header.proofs.counts_fit.Statement.{statement}
+use Rattle.header.proofs.counts_fit.Tie as tie
 
 form-row-requires : tie.Need-form-row-requires
 form-row-requires c κs = search needs

@@ -1,10 +1,10 @@
--- `stored::header::says` meets its contract.
+-- `header::says` meets its contract.
 use mathlib.Core.Path.{ap}
 use Prim.Native.Nat.{ℕ}
 use lib.Dec.{eqb}
 use borrow.Author.Needs.{needs}
-use Rattle.stored.proofs.header.says.Statement.{statement}
-use Rattle.stored.proofs.header.says.Tie as tie
+use Rattle.header.proofs.says.Statement.{statement}
+use Rattle.header.proofs.says.Tie as tie
 
 num-requires : tie.Need-num-requires
 num-requires c κs = search needs

@@ -9,9 +9,9 @@ use borrow.Author.Tests.{lt-ltb, le-ltb}
 use Rattle.lineage.specs.Numbers.{Width}
 use Rattle.lineage.specs.Stored.{Form, Counts, headerAt, countsIn, formOf, isForm, countsFit, offsetsFit}
 use Rattle.lineage.specs.Calls.{refused, answered, outcome}
-use Rattle.stored.specs.declared.header.Row.{Row}
-use Rattle.stored.specs.declared.header.Layout.{Layout}
-use Rattle.stored.specs.Header.{rowOf, counts, layoutBy, layoutIn, offsetsAgree, headerChecks}
+use Rattle.header.specs.declared.Row.{Row}
+use Rattle.header.specs.declared.Layout.{Layout}
+use Rattle.header.specs.Header.{rowOf, counts, layoutBy, layoutIn, offsetsAgree, headerChecks}
 
 -- the tests of the counts at a form's row
 pub fit-by : (row : Row) (form n k c d : ℕ)

@@ -1,10 +1,10 @@
--- `stored::header::write_header` meets its contract: the twelve numbers stand in an array, and are written from there.
+-- `header::write_header` meets its contract: the twelve numbers stand in an array, and are written from there.
 use mathlib.Core.Path.{refl}
 use native.Mathlib.Omega.{arith}
 use Rattle.lineage.specs.Lists.{part}
 use borrow.Author.Needs.{needs}
-use Rattle.stored.proofs.header.write_header.Statement.{statement}
-use Rattle.stored.proofs.header.write_header.Tie as tie
+use Rattle.header.proofs.write_header.Statement.{statement}
+use Rattle.header.proofs.write_header.Tie as tie
 
 cast-t5 : tie.Need-cast-t5
 cast-t5 c = search needs

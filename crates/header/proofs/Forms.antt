@@ -8,8 +8,8 @@ use lib.Dec.{eqb}
 use Rattle.lineage.specs.Lists.{Every}
 use Rattle.lineage.specs.Numbers.{Width}
 use Rattle.lineage.specs.Stored.{Form, form1, forms, formFrom, formOf}
-use Rattle.stored.specs.declared.header.Row.{Row}
-use Rattle.stored.specs.Header.{rowOf}
+use Rattle.header.specs.declared.Row.{Row}
+use Rattle.header.specs.Header.{rowOf}
 
 -- a form within the bounds of every form
 pub record Within (F : Form) : Type 0 where

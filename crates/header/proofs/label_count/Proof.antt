@@ -1,11 +1,11 @@
--- `stored::header::label_count` meets its contract.
+-- `header::label_count` meets its contract.
 use native.Mathlib.Omega.{arith}
 use native.Mathlib.Nat.{mul-le-mul, mul-le-mul-left}
 use mathlib.Core.Path.{refl}
 use Prim.Native.Nat.{ℕ, _*_, _≤_}
 use borrow.Author.Needs.{needs}
-use Rattle.stored.proofs.header.label_count.Statement.{statement}
-use Rattle.stored.proofs.header.label_count.Tie as tie
+use Rattle.header.proofs.label_count.Statement.{statement}
+use Rattle.header.proofs.label_count.Tie as tie
 
 four-times : (k d : ℕ) → k ≤ 200000 → d ≤ 5 → d * (4 * k) ≤ 4000000
 four-times k d hk hd = mul-le-mul hd (mul-le-mul-left 4 hk)

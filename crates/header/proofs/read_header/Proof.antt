@@ -1,4 +1,4 @@
--- `stored::header::read_header` meets its contract. Each return stands behind the tests of the checks before it, so its outcome is the one that the
+-- `header::read_header` meets its contract. Each return stands behind the tests of the checks before it, so its outcome is the one that the
 -- definition gives: the laws of `Laid` say so check by check, of the numbers that were read.
 use mathlib.Core.Bool.{true}
 use mathlib.Core.Path.{_≡_, sym, _∙_}
@@ -8,12 +8,12 @@ use native.Mathlib.Omega.{arith}
 use borrow.Author.Needs.{needs}
 use borrow.Author.Tests.{not-true, not-false}
 use Rattle.lineage.specs.Stored.{formOf, countsFit}
-use Rattle.stored.specs.declared.header.Row.{Row}
-use Rattle.stored.specs.Header.{counts}
-use Rattle.stored.proofs.Laid.{fit-bounds}
-use Rattle.stored.proofs.Checked.{Read, width-in, header-short, header-unknown, header-counts, header-offsets, header-passes}
-use Rattle.stored.proofs.header.read_header.Statement.{statement}
-use Rattle.stored.proofs.header.read_header.Tie as tie
+use Rattle.header.specs.declared.Row.{Row}
+use Rattle.header.specs.Header.{counts}
+use Rattle.header.proofs.Laid.{fit-bounds}
+use Rattle.header.proofs.Checked.{Read, width-in, header-short, header-unknown, header-counts, header-offsets, header-passes}
+use Rattle.header.proofs.read_header.Statement.{statement}
+use Rattle.header.proofs.read_header.Tie as tie
 
 abbrev bytes : tie.Start → List ℕ
 bytes s = s .args .index .now

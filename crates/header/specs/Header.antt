@@ -9,10 +9,10 @@ use Rattle.lineage.specs.Lists.{upto, sameList}
 use Rattle.lineage.specs.Numbers.{Width}
 use Rattle.lineage.specs.Stored.{Counts, offsets, headerAt, countsIn, formOf, isForm}
 use Rattle.lineage.specs.Calls.{Check, Outcome, refused, answered, formChecks}
-use Rattle.stored.specs.declared.header.Row.{Row}
-use Rattle.stored.specs.declared.header.Layout.{Layout}
-use Rattle.stored.specs.declared.header.Header.{Header}
-use Rattle.stored.specs.declared.header.Header.the-variants.{Passed, Refused}
+use Rattle.header.specs.declared.Row.{Row}
+use Rattle.header.specs.declared.Layout.{Layout}
+use Rattle.header.specs.declared.Header.{Header}
+use Rattle.header.specs.declared.Header.the-variants.{Passed, Refused}
 
 -- the row of the form with this number; where there is none, the first form's
 abbrev pub rowOf : ℕ → Row
