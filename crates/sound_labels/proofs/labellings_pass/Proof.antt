@@ -19,7 +19,7 @@ loop-holds : tie.Need-loop-holds Inv-loop μ-loop
 loop-holds c = passed-none _ _
 
 labelling-passes-requires : tie.Need-labelling-passes-requires Inv-loop μ-loop
-labelling-passes-requires c κs = let s = c .before .before .before .before .before .before in (s .pre .0, (s .pre .1 .0, (s .pre .1 .1, c .loop-test .taken)))
+labelling-passes-requires c κs = let s = c .before .before .before .before .before .before in (s .pre .0, (s .pre .1 .0, (s .pre .1 .1, omega arith)))
 
 returns : tie.Need-returns Inv-loop μ-loop
 returns c = sym (passed-not (c .before .before .before .loop .inv) (c .before .before .loop-test .taken) (c .before .labelling-passes .ensures) (c .if1 .taken)) ∙ labellings-are _ _ _ _ _
