@@ -234,14 +234,15 @@ static void asks(Where w, Cases &cases) {
         }
 }
 
-// All pairs of one graph, whose index is known to be sound.
+// All pairs of one graph, whose index is known to be sound; for breadth-first search, which is slow, the first thousand.
 static void questions(Where w, Case &c) {
     const Pairs &pairs = c.pairs.at(w.pairs);
+    const size_t few = std::min<size_t>(pairs.size(), 1000);
     Bytes marks(w.n);
-    auto all = [&](auto answer) {
-        return [&pairs, answer] {
+    auto first = [&](size_t count, auto answer) {
+        return [&pairs, count, answer] {
             uint32_t yes = 0;
-            for (auto [u, v] : pairs) yes += answer(u, v);
+            for (size_t i = 0; i < count; i++) yes += answer(pairs[i].first, pairs[i].second);
             sink = yes;
         };
     };
@@ -255,15 +256,17 @@ static void questions(Where w, Case &c) {
     auto search = [&](uint32_t u, uint32_t v) { return c.search.reaches(u, v); };
     auto closure = [&](uint32_t u, uint32_t v) { return c.closure.reaches(u, v); };
     w.measure = "question";
-    measure(w, pairs.size(), {{"ours", all(ours)}, {"grail", all(grail)}, {"search", all(search)}, {"closure", all(closure)}});
+    measure(w, pairs.size(), {{"ours", first(pairs.size(), ours)}, {"grail", first(pairs.size(), grail)}, {"closure", first(pairs.size(), closure)}});
+    measure(w, few, {{"search", first(few, search)}});
     double opened = 0;
-    for (auto [u, v] : pairs) {
+    for (size_t i = 0; i < pairs.size(); i++) {
+        auto [u, v] = pairs[i];
         marks.assign(w.n, 0);
         drobisten_asked r = ask_alone(c, marks, u, v);
         bool yes = r.yes;
         must(r.refusal == 0 && grail(u, v) == yes && (uint32_t)c.grail.opened == r.opened, "GRAIL answers otherwise");
-        must(search(u, v) == yes, "breadth-first search answers otherwise");
         must(closure(u, v) == yes, "the closure answers otherwise");
+        must(i >= few || search(u, v) == yes, "breadth-first search answers otherwise");
         opened += r.opened;
     }
     printf("opened\t%s\t%u\t%d\t%s\tours\t%.2f\n", w.kind, w.n, w.d, w.pairs, opened / pairs.size());
@@ -291,7 +294,7 @@ int main(int words, char **word) {
             for (Case &c : cases) {
                 c.graph = graph(kind, n, chance);
                 c.search.build(c.graph), c.closure.build(c.graph);
-                for (const char *which : {"reachable", "unreachable", "mixed"}) c.pairs[which] = choose(which, c.closure, n, &c == &cases[0] && !quick ? 4000 : 100, chance);
+                for (const char *which : {"reachable", "unreachable", "mixed"}) c.pairs[which] = choose(which, c.closure, n, &c == &cases[0] && !quick ? 20000 : 100, chance);
             }
             for (int d : {1, 2, 5}) {
                 Where w{"", kind.c_str(), n, d, ""};
