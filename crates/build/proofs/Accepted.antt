@@ -1,16 +1,16 @@
 -- What is lent right is refused by no check: edges between vertices have no bad end, and an order has every vertex.
-use mathlib.Core.Bool.{Bool, true, false, not}
-use mathlib.Core.Path.{_≡_, ap, subst, _∙_}
+use mathlib.Core.Bool.{Bool, false, not}
+use mathlib.Core.Path.{_≡_, ap, subst}
 use mathlib.Core.List.{List, [], _++_, map}
 use Prim.Native.Nat.{ℕ, _≤_, _<_}
 use native.Mathlib.Omega.{arith}
-use lib.ListN.{length, getD}
+use lib.ListN.{length}
 use borrow.Author.Tests.{le-ltb, eq-eqb, ne-eqb}
 use Rattle.lineage.specs.Lists.{upto, any, among, Every}
 use Rattle.lineage.specs.Graph.{Graph, Ends}
 use Rattle.lineage.specs.Labels.{Order}
 use Rattle.lineage.specs.Stored.{Form}
-use Rattle.lineage.specs.Calls.{Check, Input, orderAt, ordersOf, badEdge, badOrder, built, lengthOf, buildEarly, buildLate}
+use Rattle.lineage.specs.Calls.{Input, orderAt, ordersOf, badEdge, badOrder, built, lengthOf, buildEarly, buildLate}
 use Rattle.laws.proofs.Tests.{clash, is-false}
 use Rattle.laws.proofs.Lists.{in-any, upto-low, table-long, table-at}
 use Rattle.laws.proofs.Every.{every-at}

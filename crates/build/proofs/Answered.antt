@@ -1,14 +1,13 @@
 -- A build at a form's row, from its two halves. Where a check of 1 to 7 refuses, it refuses for all, and nothing is altered; where all pass, 8 and 9 and the build behind
 -- them decide, and the needed words are set to 0.
 use mathlib.Core.Bool.{true, false}
-use mathlib.Core.Path.{_≡_, refl, sym, ap, _∙_}
+use mathlib.Core.Path.{_≡_, sym, ap, _∙_}
 use mathlib.Core.List.{List, [], _++_}
 use Prim.Native.Nat.{ℕ, _+_, _≤_}
 use native.Mathlib.Omega.{arith}
 use lib.ListN.{length, drop, replicate, length-drop}
 use lib.Seq.{take-all}
 use Rattle.lineage.specs.Lists.{part, cleared}
-use Rattle.lineage.specs.Index.{Index}
 use Rattle.lineage.specs.Stored.{Form, encode}
 use Rattle.lineage.specs.Calls.{Check, Outcome, refused, answered, outcome, anyApplies, Input, workNeeded, built, lengthOf, buildEarly, buildLate, buildAnswer, buildOutput, buildWork}
 use Rattle.numbers.specs.Regions.{Kept}

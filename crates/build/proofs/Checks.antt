@@ -1,5 +1,5 @@
 -- Checks 1 to 7, in order: where one applies it refuses, and where it does not, the checks behind it decide. Where all pass, all that they ask holds.
-use mathlib.Core.Bool.{Bool, true, false, not, _||_}
+use mathlib.Core.Bool.{Bool, true, false}
 use mathlib.Core.Path.{_≡_, refl, ap, _∙_}
 use mathlib.Core.List.{List, [], _∷_}
 use Prim.Native.Nat.{ℕ, _*_, _≤_, _<_}

@@ -2,23 +2,22 @@
 -- with the stored form of their index: that opens, and every question on it is answered as the edge list says; and it holds d labellings, each the one under its own order.
 use mathlib.Core.Bool.{true, false}
 use mathlib.Core.Logic.{_↔_}
-use mathlib.Core.Path.{_≡_, refl, sym, ap, subst, _∙_}
+use mathlib.Core.Path.{_≡_, refl, sym, ap, _∙_}
 use mathlib.Core.List.{List, [], _∷_, _++_, map, map-map}
 use Prim.Native.Nat.{ℕ, _≤_, _<_}
 use native.Mathlib.Omega.{arith}
-use lib.ListN.{length, getD, take, drop, length-map}
+use lib.ListN.{length, take, drop}
 use lib.Seq.{take-at, drop-at}
-use borrow.Author.Tests.{ltb-false, lt-leb}
+use borrow.Author.Tests.{lt-leb}
 use Rattle.lineage.specs.Lists.{upto, Every}
 use Rattle.lineage.specs.Graph.{Graph, Reaches, condense}
-use Rattle.lineage.specs.Labels.{Order, Labelling, labelling}
+use Rattle.lineage.specs.Labels.{Order, labelling}
 use Rattle.lineage.specs.Index.{Index, indexBy, indexOf}
 use Rattle.lineage.specs.Question.{answer}
 use Rattle.lineage.specs.Stored.{form1, Counts, countsOf, encode, countsIn}
-use Rattle.lineage.specs.Calls.{Check, answered, outcome, Input, orderAt, ordersOf, built, lengthOf, buildEarly, buildLate, buildAnswer, buildOutput, buildWork, indexIn, formChecks, contentsCheck, openAnswer, askEarly, Said, saidOf, askAnswer}
-use Rattle.laws.proofs.Sound.{made-sound, made-long}
-use Rattle.laws.proofs.Decides.{sound-decides}
-use Rattle.laws.proofs.Lists.{table-long, getD-mapped, table-at}
+use Rattle.lineage.specs.Calls.{Check, answered, outcome, Input, orderAt, ordersOf, built, lengthOf, buildEarly, buildLate, buildAnswer, buildOutput, buildWork, indexIn, formChecks, contentsCheck, openAnswer, askEarly, saidOf, askAnswer}
+use Rattle.laws.proofs.Sound.{made-long}
+use Rattle.laws.proofs.Lists.{table-long}
 use Rattle.laws_answers.proofs.Demands.{answer-right}
 use Rattle.orders.proofs.Permutations.{orders-of}
 use Rattle.stored.specs.Fits.{Fits}

@@ -1,6 +1,6 @@
 // The header: twelve 32-bit numbers, checked in the document's order (10, 11, 12) and read; and written.
 ghost use mathlib.Core.Path.{_≡_};
-ghost use Prim.Native.Nat.{_+_, _*_, _^_, _≤_, _<_};
+ghost use Prim.Native.Nat.{_*_, _^_, _≤_, _<_};
 ghost use lib.Dec.{eqb};
 ghost use lib.ListN.{length};
 ghost use Rattle.lineage.specs.Lists.{Every};

@@ -1,8 +1,8 @@
 -- Groups and children of a graph in work memory, as the two passes leave them one after the other: the second reads the places that the first left, and writes
 -- behind them. All windows lie in the needed words, since there are no more groups than vertices.
-use mathlib.Core.Path.{_≡_, refl, sym, ap, _∙_}
+use mathlib.Core.Path.{_≡_, sym, ap, _∙_}
 use mathlib.Core.List.{List}
-use Prim.Native.Nat.{ℕ, _+_, _*_, _≤_, _<_}
+use Prim.Native.Nat.{ℕ, _*_, _≤_, _<_}
 use native.Mathlib.Omega.{arith}
 use lib.ListN.{length, getD}
 use Rattle.lineage.specs.Lists.{joined, part}

@@ -7,12 +7,12 @@ use native.Mathlib.Omega.{arith}
 use lib.ListN.{length, getD, drop}
 use Rattle.lineage.specs.Lists.{upto, joined, part, Every}
 use Rattle.lineage.specs.Numbers.{written}
-use Rattle.lineage.specs.Graph.{groupList, levelsOf}
+use Rattle.lineage.specs.Graph.{levelsOf}
 use Rattle.lineage.specs.Labels.{labelling}
 use Rattle.lineage.specs.Index.{Index, indexBy}
 use Rattle.lineage.specs.Stored.{Form, Counts, offsets, labelNumbers, countsOf, header, encode}
 use Rattle.lineage.specs.Calls.{orderAt, lengthOf}
-use Rattle.laws.proofs.Lists.{upto-low, length-upto, table-long}
+use Rattle.laws.proofs.Lists.{upto-low, table-long}
 use Rattle.laws.proofs.Levels.{levels-long}
 use Rattle.laws.proofs.Labelled.{labelling-sound}
 use Rattle.laws.proofs.Parts.{part-length}
@@ -24,7 +24,7 @@ use Rattle.labelled.specs.Window.{byRankAt, levelsAt, windowSize, groupsBy, chi
 use Rattle.labelled.specs.Fit.{LabelFit}
 use Rattle.labelled.proofs.Again.{levels-fit, levels-beside}
 use Rattle.header.specs.declared.Layout.{Layout}
-use Rattle.header.specs.Header.{counts, layoutBy, headerOf}
+use Rattle.header.specs.Header.{counts, headerOf}
 use Rattle.stored.specs.Fits.{Full}
 use Rattle.header.proofs.Laid.{Bounded}
 use Rattle.stored.proofs.Encoded.{header-fits}

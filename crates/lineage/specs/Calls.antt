@@ -9,7 +9,7 @@ use Rattle.lineage.specs.Lists.{upto, any, among, firstOf, part, cleared
 use Rattle.lineage.specs.Graph.{Graph}
 use Rattle.lineage.specs.Index.{Index, indexOf}
 use Rattle.lineage.specs.Question.{Answer, answer, downstream}
-use Rattle.lineage.specs.Stored.{Form, form1, mostLabellings, headerLength, Counts, countsOf, totalLength, encode, headerAt, countsIn, formOf, isForm, countsFit, offsetsFit, decode}
+use Rattle.lineage.specs.Stored.{Form, mostLabellings, headerLength, Counts, countsOf, totalLength, encode, headerAt, countsIn, formOf, isForm, countsFit, offsetsFit, decode}
 use Rattle.lineage.specs.Sound.{contentsSound}
 
 -- one check: when it applies, the refusal's number, the extra number

@@ -9,11 +9,10 @@ use lib.ListN.{length, getD, set, replicate}
 use Rattle.lineage.specs.Lists.{upto, Every}
 use Rattle.lineage.specs.Graph.{Graph, condense}
 use Rattle.lineage.specs.Labels.{Labelling}
-use Rattle.lineage.specs.Index.{Index, indexOf}
-use Rattle.lineage.specs.Sound.{contentsSound}
-use Rattle.lineage.specs.Question.{answer, downstream}
+use Rattle.lineage.specs.Index.{indexOf}
+use Rattle.lineage.specs.Question.{answer}
 use Rattle.lineage.specs.Stored.{form1, Counts, encode}
-use Rattle.lineage.specs.Calls.{Input, Outcome, refused, answered, Said, buildAnswer, buildOutput, buildWork, openAnswer, askAnswer, askMarks, listAnswer, listOutput}
+use Rattle.lineage.specs.Calls.{Outcome, refused, answered, Said, buildAnswer, openAnswer, askAnswer, askMarks, listAnswer, listOutput}
 
 -- Graph G: n = 6, edges 0-1, 1-2, 2-1, 0-3, 3-4, 2-4, 5-5
 abbrev G : Graph

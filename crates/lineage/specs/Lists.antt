@@ -1,7 +1,7 @@
 -- What the definitions say of lists of numbers; nothing here knows of a graph.
 use mathlib.Core.Bool.{Bool, true, false, _&&_, _||_, cond}
-use mathlib.Core.List.{List, [], _∷_, _++_, map}
-use Prim.Native.Nat.{ℕ, zero, suc, _+_, _*_, min, max}
+use mathlib.Core.List.{List, [], _∷_, _++_}
+use Prim.Native.Nat.{ℕ, zero, suc, _+_, min, max}
 use lib.Dec.{eqb}
 use lib.ListN.{take, drop, replicate}
 

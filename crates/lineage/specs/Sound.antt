@@ -1,7 +1,7 @@
 -- Sound contents (document 01, "Stored form 1": "Opening decides this without trying orders"): the local tests that decide, over the stored
 -- lists alone, whether some edge list and some orders yield an index. That they decide exactly this is a theorem of `laws`.
 use mathlib.Core.Bool.{Bool, true, false, _&&_}
-use mathlib.Core.List.{List, [], _∷_, map}
+use mathlib.Core.List.{List, [], map}
 use Prim.Native.Nat.{ℕ, zero, suc, _-_}
 use lib.Dec.{eqb, leb, ltb}
 use lib.ListN.{length, getD}

@@ -1,7 +1,7 @@
 -- The stored form (document 01, "Stored form 1" and "Bounds"), at a form's width: header, sections, total length; written and read.
-use mathlib.Core.Bool.{Bool, true, false, not, _&&_, _||_, cond}
+use mathlib.Core.Bool.{Bool, _&&_, cond}
 use mathlib.Core.List.{List, [], _∷_, _++_, map}
-use Prim.Native.Nat.{ℕ, zero, suc, _+_, _-_, _*_}
+use Prim.Native.Nat.{ℕ, suc, _+_, _-_, _*_}
 use lib.Dec.{eqb, leb}
 use lib.ListN.{length, getD}
 use Rattle.lineage.specs.Lists.{upto, joined, part, sameList}

@@ -1,9 +1,7 @@
 -- `build::build_form` meets its contract: a refusal of checks 1 to 7 is the answer, and where they pass, that of what comes behind them; the words needed are then set to 0.
 use mathlib.Core.Path.{_≡_, sym, ap, _∙_}
-use Prim.Native.Nat.{ℕ}
 use borrow.Author.Needs.{needs}
 use Rattle.lineage.specs.Calls.{answered, outcome, Input, workNeeded, buildEarly}
-use Rattle.lineage.specs.Stored.{Form}
 use lib.ListN.{length}
 use Rattle.build.specs.Input.{inputOf, formBy}
 use Rattle.build.specs.Answers.{checkedOf}

@@ -1,7 +1,6 @@
 -- `build::early` meets its contract. Each return stands behind the tests of the checks before it: where these do not apply, what the checks behind them come to is what
 -- all come to.
 use mathlib.Core.Path.{_≡_, _∙_}
-use mathlib.Core.List.{List}
 use Prim.Native.Nat.{ℕ, _≤_}
 use native.Mathlib.Omega.{arith}
 use native.Mathlib.Nat.{mul-le-mul}

@@ -1,5 +1,5 @@
 -- `drobisten::drobisten_open` meets its contract: it hands on what `open` gives, whose numbers are of 32 bits.
-use mathlib.Core.Path.{_≡_, sym, ap, _∙_}
+use mathlib.Core.Path.{sym, ap, _∙_}
 use Prim.Native.Nat.{ℕ, _<_}
 use native.Mathlib.Omega.{arith}
 use borrow.Author.Needs.{needs}

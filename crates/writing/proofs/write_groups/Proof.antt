@@ -1,10 +1,9 @@
 -- `writing::write_groups` meets its contract: the header and the five sections, each put at its offset, stand one behind the other. Every section ends where the
 -- next one starts, and so lies in the output before the labels do.
 use mathlib.Core.Path.{_≡_, _∙_}
-use Prim.Native.Nat.{_≤_}
 use native.Mathlib.Omega.{arith}
 use lib.ListN.{length}
-use Rattle.writing.proofs.Groups.{Starts, fit-starts, groups-put}
+use Rattle.writing.proofs.Groups.{fit-starts, groups-put}
 use Rattle.writing.proofs.write_groups.Statement.{statement}
 use Rattle.writing.proofs.write_groups.Tie as tie
 

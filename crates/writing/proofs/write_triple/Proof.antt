@@ -1,5 +1,4 @@
 -- `writing::write_triple` meets its contract: three numbers put one behind the other are the three of them written.
-use native.Mathlib.Omega.{arith}
 use borrow.Author.Needs.{needs}
 use Rattle.writing.proofs.Behind.{triple-put}
 use Rattle.writing.proofs.write_triple.Statement.{statement}
