@@ -1,4 +1,4 @@
--- `header::label_count` meets its contract.
+-- `header::label_count` meets its contract: at the bounds of k and d the product is 4,000,000 at most, and so in no danger of overflow.
 use native.Mathlib.Omega.{arith}
 use native.Mathlib.Nat.{mul-le-mul, mul-le-mul-left}
 use mathlib.Core.Path.{refl}

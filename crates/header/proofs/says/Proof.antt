@@ -1,4 +1,4 @@
--- `header::says` meets its contract.
+-- `header::says` meets its contract: number i is read, within the header, and compared.
 use mathlib.Core.Path.{ap}
 use Prim.Native.Nat.{ℕ}
 use lib.Dec.{eqb}
