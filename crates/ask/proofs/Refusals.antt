@@ -13,9 +13,9 @@ use Rattle.lineage.specs.Stored.{countsIn}
 use Rattle.lineage.specs.Sound.{contentsSound}
 use Rattle.lineage.specs.Question.{answer}
 use Rattle.lineage.specs.Calls.{Check, check, Outcome, refused, answered, outcome, anyApplies, indexIn, Said, saidOf, askAnswer, askMarks}
-use Rattle.header.specs.declared.Layout.{Layout}
-use Rattle.header.specs.Header.{headerChecks, layoutIn, Laid}
-use Rattle.header.proofs.Checks.{refused-first, passed-first, refused-applies, passed-applies}
+use Rattle.stored_header.specs.declared.Layout.{Layout}
+use Rattle.stored_header.specs.Header.{headerChecks, layoutIn, Laid}
+use Rattle.stored_header.proofs.Checks.{refused-first, passed-first, refused-applies, passed-applies}
 use Rattle.ask.specs.declared.question.Reply.{Reply}
 use Rattle.ask.specs.Replies.{answerBy}
 use Rattle.ask.specs.Asked.{lateChecks, lateAnswer, lateMarks}

@@ -19,10 +19,10 @@ use Rattle.numbers.proofs.Numbers.{numbers-at}
 use Rattle.stored.specs.Sections.{labelsIn}
 use Rattle.stored.proofs.Sections.{labels-long}
 use Rattle.ask.specs.declared.question.Reply.{Reply}
-use Rattle.walk.specs.Fit.{groupsIn, netIn, Fit}
+use Rattle.ask_walk.specs.Fit.{groupsIn, netIn, Fit}
 use Rattle.ask.specs.Replies.{answerBy}
-use Rattle.walk.proofs.Counting.{Gains, ones-low, open-gains, open-deciding}
-use Rattle.walk.proofs.Nets.{net-spot, net-within}
+use Rattle.ask_walk.proofs.Counting.{Gains, ones-low, open-gains, open-deciding}
+use Rattle.ask_walk.proofs.Nets.{net-spot, net-within}
 
 -- a labelling's number is at most their count
 first-from : (p : Labelling → Bool) (n : ℕ) (ls : List Labelling) → firstFrom (suc n) p ls ≤ n + length ls

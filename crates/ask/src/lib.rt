@@ -2,13 +2,13 @@
 ghost use mathlib.Core.Path.{_≡_};
 ghost use lib.ListN.{length};
 ghost use Rattle.lineage.specs.Calls.{askAnswer, askMarks};
-ghost use Rattle.header.specs.Header.{Laid};
+ghost use Rattle.stored_header.specs.Header.{Laid};
 ghost use Rattle.ask.specs.Asked.{askedOf, lateAnswer, lateMarks};
 
 pub mod question;
 
-use header::Header;
-use header::Layout;
+use stored_header::Header;
+use stored_header::Layout;
 
 // An answer: yes or no, the reason 1 to 6, and the groups opened; or a refusal with its number and its extra number.
 pub enum Asked {
@@ -79,7 +79,7 @@ pub fn ask(index: &[u8], source: u32, target: u32, marks: &mut [u8]) -> Asked
     ensures { λ r. ⌜ askedOf r ≡ askAnswer (now (index .entry)) source target (length (now (marks .entry))) ⌝ }
     ensures { λ _. ⌜ now (marks .exit) ≡ askMarks (now (index .entry)) source target (now (marks .entry)) ⌝ }
 {
-    match header::read_header(index) {
+    match stored_header::read_header(index) {
         Header::Refused(number, extra) => Asked::Refused { number, extra },
         Header::Passed(l) => ask_laid(index, l, source as usize, target as usize, marks),
     }

@@ -6,11 +6,11 @@ ghost use lib.ListN.{length, getD, replicate};
 ghost use Rattle.lineage.specs.Numbers.{numAt};
 ghost use Rattle.lineage.specs.Question.{between, answer};
 ghost use Rattle.stored.specs.Sections.{indexAt};
-ghost use Rattle.places.specs.Lent.{Lent};
-ghost use Rattle.walk.specs.Fit.{groupsIn, Fit};
+ghost use Rattle.sound_places.specs.Lent.{Lent};
+ghost use Rattle.ask_walk.specs.Fit.{groupsIn, Fit};
 ghost use Rattle.ask.specs.Replies.{answerBy};
-use header::Layout;
-use walk::Seen;
+use stored_header::Layout;
+use ask_walk::Seen;
 
 // Yes or no, the reason, the number of the labelling that decided (0 where none did), and the number of groups opened.
 pub struct Reply {
@@ -77,7 +77,7 @@ pub fn decide(
     if x == t {
         return plain(true, 1, 0);
     }
-    let inner = intervals::inner_by(labels, w, k, d, x, t);
+    let inner = ask_intervals::inner_by(labels, w, k, d, x, t);
     if 0 < inner {
         return plain(true, 2, inner);
     }
@@ -85,11 +85,11 @@ pub fn decide(
     if level <= numbers::num(levels, w, t) {
         return plain(false, 3, 0);
     }
-    let outer = intervals::outer_by(labels, w, k, d, x, t);
+    let outer = ask_intervals::outer_by(labels, w, k, d, x, t);
     if 0 < outer {
         return plain(false, 4, outer);
     }
-    let a = walk::open_group(
+    let a = ask_walk::open_group(
         groups,
         levels,
         starts,
@@ -126,8 +126,8 @@ pub fn question(
     let w = l.width;
     let n = l.n;
     let k = l.k;
-    let x = places::place_of(groups, w, n, k, numbers::num(names, w, u));
-    let t = places::place_of(groups, w, n, k, numbers::num(names, w, v));
+    let x = sound_places::place_of(groups, w, n, k, numbers::num(names, w, u));
+    let t = sound_places::place_of(groups, w, n, k, numbers::num(names, w, v));
     decide(
         groups,
         levels,

@@ -11,9 +11,9 @@ use Rattle.lineage.specs.Lists.{part, cleared}
 use Rattle.lineage.specs.Stored.{Form, encode}
 use Rattle.lineage.specs.Calls.{Check, Outcome, refused, answered, outcome, anyApplies, Input, workNeeded, built, lengthOf, buildEarly, buildLate, buildAnswer, buildOutput, buildWork}
 use Rattle.numbers.specs.Regions.{Kept}
-use Rattle.header.specs.declared.Row.{Row}
-use Rattle.header.proofs.Checks.{refused-first, passed-first, refused-applies, passed-applies}
-use Rattle.indexed.specs.Written.{writtenAs}
+use Rattle.stored_header.specs.declared.Row.{Row}
+use Rattle.stored_header.proofs.Checks.{refused-first, passed-first, refused-applies, passed-applies}
+use Rattle.build_indexed.specs.Written.{writtenAs}
 use Rattle.build.specs.Input.{boundsOf, formBy, RowFit}
 use Rattle.build.specs.Admitted.{Admitted}
 use Rattle.build.specs.Answers.{LateBuilt}

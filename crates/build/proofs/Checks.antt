@@ -13,8 +13,8 @@ use Rattle.lineage.specs.Graph.{Graph}
 use Rattle.lineage.specs.Stored.{Form}
 use Rattle.lineage.specs.Calls.{Check, Outcome, refused, answered, refuse, outcome, Input, badEdge, workNeeded, buildEarly}
 use Rattle.laws.proofs.Tests.{or-left, or-right, or-false-left, or-false-right}
-use Rattle.orders.proofs.First.{first-other, any-first}
-use Rattle.orders.proofs.Edges.{ends-of}
+use Rattle.build_orders.proofs.First.{first-other, any-first}
+use Rattle.build_orders.proofs.Edges.{ends-of}
 use Rattle.build.specs.Admitted.{Admitted}
 
 -- one of the numbers below n passes a test, or none does, by the first found

@@ -16,13 +16,13 @@ use Rattle.lineage.specs.Calls.{refused, answered, Input, orderAt, ordersOf, ba
 use Rattle.laws.proofs.Lists.{in-upto, any-none}
 use Rattle.numbers.specs.Regions.{Kept}
 use Rattle.numbers.proofs.Regions.{kept-then, kept-wider}
-use Rattle.orders.proofs.Permutations.{order-of}
-use Rattle.labelled.specs.Window.{windowSize}
-use Rattle.header.specs.declared.Layout.{Layout}
-use Rattle.header.specs.Header.{counts, layoutBy}
-use Rattle.indexed.specs.Memory.{labelsFrom, condensedIn, CondensedFit, CondensedFound, Ready}
-use Rattle.indexed.specs.Written.{writtenAs}
-use Rattle.indexed.proofs.Written.{index-total, header-small}
+use Rattle.build_orders.proofs.Permutations.{order-of}
+use Rattle.build_labelled.specs.Window.{windowSize}
+use Rattle.stored_header.specs.declared.Layout.{Layout}
+use Rattle.stored_header.specs.Header.{counts, layoutBy}
+use Rattle.build_indexed.specs.Memory.{labelsFrom, condensedIn, CondensedFit, CondensedFound, Ready}
+use Rattle.build_indexed.specs.Written.{writtenAs}
+use Rattle.build_indexed.proofs.Written.{index-total, header-small}
 use Rattle.build.specs.Input.{boundsOf}
 use Rattle.build.specs.Admitted.{Admitted}
 use Rattle.build.specs.Answers.{LateBuilt}

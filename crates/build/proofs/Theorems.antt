@@ -19,9 +19,9 @@ use Rattle.lineage.specs.Calls.{Check, answered, outcome, Input, orderAt, order
 use Rattle.laws.proofs.Sound.{made-long}
 use Rattle.laws.proofs.Lists.{table-long}
 use Rattle.laws_answers.proofs.Demands.{answer-right}
-use Rattle.orders.proofs.Permutations.{orders-of}
+use Rattle.build_orders.proofs.Permutations.{orders-of}
 use Rattle.stored.specs.Fits.{Fits}
-use Rattle.header.proofs.Checks.{passed-applies}
+use Rattle.stored_header.proofs.Checks.{passed-applies}
 use Rattle.stored.proofs.Encoded.{counts-read, encode-long, index-encode}
 use Rattle.open.proofs.Fits.{form1-wide, bounds-kept, yielded-fits}
 use Rattle.open.proofs.Theorem.{built-opens}

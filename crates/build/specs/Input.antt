@@ -4,8 +4,8 @@ use Prim.Native.Nat.{ℕ, _^_, _≤_, _<_}
 use Rattle.lineage.specs.Numbers.{Width}
 use Rattle.lineage.specs.Stored.{Form}
 use Rattle.lineage.specs.Calls.{Input}
-use Rattle.orders.specs.Input.{graphOf}
-use Rattle.header.specs.declared.Row.{Row}
+use Rattle.build_orders.specs.Input.{graphOf}
+use Rattle.stored_header.specs.declared.Row.{Row}
 
 -- an edge list and an order list of d orders
 abbrev pub inputOf : ℕ → (sources targets : List ℕ) → ℕ → List ℕ → Input

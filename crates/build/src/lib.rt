@@ -1,13 +1,13 @@
 // Build: from an edge list and some orders to exactly the bytes of the stored form, in lent memory.
-use header::Row;
+use stored_header::Row;
 ghost use mathlib.Core.Path.{_≡_};
 ghost use Prim.Native.Nat.{_^_, _≤_, _<_};
 ghost use lib.ListN.{length};
 ghost use Rattle.lineage.specs.Numbers.{Width};
 ghost use Rattle.lineage.specs.Stored.{form1};
 ghost use Rattle.lineage.specs.Calls.{workNeeded, buildEarly, buildAnswer, buildOutput, buildWork, outcome};
-ghost use Rattle.orders.specs.Input.{graphOf};
-ghost use Rattle.indexed.specs.Written.{writtenAs};
+ghost use Rattle.build_orders.specs.Input.{graphOf};
+ghost use Rattle.build_indexed.specs.Written.{writtenAs};
 ghost use Rattle.build.specs.Input.{inputOf, boundsOf, formBy, RowFit};
 ghost use Rattle.build.specs.Answers.{checkedOf, builtOf, LateBuilt};
 ghost use Rattle.build.specs.Admitted.{Admitted};
@@ -57,7 +57,7 @@ fn early(
     if work < needed {
         return Checked::Refused(6, needed as u32);
     }
-    let bad = orders::bad_edge(n, sources, targets);
+    let bad = build_orders::bad_edge(n, sources, targets);
     if bad < edges {
         return Checked::Refused(7, bad as u32);
     }
@@ -88,22 +88,22 @@ fn late(
     ensures { λ r. ⌜ LateBuilt (writtenAs form width) (inputOf n (now (sources .entry)) (now (targets .entry)) d (now (orders .entry))) (now (work .entry)) (now (out .entry)) (builtOf r) (now (work .exit)) (now (out .exit)) ⌝ }
 {
     let edges = sources.len();
-    let bad = orders::bad_order(orders, d, n, work, 0);
+    let bad = build_orders::bad_order(orders, d, n, work, 0);
     if bad < d {
         return Built::Refused {
             number: 8,
             extra: bad as u32,
         };
     }
-    let found = indexed::condensed(n, sources, targets, work);
-    let l = header::lay_out(width, n, found.k, found.c, d);
+    let found = build_indexed::condensed(n, sources, targets, work);
+    let l = stored_header::lay_out(width, n, found.k, found.c, d);
     if out.len() < l.total {
         return Built::Refused {
             number: 9,
             extra: l.total as u32,
         };
     }
-    indexed::write_index(out, form, l, edges, orders, work);
+    build_indexed::write_index(out, form, l, edges, orders, work);
     Built::Total(l.total as u32)
 }
 
@@ -159,7 +159,7 @@ pub fn build(
 {
     build_form(
         1,
-        header::form_row(1),
+        stored_header::form_row(1),
         n as usize,
         sources,
         targets,

@@ -6,11 +6,11 @@ use native.Mathlib.Omega.{arith}
 use lib.ListN.{getD}
 use Rattle.lineage.specs.Stored.{sizes, offsets, countsIn, stretch}
 use Rattle.laws.proofs.Parts.{part-length}
-use Rattle.header.specs.declared.Layout.{Layout}
-use Rattle.header.specs.Header.{layoutIn, Laid}
+use Rattle.stored_header.specs.declared.Layout.{Layout}
+use Rattle.stored_header.specs.Header.{layoutIn, Laid}
 use Rattle.stored.specs.Sections.{Section}
 use Rattle.stored.proofs.Offsets.{offsets-within}
-use Rattle.places.proofs.Lent.{Six}
+use Rattle.sound_places.proofs.Lent.{Six}
 
 whole-at : (b : List ℕ) → Laid b (layoutIn b) → (i : ℕ) → i < 6 → Section b (layoutIn b) i (stretch (layoutIn b .width) (countsIn b) b i)
 unfolding stretch

@@ -24,10 +24,10 @@ use Rattle.laws.proofs.Lists.{those-same, upto-low}
 use Rattle.laws.proofs.Grouped.{name-in, group-name, place-low, name-of-place, place-of-name, leads-exactly}
 use Rattle.laws.proofs.Inverse.{e-most}
 use Rattle.numbers.proofs.Cleared.{cleared-long, cleared-at, cleared-past}
-use Rattle.sweep.specs.Sweep.{marked, Reached}
+use Rattle.reach_sweep.specs.Sweep.{marked, Reached}
 use Rattle.list.specs.Listing.{isListed, listed}
 use Rattle.list.specs.Marks.{firstLabels, rankIn, sweptIn, startMarks, reachMarks}
-use Rattle.sweep.proofs.Swept.{swept-long, swept-exactly, swept-past}
+use Rattle.reach_sweep.proofs.Swept.{swept-long, swept-exactly, swept-past}
 
 -- two tests that hold of the same are one
 same-test : (a b : Bool) → (a ≡ true) ↔ (b ≡ true) → a ≡ b

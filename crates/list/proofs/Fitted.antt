@@ -21,15 +21,15 @@ use Rattle.laws.proofs.Inverse.{e-most}
 use Rattle.laws.proofs.Lists.{table-at}
 use Rattle.numbers.specs.Regions.{Part}
 use Rattle.numbers.proofs.Numbers.{room, numbers-long, numbers-at}
-use Rattle.header.specs.declared.Layout.{Layout}
+use Rattle.stored_header.specs.declared.Layout.{Layout}
 use Rattle.stored.specs.Sections.{childrenIn, labellingIn, triplesOf, placesOf, labelsIn, indexFrom, indexAt}
 use Rattle.stored.proofs.Sections.{children-long, e-at, labels-long}
 use Rattle.sound_groups.specs.Fit.{Holds}
-use Rattle.places.specs.Lent.{Lent}
-use Rattle.places.proofs.Lent.{Six, index-at, lent}
-use Rattle.sweep.specs.Fit.{Spots, Ranked}
+use Rattle.sound_places.specs.Lent.{Lent}
+use Rattle.sound_places.proofs.Lent.{Six, index-at, lent}
+use Rattle.reach_sweep.specs.Fit.{Spots, Ranked}
 use Rattle.list.specs.Fit.{Names, SoundBytes}
-use Rattle.sweep.specs.Sweep.{swept}
+use Rattle.reach_sweep.specs.Sweep.{swept}
 use Rattle.list.specs.Marks.{firstLabels, rankIn, sweptIn, startMarks, reachMarks}
 use Rattle.list.proofs.Downstream.{first-sound}
 

@@ -10,9 +10,9 @@ use Rattle.lineage.specs.Numbers.{numbers}
 use Rattle.lineage.specs.Index.{Index}
 use Rattle.lineage.specs.Question.{inOwnList, downstream}
 use Rattle.lineage.specs.Calls.{indexIn}
-use Rattle.header.specs.declared.Layout.{Layout}
+use Rattle.stored_header.specs.declared.Layout.{Layout}
 use Rattle.stored.specs.Sections.{Section}
-use Rattle.places.proofs.Lent.{Six}
+use Rattle.sound_places.proofs.Lent.{Six}
 use Rattle.list.specs.Fit.{Names, SoundBytes}
 use Rattle.list.specs.Listing.{listed, namesAlone}
 use Rattle.list.specs.Marks.{reachMarks}

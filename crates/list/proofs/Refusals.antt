@@ -14,10 +14,10 @@ use Rattle.lineage.specs.Sound.{contentsSound}
 use Rattle.lineage.specs.Question.{downstream}
 use Rattle.lineage.specs.Calls.{Check, check, Outcome, refused, answered, outcome, anyApplies, indexIn, listAnswer, listMarks, listOutput}
 use Rattle.numbers.proofs.Cleared.{cleared-long, cleared-twice}
-use Rattle.header.specs.declared.Layout.{Layout}
-use Rattle.header.specs.Header.{headerChecks, layoutIn, Laid}
-use Rattle.header.proofs.Checks.{refused-first, passed-first, refused-applies, passed-applies}
-use Rattle.header.proofs.Laid.{header-laid}
+use Rattle.stored_header.specs.declared.Layout.{Layout}
+use Rattle.stored_header.specs.Header.{headerChecks, layoutIn, Laid}
+use Rattle.stored_header.proofs.Checks.{refused-first, passed-first, refused-applies, passed-applies}
+use Rattle.stored_header.proofs.Laid.{header-laid}
 use Rattle.open.proofs.Contents.{n-is}
 use Rattle.list.specs.declared.Listed.{Listed}
 use Rattle.list.specs.declared.Listed.the-variants.{Count, Refused}

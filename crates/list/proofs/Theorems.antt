@@ -26,7 +26,7 @@ use Rattle.laws_answers.proofs.Built.{reached-low}
 use Rattle.laws_answers.proofs.Demands.{downstream-rises, downstream-down}
 use Rattle.numbers.proofs.Numbers.{numbers-long}
 use Rattle.stored.specs.Fits.{Fits}
-use Rattle.header.proofs.Checks.{passed-first, passed-applies}
+use Rattle.stored_header.proofs.Checks.{passed-first, passed-applies}
 use Rattle.stored.proofs.Encoded.{index-encode}
 use Rattle.open.specs.Yields.{Yields}
 use Rattle.open.proofs.Fits.{form1-wide, yielded-fits}

@@ -5,8 +5,8 @@ use mathlib.Core.List.{List}
 use Prim.Native.Nat.{ℕ, _<_}
 use Rattle.lineage.specs.Numbers.{numAt}
 use Rattle.lineage.specs.Sound.{contentsSound}
-use Rattle.header.specs.declared.Layout.{Layout}
-use Rattle.header.specs.Header.{Laid}
+use Rattle.stored_header.specs.declared.Layout.{Layout}
+use Rattle.stored_header.specs.Header.{Laid}
 use Rattle.sound_groups.specs.Fit.{Holds}
 
 -- the names of n vertices' groups, each with its mark among so many

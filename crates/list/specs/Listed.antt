@@ -4,8 +4,8 @@ use mathlib.Core.List.{List}
 use Prim.Native.Nat.{ℕ}
 use lib.ListN.{length}
 use Rattle.lineage.specs.Calls.{Outcome, refused, answered, outcome, listAnswer, listMarks, listOutput}
-use Rattle.header.specs.declared.Layout.{Layout}
-use Rattle.header.specs.Header.{layoutIn, headerChecks}
+use Rattle.stored_header.specs.declared.Layout.{Layout}
+use Rattle.stored_header.specs.Header.{layoutIn, headerChecks}
 use Rattle.list.specs.declared.Listed.{Listed}
 use Rattle.list.specs.declared.Listed.the-variants.{Count, Refused}
 

@@ -6,7 +6,7 @@ use Rattle.lineage.specs.Lists.{cleared}
 use Rattle.lineage.specs.Labels.{Labelling}
 use Rattle.lineage.specs.Index.{Index}
 use Rattle.lineage.specs.Question.{placeIn}
-use Rattle.sweep.specs.Sweep.{swept}
+use Rattle.reach_sweep.specs.Sweep.{swept}
 
 -- the first labelling; where there is none, an empty one
 abbrev pub firstLabels : List Labelling → Labelling

@@ -10,8 +10,8 @@ ghost use Rattle.list.specs.Listed.{listedOf, Allowed, Passes};
 pub mod listing;
 pub mod reach;
 
-use header::Header;
-use header::Layout;
+use stored_header::Header;
+use stored_header::Layout;
 use numbers::clear_marks;
 use open::contents_sound;
 use stored::parts;
@@ -83,7 +83,7 @@ pub fn list(index: &[u8], vertex: u32, marks: &mut [u8], out: &mut [u32]) -> Lis
     ensures { λ _. ⌜ now (marks .exit) ≡ listMarks (now (index .entry)) vertex (now (marks .entry)) ⌝ }
     ensures { λ _. ⌜ now (out .exit) ≡ listOutput (now (index .entry)) vertex (length (now (marks .entry))) (now (out .entry)) ⌝ }
 {
-    match header::read_header(index) {
+    match stored_header::read_header(index) {
         Header::Refused(number, extra) => Listed::Refused { number, extra },
         Header::Passed(l) => list_laid(index, l, vertex as usize, marks, out),
     }

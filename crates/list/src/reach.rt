@@ -6,9 +6,9 @@ ghost use Rattle.lineage.specs.Lists.{cleared};
 ghost use Rattle.lineage.specs.Calls.{indexIn};
 ghost use Rattle.list.specs.Fit.{SoundBytes};
 ghost use Rattle.list.specs.Marks.{rankIn, sweptIn, reachMarks};
-use header::Layout;
+use stored_header::Layout;
 use numbers::num;
-use places::place_of;
+use sound_places::place_of;
 use stored::parts;
 
 // The rank of vertex u's group in the first labelling: e stands last in the triple of its place.
@@ -44,7 +44,7 @@ pub fn sweep_down(index: &[u8], l: Layout, marks: &mut [u8], top: usize)
     let children = parts::children(index, l);
     let labels = parts::labels(index, l);
     let places = parts::by_rank(labels, w, k, d, 0);
-    sweep::sweep(groups, starts, children, places, marks, w, k, c, top);
+    reach_sweep::sweep(groups, starts, children, places, marks, w, k, c, top);
 }
 
 // Marks the groups that vertex u's group reaches, on marks that are 0 below n.

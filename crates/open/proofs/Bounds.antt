@@ -13,8 +13,8 @@ use Rattle.lineage.specs.Stored.{form1, Counts, startsFrom, sections, countsOf,
 use Rattle.laws.specs.Sound.{Sound}
 use Rattle.laws.proofs.Starts.{starts-long}
 use Rattle.numbers.proofs.Written.{written-long}
-use Rattle.header.specs.declared.Layout.{Layout}
-use Rattle.header.specs.Header.{Laid}
+use Rattle.stored_header.specs.declared.Layout.{Layout}
+use Rattle.stored_header.specs.Header.{Laid}
 use Rattle.stored.proofs.Offsets.{offsets-last}
 use Rattle.stored.proofs.LabelNumbers.{labels-long}
 use Rattle.stored.proofs.Encoded.{counts-again}

@@ -12,9 +12,9 @@ use Rattle.lineage.specs.Stored.{Form, form1, Counts, headerAt, countsIn, formO
 use Rattle.lineage.specs.Sound.{contentsSound}
 use Rattle.lineage.specs.Calls.{Outcome, refused, answered, refuse, outcome, openAnswer, openMarks}
 use Rattle.laws.proofs.Tests.{neither}
-use Rattle.header.specs.declared.Layout.{Layout}
-use Rattle.header.proofs.Checked.{all-right}
-use Rattle.header.specs.Header.{layoutIn, headerChecks, Laid}
+use Rattle.stored_header.specs.declared.Layout.{Layout}
+use Rattle.stored_header.proofs.Checked.{all-right}
+use Rattle.stored_header.specs.Header.{layoutIn, headerChecks, Laid}
 use Rattle.open.specs.Yields.{HeaderRight}
 use Rattle.open.specs.Opened.{lateAnswer, lateMarks}
 use Rattle.open.proofs.Contents.{n-is, k-is, c-is, d-is}

@@ -9,8 +9,8 @@ use Rattle.lineage.specs.Numbers.{numbers}
 use Rattle.lineage.specs.Index.{Index}
 use Rattle.lineage.specs.Stored.{countsIn, section}
 use Rattle.lineage.specs.Sound.{startsPass, groupsPass, labelsPass, sound, contentsSound}
-use Rattle.header.specs.declared.Layout.{Layout}
-use Rattle.header.specs.Header.{Laid}
+use Rattle.stored_header.specs.declared.Layout.{Layout}
+use Rattle.stored_header.specs.Header.{Laid}
 use Rattle.stored.specs.Sections.{Section, childrenIn, labelsIn, indexFrom}
 use Rattle.stored.proofs.Sections.{decode-is}
 

@@ -22,9 +22,9 @@ use Rattle.laws.proofs.Tests.{both}
 use Rattle.laws.proofs.Starts.{pass-laid, rows-joined}
 use Rattle.numbers.proofs.Numbers.{numbers-long}
 use Rattle.numbers.proofs.Written.{Bytes}
-use Rattle.header.specs.Header.{layoutIn}
+use Rattle.stored_header.specs.Header.{layoutIn}
 use Rattle.stored.specs.Fits.{Fits}
-use Rattle.header.proofs.Laid.{header-laid}
+use Rattle.stored_header.proofs.Laid.{header-laid}
 use Rattle.stored.proofs.Encoded.{counts-read}
 use Rattle.stored.proofs.Decoded.{encode-decode}
 use Rattle.open.specs.Yields.{Yields, HeaderRight}

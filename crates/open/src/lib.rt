@@ -7,12 +7,12 @@ ghost use Rattle.lineage.specs.Lists.{cleared};
 ghost use Rattle.lineage.specs.Numbers.{numbers};
 ghost use Rattle.lineage.specs.Sound.{startsPass, sound, contentsSound};
 ghost use Rattle.lineage.specs.Calls.{openAnswer, openMarks};
-ghost use Rattle.header.specs.Header.{Laid};
+ghost use Rattle.stored_header.specs.Header.{Laid};
 ghost use Rattle.stored.specs.Sections.{indexFrom};
 ghost use Rattle.open.specs.Parts.{Parts};
 ghost use Rattle.open.specs.Opened.{openedOf, lateAnswer, lateMarks};
-use header::Header;
-use header::Layout;
+use stored_header::Header;
+use stored_header::Layout;
 use numbers::clear_marks;
 use sound_groups::groups_pass;
 use sound_labels::labels_sound;
@@ -116,7 +116,7 @@ pub fn open(index: &[u8], marks: &mut [u8]) -> Opened
     ensures { λ r. ⌜ openedOf r ≡ openAnswer (now (index .entry)) (length (now (marks .entry))) ⌝ }
     ensures { λ _. ⌜ now (marks .exit) ≡ openMarks (now (index .entry)) (now (marks .entry)) ⌝ }
 {
-    match header::read_header(index) {
+    match stored_header::read_header(index) {
         Header::Refused(number, extra) => Opened::Refused { number, extra },
         Header::Passed(l) => open_laid(index, l, marks),
     }

@@ -19,11 +19,11 @@ use Rattle.laws.proofs.Starts.{starts-long, rows-read}
 use Rattle.numbers.specs.Put.{put}
 use Rattle.numbers.proofs.Put.{put-start}
 use Rattle.numbers.proofs.Written.{written-long, num-front, written-at, numbers-written}
-use Rattle.header.specs.Header.{layoutIn, offsetsIn, headerChecks, Laid}
+use Rattle.stored_header.specs.Header.{layoutIn, offsetsIn, headerChecks, Laid}
 use Rattle.stored.specs.Fits.{Fits}
-use Rattle.header.proofs.Forms.{Within, form-within}
-use Rattle.header.proofs.Checked.{all-right}
-use Rattle.header.proofs.Laid.{Bounded, fit-bounds, header-laid}
+use Rattle.stored_header.proofs.Forms.{Within, form-within}
+use Rattle.stored_header.proofs.Checked.{all-right}
+use Rattle.stored_header.proofs.Laid.{Bounded, fit-bounds, header-laid}
 use Rattle.stored.proofs.LabelNumbers.{labels-long, labels-read}
 use Rattle.stored.proofs.Offsets.{lengths, offsets-part, offsets-last, putSections, sections-put}
 

@@ -7,8 +7,8 @@ use lib.ListN.{length, getD, take, drop}
 use Rattle.lineage.specs.Lists.{part}
 use Rattle.lineage.specs.Stored.{sizes, stretch}
 use Rattle.laws.proofs.Parts.{part-length}
-use Rattle.header.specs.declared.Layout.{Layout}
-use Rattle.header.specs.Header.{layoutIn, offsetsOf, Laid}
+use Rattle.stored_header.specs.declared.Layout.{Layout}
+use Rattle.stored_header.specs.Header.{layoutIn, offsetsOf, Laid}
 use Rattle.stored.specs.Sections.{Section}
 
 -- the numbers in section i of a layout

@@ -10,7 +10,7 @@ use Rattle.lineage.specs.Index.{Index}
 use Rattle.lineage.specs.Numbers.{numAt, numbers}
 use Rattle.lineage.specs.Stored.{sizes, countsIn, stretch, rowAt}
 use Rattle.numbers.specs.Regions.{Part}
-use Rattle.header.specs.declared.Layout.{Layout}
+use Rattle.stored_header.specs.declared.Layout.{Layout}
 
 -- r is section i of the bytes, whole
 pub record Section (b : List ℕ) (l : Layout) (i : ℕ) (r : List ℕ) : Type 0 where

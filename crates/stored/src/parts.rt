@@ -1,10 +1,10 @@
 // Each section as its own stretch of the stored bytes: a part of the lent index. So are the two halves of a labelling and one group's children.
-use header::Layout;
-use header::label_count;
+use stored_header::Layout;
+use stored_header::label_count;
 ghost use Prim.Native.Nat.{_+_, _*_, _≤_, _<_};
 ghost use lib.ListN.{length};
 ghost use Rattle.lineage.specs.Numbers.{Width, numAt};
-ghost use Rattle.header.specs.Header.{Laid};
+ghost use Rattle.stored_header.specs.Header.{Laid};
 ghost use Rattle.numbers.specs.Regions.{Part};
 ghost use Rattle.stored.specs.Sections.{Section, ChildrenOf};
 

@@ -2,7 +2,7 @@
 // here; what is compared outside is the call itself.
 use build::Built;
 use list::Listed;
-use run::MOST_OUTPUT;
+use text_run::MOST_OUTPUT;
 
 // A count, or a refusal with its number and its extra number.
 #[repr(C)]
@@ -64,5 +64,5 @@ pub extern "C" fn trial_build(
 
 #[no_mangle]
 pub extern "C" fn trial_run(text: &[u8], out: &mut [u8; MOST_OUTPUT]) -> usize {
-    run::run(text, out)
+    text_run::run(text, out)
 }

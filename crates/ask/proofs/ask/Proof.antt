@@ -1,8 +1,8 @@
 -- `ask::ask` meets its contract: a header that is refused refuses the question, and after a header that passes the late checks decide.
 use mathlib.Core.Path.{sym, ap, _∙_}
 use borrow.Author.Needs.{needs}
-use Rattle.header.specs.Header.{headerOutcome}
-use Rattle.header.proofs.Laid.{header-laid}
+use Rattle.stored_header.specs.Header.{headerOutcome}
+use Rattle.stored_header.proofs.Laid.{header-laid}
 use Rattle.ask.proofs.Refusals.{refused-header, refused-marks, passed-header, passed-marks}
 use Rattle.ask.proofs.ask.Statement.{statement}
 use Rattle.ask.proofs.ask.Tie as tie

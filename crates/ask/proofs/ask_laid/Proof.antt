@@ -5,7 +5,7 @@ use borrow.Author.Needs.{needs}
 use borrow.Author.Tests.{not-true, not-false}
 use Rattle.lineage.specs.Index.{Index}
 use Rattle.lineage.specs.Question.{answer}
-use Rattle.places.proofs.Lent.{Six, index-at, lent}
+use Rattle.sound_places.proofs.Lent.{Six, index-at, lent}
 use Rattle.ask.proofs.Refusals.{late-marks, late-source, late-target, late-contents, front-cleared, front-long, late-answer}
 use Rattle.ask.proofs.ask_laid.Statement.{statement}
 use Rattle.ask.proofs.ask_laid.Tie as tie

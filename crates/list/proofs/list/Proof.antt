@@ -1,7 +1,7 @@
 -- `list::list` meets its contract: the header refuses, or what follows it does.
 use mathlib.Core.Path.{sym, ap, _∙_}
 use borrow.Author.Needs.{needs}
-use Rattle.header.specs.Header.{headerOutcome}
+use Rattle.stored_header.specs.Header.{headerOutcome}
 use Rattle.list.proofs.Refusals.{allowed-header}
 use Rattle.list.proofs.list.Statement.{statement}
 use Rattle.list.proofs.list.Tie as tie

@@ -4,7 +4,7 @@ use native.Mathlib.Omega.{arith}
 use borrow.Author.Needs.{needs}
 use borrow.Author.Tests.{not-true, not-false}
 use Rattle.numbers.proofs.Cleared.{cleared-again}
-use Rattle.header.proofs.Laid.{header-laid}
+use Rattle.stored_header.proofs.Laid.{header-laid}
 use Rattle.list.proofs.Refusals.{allowed-marks, allowed-vertex, allowed-contents, allowed-cleared}
 use Rattle.list.proofs.list_laid.Statement.{statement}
 use Rattle.list.proofs.list_laid.Tie as tie

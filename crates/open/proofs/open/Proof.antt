@@ -1,8 +1,8 @@
 -- `open::open` meets its contract: the header's refusals come first, and where it passes the rest is left to 13 and 15.
 use mathlib.Core.Path.{sym, ap, _∙_}
 use borrow.Author.Needs.{needs}
-use Rattle.header.specs.Header.{headerOutcome}
-use Rattle.header.proofs.Laid.{header-laid}
+use Rattle.stored_header.specs.Header.{headerOutcome}
+use Rattle.stored_header.proofs.Laid.{header-laid}
 use Rattle.open.proofs.Checks.{header-refused, header-keeps, header-passed, header-marks}
 use Rattle.open.proofs.open.Statement.{statement}
 use Rattle.open.proofs.open.Tie as tie

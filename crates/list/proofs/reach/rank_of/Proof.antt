@@ -3,8 +3,8 @@ use Prim.Native.Nat.{_<_}
 use native.Mathlib.Omega.{arith}
 use borrow.Author.Needs.{needs}
 use Rattle.numbers.proofs.Numbers.{room}
-use Rattle.places.proofs.Vertices.{list-rises, list-low, name-listed, vertex-low, vertex-placed}
-use Rattle.places.proofs.Lent.{Six, lent}
+use Rattle.sound_places.proofs.Vertices.{list-rises, list-low, name-listed, vertex-low, vertex-placed}
+use Rattle.sound_places.proofs.Lent.{Six, lent}
 use Rattle.list.proofs.Contents.{stretchOf, with-names}
 use Rattle.list.proofs.Fitted.{rank-read, rank-is}
 use Rattle.list.proofs.reach.rank_of.Statement.{statement}

@@ -1,0 +1,173 @@
+-- From pass to pass. The sequence lies between the two areas, and each pass reads one area and writes the other, so the sequence and the table of places are as
+-- they were, and each pass finds what the one before laid out.
+use mathlib.Core.Path.{_≡_, sym, ap, _∙_, subst}
+use mathlib.Core.List.{List}
+use Prim.Native.Nat.{ℕ, _+_, _≤_}
+use native.Mathlib.Omega.{arith}
+use lib.ListN.{length}
+use Rattle.lineage.specs.Lists.{upto, part}
+use Rattle.lineage.specs.Graph.{Graph, isChild}
+use Rattle.lineage.specs.Stored.{rowAt}
+use Rattle.laws.specs.Passes.{row}
+use Rattle.laws.specs.Laid.{Below, Rows}
+use Rattle.laws.proofs.Parts.{part-length}
+use Rattle.laws.proofs.Laid.{values-below}
+use Rattle.laws.proofs.Edges.{sources-below, targets-below}
+use Rattle.numbers.specs.Regions.{Kept, under, over}
+use Rattle.numbers.proofs.Regions.{kept-then, kept-wider, kept-apart, apart-within}
+use Rattle.build_rows.specs.Rows.{mapped, turnedRow, singles, strippedRow}
+use Rattle.build_rows.specs.Fit.{PairsFit, RowsFit, TurnFit}
+use Rattle.build_children.specs.Places.{childPlaces}
+use Rattle.build_children.specs.Window.{sequenceAt, childrenAt, windowSize, ChildrenFit, ChildrenAt, ParentsAt, ChildrenFound}
+use Rattle.build_children.proofs.Rows.{upto-order, rows-same, rows-turned, those-below}
+use Rattle.build_children.proofs.Places.{comingFrom, coming-low, stripped-children, turned-parents}
+
+-- passes have written in the window, and the sequence is there
+record Sequenced (w₀ w : List ℕ) (base k e : ℕ) : Type 0 where
+  kept : Kept w₀ w base (windowSize k e)
+  sequence : part w (sequenceAt base k e) k ≡ upto k
+
+-- a pass writes the parents' area, or the children's
+below-sequence : {w₀ w w' : List ℕ} {base k e : ℕ} (c : ℕ) → c ≤ e → Sequenced w₀ w base k e → Kept w w' base (k + 1 + c) → Sequenced w₀ w' base k e
+below-sequence {base = base} {k} {e} c h s K = record {
+  kept = kept-then (s .kept) (kept-wider base (windowSize k e) (omega arith) (omega arith) K);
+  sequence = K .above (sequenceAt base k e) k (omega arith) ∙ s .sequence;
+}
+
+above-sequence : {w₀ w w' : List ℕ} {base k e : ℕ} → Sequenced w₀ w base k e → Kept w w' (childrenAt base k e) (k + 1 + e) → Sequenced w₀ w' base k e
+above-sequence {base = base} {k} {e} s K = record {
+  kept = kept-then (s .kept) (kept-wider base (windowSize k e) (omega arith) (omega arith) K);
+  sequence = K .below (sequenceAt base k e) k (omega arith) ∙ s .sequence;
+}
+
+module _ {G : Graph} {w₀ : List ℕ} {place k base : ℕ} (fit : ChildrenFit G w₀ place k base) where
+  abbrev n : ℕ
+  n = G .n
+
+  abbrev e : ℕ
+  e = length (G .sources)
+
+  abbrev sequence : ℕ
+  sequence = sequenceAt base k e
+
+  abbrev starts : ℕ
+  starts = childrenAt base k e
+
+  abbrev P : List ℕ
+  P = part w₀ place n
+
+  -- the window lies in the buffer, and the table of places is as it was
+  long : {w : List ℕ} → Sequenced w₀ w base k e → base + windowSize k e ≤ length w
+  long s = omega (arith, fit .room, s .kept .long)
+
+  place-same : {w : List ℕ} → Sequenced w₀ w base k e → part w place n ≡ P
+  place-same s = kept-apart (s .kept) (fit .place-there .apart)
+
+  -- rows in the children's area can be turned
+  turn-fits :
+      {w : List ℕ} (c : ℕ) {row : ℕ → List ℕ} → Sequenced w₀ w base k e → c ≤ e → ChildrenAt w base k e c row
+      → Below k (part w (starts + k + 1) c) → TurnFit w starts (starts + k + 1) c k sequence base
+  turn-fits c s h r low = record {
+    rows-fit = record {
+      values-fit = record {
+        values-there = record { fits = omega (arith, long s); apart = over (omega arith) };
+        room = omega (arith, long s);
+        few = omega (arith, fit .few-edges);
+      };
+      starts-there = record { fits = omega (arith, long s); apart = over (omega arith) };
+      laid = r .laid;
+    };
+    values-low = low;
+    sequence-there = record { fits = omega (arith, long s); apart = over (omega arith) };
+    order = rw (s .sequence) (upto-order k);
+  }
+
+  -- 0, .. , k - 1 is written
+  module _ {w₁ : List ℕ} (counting : Kept w₀ w₁ sequence k) (counted : part w₁ sequence k ≡ upto k) where
+    sequenced₁ : Sequenced w₀ w₁ base k e
+    sequenced₁ = record { kept = kept-wider base (windowSize k e) (omega arith) (omega arith) counting; sequence = counted }
+
+    pub edges-fit : PairsFit (G .targets) (G .sources) w₁ place n k starts
+    edges-fit = record {
+      keys-fit = record {
+        keys-low = targets-below G (fit .ends);
+        table-there = record {
+          fits = omega (arith, fit .place-there .fits, counting .long);
+          apart = apart-within starts (k + 1 + length (G .targets)) (omega arith) (omega (arith, fit .ends .paired)) (fit .place-there .apart);
+        };
+        table-low = rw (place-same sequenced₁) (fit .place-low);
+        room = omega (arith, long sequenced₁, fit .ends .paired);
+        few = omega (arith, fit .few-edges, fit .ends .paired);
+      };
+      paired = fit .ends .paired;
+      values-low = sources-below G (fit .ends);
+    }
+
+    -- the edges are laid out by target
+    module _
+        {w₂ : List ℕ} (laying : Kept w₁ w₂ starts (k + 1 + length (G .targets)))
+        (edges : Rows (part w₂ starts (k + 1)) (part w₂ (starts + k + 1) (length (G .targets))) k (row (mapped (part w₁ place n) (G .targets)) (mapped (part w₁ place n) (G .sources))))
+      where
+        sequenced₂ : Sequenced w₀ w₂ base k e
+        sequenced₂ = above-sequence sequenced₁ (subst (λ m. Kept w₁ w₂ starts (k + 1 + m)) (sym (fit .ends .paired)) laying)
+
+        edges-are : ChildrenAt w₂ base k e e (comingFrom G P)
+        edges-are =
+            subst (λ m. Rows (part w₂ starts (k + 1)) (part w₂ (starts + k + 1) m) k (comingFrom G P)) (sym (fit .ends .paired))
+            (subst (λ z. Rows (part w₂ starts (k + 1)) (part w₂ (starts + k + 1) (length (G .targets))) k (comingFrom G z)) (place-same sequenced₁) edges)
+
+        pub edges-turn : TurnFit w₂ starts (starts + k + 1) e k sequence base
+        edges-turn =
+            turn-fits e sequenced₂ (omega arith) edges-are
+            (values-below edges-are k (λ q p h i. coming-low G P k (rw (part-length w₀ place n (fit .place-there .fits)) (sources-below G (fit .ends))) (fit .place-low) q p i))
+
+        -- and turned
+        module _
+            {w₃ : List ℕ} (turning : Kept w₂ w₃ base (k + 1 + e))
+            (turned : ParentsAt w₃ base k e (turnedRow (rowAt (part w₂ starts (k + 1)) (part w₂ (starts + k + 1) e)) (part w₂ sequence k)))
+          where
+            sequenced₃ : Sequenced w₀ w₃ base k e
+            sequenced₃ = below-sequence e (omega arith) sequenced₂ turning
+
+            pub turned-strip : RowsFit w₃ base (base + k + 1) e k starts
+            turned-strip = record {
+              values-fit = record {
+                values-there = record { fits = omega (arith, long sequenced₃); apart = under (omega arith) };
+                room = omega (arith, long sequenced₃);
+                few = fit .few-edges;
+              };
+              starts-there = record { fits = omega (arith, long sequenced₃); apart = under (omega arith) };
+              laid = turned .laid;
+            }
+
+            -- and stripped
+            module _
+                {w₄ : List ℕ} {c : ℕ} (stripping : Kept w₃ w₄ starts (k + 1 + e)) (few : c ≤ e)
+                (stripped : ChildrenAt w₄ base k e c (strippedRow (rowAt (part w₃ base (k + 1)) (part w₃ (base + k + 1) e))))
+              where
+                sequenced₄ : Sequenced w₀ w₄ base k e
+                sequenced₄ = above-sequence sequenced₃ stripping
+
+                turned-are : ParentsAt w₃ base k e (turnedRow (comingFrom G P) (upto k))
+                turned-are = rows-turned edges-are (upto-order k) (rw (sequenced₂ .sequence) at turned)
+
+                children-are : ChildrenAt w₄ base k e c (childPlaces G P k)
+                children-are = rows-same stripped (λ p h. ap (singles p p) (turned-are .row-is p h) ∙ stripped-children G P k p)
+
+                pub children-turn : TurnFit w₄ starts (starts + k + 1) c k sequence base
+                children-turn = turn-fits c sequenced₄ few children-are (those-below (isChild G P) (upto k) (upto-order k) children-are)
+
+                -- and turned again
+                pub found :
+                    {w₅ : List ℕ} → Kept w₄ w₅ base (k + 1 + c)
+                    → ParentsAt w₅ base k c (turnedRow (rowAt (part w₄ starts (k + 1)) (part w₄ (starts + k + 1) c)) (part w₄ sequence k))
+                    → ChildrenFound G w₀ w₅ place k base c
+                found {w₅} K r =
+                    let s : Sequenced w₀ w₅ base k e = below-sequence c few sequenced₄ K in
+                    record {
+                      kept = s .kept;
+                      few = few;
+                      sequence = s .sequence;
+                      children = rw (K .above starts (k + 1) (omega arith), K .above (starts + k + 1) c (omega arith)) children-are;
+                      parents = rows-same (rows-turned children-are (upto-order k) (rw (sequenced₄ .sequence) at r)) (λ q h. turned-parents G P k q);
+                    }

@@ -1,0 +1,37 @@
+-- Naming a run of vertices: the run lies outside the window, so it is read as it was lent.
+use mathlib.Core.Path.{_≡_, sym, ap, _∙_}
+use mathlib.Core.List.{List}
+use Prim.Native.Nat.{ℕ, _+_, _<_}
+use native.Mathlib.Omega.{arith}
+use lib.ListN.{length, getD, set}
+use Rattle.build_orders.proofs.Stamping.{Stamping, stamping-more}
+use Rattle.build_groups.specs.Fit.{RunFit}
+use Rattle.laws.proofs.Parts.{part-at, part-length}
+use Rattle.numbers.proofs.Regions.{read-at}
+
+-- the vertex at hand, and where its turn reads and writes
+pub record Vertex (w : List ℕ) (at base n i : ℕ) : Type 0 where
+  pub vertex-in : at + i < length w
+  pub low : getD w (at + i) 0 < n
+  pub name-in : base + getD w (at + i) 0 < length w
+
+module _
+    {w₀ w : List ℕ} {at size name base n i : ℕ} (f : RunFit w₀ at size base n) (s : Stamping w₀ w w₀ base n name at i) (h : i < size)
+  where
+    same : getD w (at + i) 0 ≡ getD w₀ (at + i) 0
+    same = read-at (f .run-there) (s .kept) i h ∙ sym (part-at w₀ at size i h)
+
+    low : getD w₀ (at + i) 0 < n
+    low = rw (part-at w₀ at size i h) (f .run-low i (omega (arith, part-length w₀ at size (f .run-there .fits))))
+
+    pub run-vertex : Vertex w at base n i
+    run-vertex =
+        let long = s .kept .long in
+        record {
+          vertex-in = omega (arith, f .run-there .fits);
+          low = omega (arith, same, low);
+          name-in = omega (arith, same, low, f .room);
+        }
+
+    pub run-more : Stamping w₀ (set w (base + getD w (at + i) 0) name) w₀ base n name at (i + 1)
+    run-more = stamping-more (f .room) (omega (arith, f .run-there .fits)) s low (ap (λ z. set w (base + z) name) same)

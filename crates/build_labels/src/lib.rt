@@ -1,0 +1,118 @@
+// Ranks, inner intervals, levels and outer intervals, from a traversal of the groups.
+ghost use mathlib.Core.Path.{_≡_};
+ghost use mathlib.Core.List.{map};
+ghost use Prim.Native.Nat.{ℕ, suc, _+_, _^_, _<_, max};
+ghost use lib.ListN.{getD};
+ghost use Rattle.lineage.specs.Lists.{upto, least, greatest, part};
+ghost use Rattle.lineage.specs.Graph.{levelsOf};
+ghost use Rattle.lineage.specs.Labels.{outer};
+ghost use Rattle.numbers.specs.Regions.{Kept};
+ghost use Rattle.build_labels.specs.Labels.{ranksOf, innersOf, childrenIn};
+ghost use Rattle.build_labels.specs.Fit.{RanksFit, RowFit, UpFit, OuterFit};
+
+// e of each place, then m of each place: the rank, counted from 1, and the number at that rank. From the last rank to the first.
+pub fn rank_labels(w: &mut [u32], out: usize, low: usize, k: usize, base: usize)
+    requires { ⌜ RanksFit (now w) out low k base ⌝ }
+    ensures { λ _. ⌜ Kept (now (w .entry)) (now (w .exit)) base (k + k) ⌝ }
+    ensures { λ _. ⌜ part (now (w .exit)) base k ≡ ranksOf k (part (now (w .entry)) out k) ⌝ }
+    ensures { λ _. ⌜ part (now (w .exit)) (base + k) k ≡ innersOf k (part (now (w .entry)) out k) (part (now (w .entry)) low k) ⌝ }
+{
+    let inner = base + k;
+    let mut rank = k;
+    while 0 < rank {
+        let r = rank - 1;
+        let p = w[out + r] as usize;
+        w[base + p] = rank as u32;
+        w[inner + p] = w[low + r];
+        rank = r;
+    }
+}
+
+fn greater(a: u32, b: u32) -> u32
+    ensures { λ r. ⌜ r ≡ max a b ⌝ }
+{
+    if a <= b { b } else { a }
+}
+
+// The greatest of one more than the levels of a row's places, 0 where there are none.
+fn row_level(w: &[u32], at: usize, size: usize, base: usize, k: usize) -> u32
+    requires { ⌜ RowFit (now w) at size base k ⌝ }
+    requires { ⌜ ((i : ℕ) → i < size → getD (part (now w) base k) (getD (part (now w) at size) i 0) 0 + 1 < 2 ^ 32) ⌝ }
+    ensures { λ r. ⌜ r ≡ greatest (map (λ q. suc (getD (part (now (w .entry)) base k) q 0)) (part (now (w .entry)) at size)) ⌝ }
+{
+    let mut level: u32 = 0;
+    let mut i = 0;
+    while i < size {
+        let q = w[at + i] as usize;
+        level = greater(level, w[base + q] + 1);
+        i += 1;
+    }
+    level
+}
+
+// The least of e and the s of a row's places.
+fn row_outer(w: &[u32], at: usize, size: usize, base: usize, k: usize, e: u32) -> u32
+    requires { ⌜ RowFit (now w) at size base k ⌝ }
+    ensures { λ r. ⌜ r ≡ least e (map (λ q. getD (part (now (w .entry)) base k) q 0) (part (now (w .entry)) at size)) ⌝ }
+{
+    let mut s = e;
+    let mut i = 0;
+    while i < size {
+        let q = w[at + i] as usize;
+        s = build_groups::lesser(s, w[base + q]);
+        i += 1;
+    }
+    s
+}
+
+// The level of each place, upwards through the ranks: by then the levels of its children are known.
+pub fn levels(
+    w: &mut [u32],
+    out: usize,
+    k: usize,
+    starts: usize,
+    values: usize,
+    c: usize,
+    base: usize,
+)
+    requires { ⌜ UpFit (now w) out k starts values c base ⌝ }
+    ensures { λ _. ⌜ Kept (now (w .entry)) (now (w .exit)) base k ⌝ }
+    ensures { λ _. ⌜ part (now (w .exit)) base k ≡ levelsOf (childrenIn (now (w .entry)) starts values c k) ⌝ }
+{
+    let mut r = 0;
+    while r < k {
+        let p = w[out + r] as usize;
+        let next = p + 1;
+        let from = w[starts + p] as usize;
+        let end = w[starts + next] as usize;
+        w[base + p] = row_level(w, values + from, end - from, base, k);
+        r += 1;
+    }
+}
+
+// s of each place, upwards through the ranks: by then the s of its children are known.
+pub fn outer(
+    w: &mut [u32],
+    out: usize,
+    e: usize,
+    k: usize,
+    starts: usize,
+    values: usize,
+    c: usize,
+    base: usize,
+)
+    requires { ⌜ OuterFit (now w) out e k starts values c base ⌝ }
+    ensures { λ _. ⌜ Kept (now (w .entry)) (now (w .exit)) base k ⌝ }
+    ensures { λ _. ⌜ part (now (w .exit)) base k ≡ map (outer (childrenIn (now (w .entry)) starts values c k) (part (now (w .entry)) e k) k) (upto k) ⌝ }
+{
+    let mut r = 0;
+    while r < k {
+        let p = w[out + r] as usize;
+        let next = p + 1;
+        let from = w[starts + p] as usize;
+        let end = w[starts + next] as usize;
+        let own = w[e + p];
+        w[base + p] = row_outer(w, values + from, end - from, base, k, own);
+        r += 1;
+    }
+}

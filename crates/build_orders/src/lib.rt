@@ -1,0 +1,138 @@
+// What build looks at in its input: edge ends, orders as permutations; and an order as places, with the groups to start from.
+ghost use mathlib.Core.Path.{_≡_};
+ghost use Prim.Native.Nat.{_+_, _*_, _^_, _≤_, _<_};
+ghost use lib.ListN.{length};
+ghost use Rattle.lineage.specs.Lists.{upto, any, those, firstOf, part};
+ghost use Rattle.lineage.specs.Graph.{groupList};
+ghost use Rattle.lineage.specs.Labels.{inOrder};
+ghost use Rattle.lineage.specs.Calls.{badEdge, badOrder};
+ghost use Rattle.numbers.specs.Regions.{Kept};
+ghost use Rattle.build_orders.specs.Input.{graphOf};
+ghost use Rattle.build_orders.specs.Stamped.{Stamped, lacks};
+ghost use Rattle.build_orders.specs.Fit.{RankedFit, RootsFit};
+ghost use Rattle.build_orders.specs.Roots.{rowEmpty};
+
+// The first edge with an end that is n or more; where there is none, the number of edges.
+pub fn bad_edge(n: usize, sources: &[u32], targets: &[u32]) -> usize
+    requires { ⌜ length (now sources) ≡ length (now targets) ⌝ }
+    ensures { λ r. ⌜ r ≡ firstOf (badEdge (graphOf n (now (sources .entry)) (now (targets .entry)))) (upto (length (now (sources .entry)))) (length (now (sources .entry))) ⌝ }
+{
+    let mut i = 0;
+    while i < sources.len() {
+        if n <= sources[i] as usize {
+            return i;
+        }
+        if n <= targets[i] as usize {
+            return i;
+        }
+        i += 1;
+    }
+    i
+}
+
+// Stamps the word of each number below n that stands in the order at `at`; a number of n or more is passed over.
+fn stamp_order(orders: &[u32], at: usize, n: usize, stamp: u32, w: &mut [u32], base: usize)
+    requires { ⌜ at + n ≤ length (now orders) ⌝ }
+    requires { ⌜ base + n ≤ length (now w) ⌝ }
+    ensures { λ _. ⌜ Kept (now (w .entry)) (now (w .exit)) base n ⌝ }
+    ensures { λ _. ⌜ Stamped stamp (part (now (orders .entry)) at n) (part (now (w .entry)) base n) (part (now (w .exit)) base n) ⌝ }
+{
+    let mut j = 0;
+    while j < n {
+        let v = orders[at + j] as usize;
+        if v < n {
+            w[base + v] = stamp;
+        }
+        j += 1;
+    }
+}
+
+// Whether one of the n words lacks the stamp.
+fn one_lacks(w: &[u32], base: usize, n: usize, stamp: u32) -> bool
+    requires { ⌜ base + n ≤ length (now w) ⌝ }
+    ensures { λ r. ⌜ r ≡ any (lacks stamp (part (now (w .entry)) base n)) (upto n) ⌝ }
+{
+    let mut v = 0;
+    while v < n {
+        if w[base + v] != stamp {
+            return true;
+        }
+        v += 1;
+    }
+    false
+}
+
+// The first order that is no permutation of 0 to n - 1; where there is none, d. Order i stamps the words of its numbers with i + 1, and is a permutation
+// where no word is without that stamp.
+pub fn bad_order(orders: &[u32], d: usize, n: usize, w: &mut [u32], base: usize) -> usize
+    requires { ⌜ length (now orders) ≡ d * n ⌝ }
+    requires { ⌜ d < 2 ^ 32 ⌝ }
+    requires { ⌜ base + n ≤ length (now w) ⌝ }
+    ensures { λ r. ⌜ r ≡ firstOf (badOrder n (now (orders .entry))) (upto d) d ⌝ }
+    ensures { λ _. ⌜ Kept (now (w .entry)) (now (w .exit)) base n ⌝ }
+{
+    numbers::clear_part(w, base, n);
+    let mut i = 0;
+    while i < d {
+        let stamp = (i + 1) as u32;
+        stamp_order(orders, i * n, n, stamp, w, base);
+        if one_lacks(w, base, n, stamp) {
+            return i;
+        }
+        i += 1;
+    }
+    i
+}
+
+// The places of all groups as their names stand in the order at `at`; returns how many they are. Every vertex's place is written, and counted only where the vertex
+// names its group; otherwise the next one takes its word.
+pub fn ranked(
+    orders: &[u32],
+    at: usize,
+    n: usize,
+    w: &mut [u32],
+    names: usize,
+    place: usize,
+    base: usize,
+) -> usize
+    requires { ⌜ RankedFit (now orders) (now w) at n names place base ⌝ }
+    ensures { λ _. ⌜ Kept (now (w .entry)) (now (w .exit)) base n ⌝ }
+    ensures { λ r. ⌜ r ≤ n ⌝ }
+    ensures { λ r. ⌜ part (now (w .exit)) base r ≡ inOrder (part (now (orders .entry)) at n) (groupList (part (now (w .entry)) names n)) ⌝ }
+{
+    let mut k = 0;
+    let mut j = 0;
+    while j < n {
+        let v = orders[at + j];
+        let i = v as usize;
+        let name = w[names + i];
+        w[base + k] = w[place + i];
+        if name == v {
+            k += 1;
+        }
+        j += 1;
+    }
+    k
+}
+
+// Of a sequence of k places those whose row is empty, the rows being told by where they start; returns how many they are.
+pub fn roots(w: &mut [u32], starts: usize, k: usize, sequence: usize, base: usize) -> usize
+    requires { ⌜ RootsFit (now w) starts k sequence base ⌝ }
+    ensures { λ _. ⌜ Kept (now (w .entry)) (now (w .exit)) base k ⌝ }
+    ensures { λ r. ⌜ r ≤ k ⌝ }
+    ensures { λ r. ⌜ part (now (w .exit)) base r ≡ those (rowEmpty (part (now (w .entry)) starts (k + 1))) (part (now (w .entry)) sequence k) ⌝ }
+{
+    let mut c = 0;
+    let mut j = 0;
+    while j < k {
+        let q = w[sequence + j];
+        let row = q as usize;
+        let next = row + 1;
+        if w[starts + next] == w[starts + row] {
+            w[base + c] = q;
+            c += 1;
+        }
+        j += 1;
+    }
+    c
+}

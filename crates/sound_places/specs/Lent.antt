@@ -1,0 +1,25 @@
+-- What a question and a list are lent: the six sections of stored bytes whose contents are sound.
+use mathlib.Core.Bool.{true}
+use mathlib.Core.Path.{_≡_}
+use mathlib.Core.List.{List}
+use Prim.Native.Nat.{ℕ, _+_, _*_, _≤_}
+use lib.ListN.{length}
+use Rattle.lineage.specs.Numbers.{Width, numbers}
+use Rattle.lineage.specs.Sound.{startsPass, sound}
+use Rattle.stored_header.specs.declared.Layout.{Layout}
+use Rattle.stored.specs.Sections.{indexAt}
+
+-- each section is as long as the layout says, the counts are within the bounds of every form, and the contents are sound
+pub record Lent (l : Layout) (names groups levels starts children labels : List ℕ) : Type 0 where
+  pub width : Width (l .width)
+  pub vertices-few : l .n ≤ 200000
+  pub groups-few : l .k ≤ l .n
+  pub labellings-few : l .d ≤ 5
+  pub names-long : length names ≡ l .width * l .n
+  pub groups-long : length groups ≡ l .width * l .k
+  pub levels-long : length levels ≡ l .width * l .k
+  pub starts-long : length starts ≡ l .width * (l .k + 1)
+  pub children-long : length children ≡ l .width * l .c
+  pub labels-long : length labels ≡ l .width * (l .d * (4 * l .k))
+  pub starts-sound : startsPass (numbers (l .width) starts (l .k + 1)) (l .k) (l .c) ≡ true
+  pub index-sound : sound (indexAt l names groups levels starts children labels) ≡ true
