@@ -11,7 +11,7 @@ use Rattle.numbers.specs.Put.{put}
 use Rattle.numbers.proofs.Written.{written-long}
 use Rattle.stored_header.specs.declared.Layout.{Layout}
 use Rattle.stored_header.specs.Header.{counts, layoutBy, headerOf}
-use Rattle.stored.proofs.Offsets.{offsets-last, putSections, sections-put}
+use Rattle.stored.proofs.Offsets.{putSections, sections-put}
 use Rattle.build_writing.specs.Words.{groupSections}
 use Rattle.build_writing.specs.Fit.{GroupsFit}
 use Rattle.build_writing.proofs.Behind.{section-put}
@@ -89,4 +89,4 @@ module _ {out : List ℕ} {form : ℕ} {l : Layout} {words : List ℕ} {names gr
       (section-put w t₃ t₄ t₅ x₄ (x₅ ∷ []) (l .starts) (l .starts) (l .children) e₄ refl children-next
       (section-put w t₄ t₅ t₅ x₅ [] (l .children) (l .children) (l .labels) e₅ refl labels-next refl))))
       ∙ ap (λ (z : List ℕ). putSections w z 48 X) e₀
-      ∙ sections-put w header X out 48 long (omega (arith, offsets-last w header X 48 long, fit .room))
+      ∙ sections-put w header X out 48 long

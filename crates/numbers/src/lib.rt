@@ -102,15 +102,6 @@ pub fn put_at(out: &mut [u8], p: usize, w: usize, v: usize)
     out[p + 3] = low(v3);
 }
 
-// Writes v as number i of a stretch of numbers of w bytes.
-pub fn put_num(out: &mut [u8], w: usize, i: usize, v: usize)
-    requires { ⌜ Width w ⌝ }
-    requires { ⌜ w * i + w ≤ length (now out) ⌝ }
-    ensures { λ _. ⌜ now (out .exit) ≡ put (now (out .entry)) (w * i) (leBytes w v) ⌝ }
-{
-    put_at(out, w * i, w, v)
-}
-
 // Writes count words, from word `from` on, as numbers of w bytes one after the other, from position at on.
 pub fn write_words(out: &mut [u8], at: usize, w: usize, words: &[u32], from: usize, count: usize)
     requires { ⌜ Width w ⌝ }
