@@ -1,13 +1,12 @@
 -- The groups of a graph as the passes before leave them, all below the window: names and places of the vertices, then the parents and the children of each group, laid
 -- out from `from` on for e edges. They can be labelled, and what is labelled is the graph's.
-use mathlib.Core.Path.{_≡_, ap₂, _∙_}
+use mathlib.Core.Path.{_≡_, _∙_}
 use mathlib.Core.List.{List}
 use Prim.Native.Nat.{ℕ, _+_, _^_, _≤_, _<_}
 use native.Mathlib.Omega.{arith}
 use lib.ListN.{length}
 use Rattle.lineage.specs.Lists.{part}
 use Rattle.lineage.specs.Graph.{Graph, Ends, namesOf, groupList, childrenOf}
-use Rattle.lineage.specs.Labels.{labelling}
 use Rattle.laws.proofs.Names.{names-long}
 use Rattle.laws.proofs.Condensed.{children-long, groups-sound}
 use Rattle.laws.proofs.Starts.{rows-are}
@@ -17,7 +16,7 @@ use Rattle.build_groups.proofs.Listing.{place-at}
 use Rattle.build_children.specs.Window.{childrenAt}
 use Rattle.build_children.proofs.Found.{ChildrenStored}
 use Rattle.build_labels.specs.Labels.{childrenIn}
-use Rattle.build_labelled.specs.Window.{windowSize, windowLabelling, childrenBy, Labelled}
+use Rattle.build_labelled.specs.Window.{windowSize, childrenBy}
 use Rattle.build_labelled.specs.Fit.{GroupsFit}
 
 module _
@@ -50,9 +49,3 @@ module _
       few-groups = few-groups;
       few-children = few-children;
     }
-
-    -- and what is labelled is the graph's labelling
-    pub labelling-stored :
-        {order w' : List ℕ} {names base : ℕ} → part w names (G .n) ≡ namesOf G → Labelled order w w' (G .n) k c names (childrenAt from k e) base
-        → windowLabelling w' base (G .n) k c ≡ labelling (groupList (namesOf G)) (childrenOf G (namesOf G) (groupList (namesOf G))) order
-    labelling-stored {order} names-are l = l .made ∙ ap₂ (λ names children. labelling (groupList names) children order) names-are children-are
