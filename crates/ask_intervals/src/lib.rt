@@ -8,13 +8,9 @@ ghost use Rattle.lineage.specs.Numbers.{Width, numAt};
 ghost use Rattle.lineage.specs.Question.{inside, outside, firstLabelling};
 ghost use Rattle.stored.specs.Sections.{labelsIn};
 ghost use Rattle.ask_intervals.specs.Intervals.{Labelled, innerBound, outerBound};
-
-// The numbers of a triple: s, m, e.
-const S: usize = 0;
-
-const M: usize = 1;
-
-const E: usize = 2;
+use stored::parts::E;
+use stored::parts::M;
+use stored::parts::S;
 
 // Whether number i of x's triple is not above number j of t's.
 fn not_above(triples: &[u8], w: usize, x: usize, i: usize, t: usize, j: usize) -> bool

@@ -1,4 +1,5 @@
 // Build: from an edge list and some orders to exactly the bytes of the stored form, in lent memory.
+use stored_header::MOST_LABELLINGS;
 use stored_header::Row;
 ghost use mathlib.Core.Path.{_≡_};
 ghost use Prim.Native.Nat.{_^_, _≤_, _<_};
@@ -11,8 +12,6 @@ ghost use Rattle.build_indexed.specs.Written.{writtenAs};
 ghost use Rattle.build.specs.Input.{inputOf, boundsOf, formBy, RowFit};
 ghost use Rattle.build.specs.Answers.{checkedOf, builtOf, LateBuilt};
 ghost use Rattle.build.specs.Admitted.{Admitted};
-
-const MOST_LABELLINGS: usize = 5;
 
 // What checks 1 to 7 come to: the words of work memory that are needed, or a refusal with its number and its extra number.
 enum Checked {

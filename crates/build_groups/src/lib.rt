@@ -1,6 +1,6 @@
 // Names, group list and places from a traversal whose trees are the groups.
 ghost use mathlib.Core.Path.{_≡_};
-ghost use Prim.Native.Nat.{_+_, _≤_, _<_, min};
+ghost use Prim.Native.Nat.{_+_, _≤_, _<_};
 ghost use lib.ListN.{length};
 ghost use Rattle.lineage.specs.Lists.{part};
 ghost use Rattle.lineage.specs.Graph.{groupList};
@@ -9,13 +9,6 @@ ghost use Rattle.build_orders.specs.Stamped.{Stamped};
 ghost use Rattle.build_groups.specs.Trees.{leastOf, treeNames};
 ghost use Rattle.build_groups.specs.Fit.{RunFit, NamesFit, ListFit};
 ghost use Rattle.build_groups.specs.Places.{placesOf};
-
-// The lesser of two numbers.
-pub fn lesser(a: u32, b: u32) -> u32
-    ensures { λ r. ⌜ r ≡ min a b ⌝ }
-{
-    if a <= b { a } else { b }
-}
 
 // The least of the size words from at on.
 fn least_word(w: &[u32], at: usize, size: usize) -> u32
@@ -26,7 +19,7 @@ fn least_word(w: &[u32], at: usize, size: usize) -> u32
     let mut least = w[at];
     let mut i = 0;
     while i < size {
-        least = lesser(least, w[at + i]);
+        least = numbers::lesser_word(least, w[at + i]);
         i += 1;
     }
     least

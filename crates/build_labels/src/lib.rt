@@ -1,7 +1,7 @@
 // Ranks, inner intervals, levels and outer intervals, from a traversal of the groups.
 ghost use mathlib.Core.Path.{_≡_};
 ghost use mathlib.Core.List.{map};
-ghost use Prim.Native.Nat.{ℕ, suc, _+_, _^_, _<_, max};
+ghost use Prim.Native.Nat.{ℕ, suc, _+_, _^_, _<_};
 ghost use lib.ListN.{getD};
 ghost use Rattle.lineage.specs.Lists.{upto, least, greatest, part};
 ghost use Rattle.lineage.specs.Graph.{levelsOf};
@@ -28,12 +28,6 @@ pub fn rank_labels(w: &mut [u32], out: usize, low: usize, k: usize, base: usize)
     }
 }
 
-fn greater(a: u32, b: u32) -> u32
-    ensures { λ r. ⌜ r ≡ max a b ⌝ }
-{
-    if a <= b { b } else { a }
-}
-
 // The greatest of one more than the levels of a row's places, 0 where there are none.
 fn row_level(w: &[u32], at: usize, size: usize, base: usize, k: usize) -> u32
     requires { ⌜ RowFit (now w) at size base k ⌝ }
@@ -44,7 +38,7 @@ fn row_level(w: &[u32], at: usize, size: usize, base: usize, k: usize) -> u32
     let mut i = 0;
     while i < size {
         let q = w[at + i] as usize;
-        level = greater(level, w[base + q] + 1);
+        level = numbers::greater_word(level, w[base + q] + 1);
         i += 1;
     }
     level
@@ -59,7 +53,7 @@ fn row_outer(w: &[u32], at: usize, size: usize, base: usize, k: usize, e: u32) -
     let mut i = 0;
     while i < size {
         let q = w[at + i] as usize;
-        s = build_groups::lesser(s, w[base + q]);
+        s = numbers::lesser_word(s, w[base + q]);
         i += 1;
     }
     s

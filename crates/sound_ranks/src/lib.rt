@@ -1,21 +1,18 @@
 // The tests of s, m and e of a labelling, group by group: each rank is the rank of its place, e falls along children, s is the least below, m is a rank not above e.
 ghost use mathlib.Core.Path.{_≡_};
-ghost use Prim.Native.Nat.{_+_, _*_, _^_, _<_, min};
+ghost use Prim.Native.Nat.{_+_, _*_, _^_, _<_};
 ghost use Rattle.lineage.specs.Lists.{allBelow};
 ghost use Rattle.lineage.specs.Numbers.{numAt};
 ghost use Rattle.lineage.specs.Sound.{rankPasses, fallPasses, outerPasses, innerPasses};
 ghost use Rattle.stored.specs.Sections.{childrenIn, labellingIn};
 ghost use Rattle.sound_ranks.specs.Tests.{triplesAlone, leastBelow};
 ghost use Rattle.sound_ranks.specs.Fit.{Triples, Labels, Labelled};
+use numbers::lesser;
 use numbers::num;
 use sound_groups::row_span;
-
-// Where s, m and e stand in a triple.
-pub const S: usize = 0;
-
-pub const M: usize = 1;
-
-pub const E: usize = 2;
+use stored::parts::E;
+use stored::parts::M;
+use stored::parts::S;
 
 // Number j of the triple of group p.
 pub fn label(triples: &[u8], w: usize, k: usize, p: usize, j: usize) -> usize
@@ -105,12 +102,6 @@ pub fn falls_pass(
     true
 }
 
-fn smaller(a: usize, b: usize) -> usize
-    ensures { λ r. ⌜ r ≡ min a b ⌝ }
-{
-    if a < b { a } else { b }
-}
-
 // The least of group p's own e and its children's s.
 fn least_below(
     starts: &[u8],
@@ -132,7 +123,7 @@ fn least_below(
     let mut i = 0;
     while i < len {
         let q = num(children, w, from + i);
-        s = smaller(s, label(triples, w, k, q, S));
+        s = lesser(s, label(triples, w, k, q, S));
         i += 1;
     }
     s

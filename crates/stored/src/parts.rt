@@ -68,6 +68,13 @@ pub fn labels(index: &[u8], l: Layout) -> &[u8]
     &index[from..to]
 }
 
+// Where s, m and e stand in a triple.
+pub const S: usize = 0;
+
+pub const M: usize = 1;
+
+pub const E: usize = 2;
+
 // The k triples s, m, e of labelling j, by place.
 pub fn triples(labels: &[u8], w: usize, k: usize, d: usize, j: usize) -> &[u8]
     requires { ⌜ Width w ⌝ }

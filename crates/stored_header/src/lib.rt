@@ -12,7 +12,7 @@ ghost use Rattle.stored_header.specs.Header.{rowOf, counts, layoutBy, la
 
 const HEADER_LENGTH: usize = 48;
 
-const MOST_LABELLINGS: usize = 5;
+pub const MOST_LABELLINGS: usize = 5;
 
 // A row of the table of forms: whether a form has this number, its width and its bounds.
 pub struct Row {
