@@ -1,5 +1,5 @@
 -- Sections written one after the other behind a header: each stands at its offset, and the last offset is the length of it all.
-use mathlib.Core.Path.{_≡_, sym, ap, _∙_}
+use mathlib.Core.Path.{_≡_, refl, sym, ap, _∙_}
 use mathlib.Core.List.{List, [], _∷_, _++_, map, append-assoc, append-nil}
 use Prim.Native.Nat.{ℕ, zero, suc, _+_, _*_, _-_, _≤_, _<_}
 use native.Mathlib.Omega.{arith}
@@ -82,7 +82,15 @@ module _ (w : ℕ) (b : List ℕ) where
   offsets-rise at [] = omega arith
   offsets-rise at (size ∷ sizes) = omega (arith, offsets-rise (at + w * size) sizes)
 
-  -- each stretch ends by the last offset
+  -- each stretch ends where the next one starts, and by the last offset
+  pub offsets-next : (at : ℕ) (sizes : List ℕ) (i : ℕ)
+      → i < length sizes
+      → getD (offsetsFrom w at sizes) (suc i) 0 ≡ getD (offsetsFrom w at sizes) i 0 + w * getD sizes i 0
+  offsets-next at [] i h = absurd (not-suc-le-zero h)
+  offsets-next at (size ∷ []) zero h = refl
+  offsets-next at (size ∷ (next ∷ sizes)) zero h = refl
+  offsets-next at (size ∷ sizes) (suc i) h = offsets-next (at + w * size) sizes i (omega arith)
+
   pub offsets-within : (at : ℕ) (sizes : List ℕ) (i : ℕ)
       → i < length sizes
       → getD (offsetsFrom w at sizes) i 0 + w * getD sizes i 0 ≤ getD (offsetsFrom w at sizes) (length sizes) 0
