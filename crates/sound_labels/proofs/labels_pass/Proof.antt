@@ -1,6 +1,6 @@
 -- `sound_labels::labels_pass` meets its contract: the six functions compute the test's parts, each looked at where those before it hold.
 use mathlib.Core.Path.{_∙_}
-use Rattle.sound_groups.proofs.Passed.{and-fails, and-goes}
+use Rattle.laws.proofs.Tests.{and-fails, and-goes}
 use Rattle.sound_ranks.specs.Fit.{Labelled}
 use Rattle.sound_blocks.proofs.Ranked.{roots-are}
 use Rattle.sound_labels.proofs.Labels.{labels-is, ranked-after}
