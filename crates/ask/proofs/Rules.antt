@@ -14,15 +14,15 @@ use Rattle.lineage.specs.Numbers.{numAt}
 use Rattle.lineage.specs.Index.{Index}
 use Rattle.lineage.specs.Walk.{Walked, walked, openAt}
 use Rattle.lineage.specs.Question.{inside, outside, firstFrom, firstLabelling, rule2, rule3, rule4, netOf, walk, byWalk, between}
-use Rattle.laws_answers.proofs.Labellings.{first-given}
 use Rattle.numbers.proofs.Numbers.{numbers-at}
 use Rattle.stored.specs.Sections.{labelsIn}
 use Rattle.stored.proofs.Sections.{labels-long}
-use Rattle.ask.specs.declared.question.Reply.{Reply}
+use Rattle.ask_intervals.proofs.Labellings.{first-given}
 use Rattle.ask_walk.specs.Fit.{groupsIn, netIn, Fit}
-use Rattle.ask.specs.Replies.{answerBy}
 use Rattle.ask_walk.proofs.Counting.{Gains, ones-low, open-gains, open-deciding}
 use Rattle.ask_walk.proofs.Nets.{net-spot, net-within}
+use Rattle.ask.specs.declared.question.Reply.{Reply}
+use Rattle.ask.specs.Replies.{answerBy}
 
 -- a labelling's number is at most their count
 first-from : (p : Labelling → Bool) (n : ℕ) (ls : List Labelling) → firstFrom (suc n) p ls ≤ n + length ls

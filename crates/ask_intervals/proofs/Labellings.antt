@@ -1,17 +1,19 @@
 -- The labellings of a labels section, one after the other. Each has its triples within the labels; the two bounds that are read off them are those of its
--- intervals; and the number of the first labelling that passes a test is found by going through them.
+-- intervals; and the number of the first labelling that passes a test is found by going through them, 0 where none does.
 use mathlib.Core.Path.{_≡_, refl, sym, ap, _∙_}
-use mathlib.Core.Bool.{Bool, true, false, not, _&&_, cond, and-false}
-use mathlib.Core.List.{List, _∷_}
+use mathlib.Core.Bool.{Bool, true, false, not, _&&_, _||_, cond, and-false}
+use mathlib.Core.List.{List, [], _∷_}
 use Prim.Native.Nat.{ℕ, zero, suc, _+_, _*_, _≤_, _<_}
 use native.Mathlib.Omega.{arith}
 use native.Mathlib.Numerals.{add-one}
 use native.Mathlib.Nat.{mul-le-mul-left}
 use borrow.Author.Count.{below-more}
+use borrow.Author.Tests.{lt-ltb}
+use lib.Dec.{ltb}
 use lib.ListN.{length, drop, drop-of-length-le}
 use lib.Seq.{drop-cons}
 use Rattle.lineage.specs.Labels.{Labelling}
-use Rattle.lineage.specs.Question.{inside, outside, firstFrom, firstLabelling}
+use Rattle.lineage.specs.Question.{inside, outside, someLabelling, firstFrom, firstLabelling}
 use Rattle.laws.proofs.Lists.{table-at}
 use Rattle.numbers.specs.Regions.{Part}
 use Rattle.stored.specs.Sections.{labellingIn, triplesOf, placesOf, labelsIn}
@@ -97,3 +99,16 @@ module _ (w k : ℕ) (labels : List ℕ) where
       passed-all h =
           let high : length (labelsIn w labels k d) ≤ l = omega (arith, labels-long w labels k d) in
           ap (firstFrom (l + 1) p) (sym (drop-of-length-le (labelsIn w labels k d) high)) ∙ P .left
+
+-- a number is given exactly where some labelling passes
+module _ (p : Labelling → Bool) where
+  given-from : (n : ℕ) (ls : List Labelling) → someLabelling p ls ≡ ltb 0 (firstFrom (suc n) p ls)
+  given-from n [] = refl
+  given-from n (l ∷ ls) = at (p l) (given-from (suc n) ls)
+    where
+      at : (b : Bool) → someLabelling p ls ≡ ltb 0 (firstFrom (suc (suc n)) p ls) → (b || someLabelling p ls) ≡ ltb 0 (cond b (suc n) (firstFrom (suc (suc n)) p ls))
+      at true ih = sym (lt-ltb 0 (suc n) (omega arith))
+      at false ih = ih
+
+  pub first-given : (ls : List Labelling) → someLabelling p ls ≡ ltb 0 (firstLabelling p ls)
+  first-given ls = given-from 0 ls

@@ -9,7 +9,7 @@ use lib.ListN.{length, set, length-set}
 use Rattle.lineage.specs.Lists.{Every, ones}
 use Rattle.lineage.specs.Walk.{Net, Walked, marked, follow, pick, tryWith, openAt}
 use Rattle.laws.proofs.Tests.{or-false-left}
-use Rattle.laws_answers.proofs.Marks.{ones-set}
+use Rattle.laws.proofs.Lists.{ones-set}
 
 -- the marks stay as long as they are, and gain as many as are counted
 pub record Gains (m : List ℕ) (a : Walked) : Type 0 where

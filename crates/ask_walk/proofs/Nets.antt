@@ -11,11 +11,11 @@ use Rattle.lineage.specs.Lists.{Every}
 use Rattle.lineage.specs.Numbers.{numAt}
 use Rattle.lineage.specs.Walk.{Net, walked, marked, openAt, tryAt}
 use Rattle.lineage.specs.Question.{inside, firstLabelling}
-use Rattle.laws_answers.proofs.Marks.{ones-set}
-use Rattle.laws_answers.proofs.Labellings.{first-given}
+use Rattle.laws.proofs.Lists.{ones-set}
 use Rattle.numbers.proofs.Numbers.{numbers-at}
 use Rattle.stored.specs.Sections.{ChildrenOf, childrenIn, labelsIn}
 use Rattle.stored.proofs.Sections.{row-long, row-at}
+use Rattle.ask_intervals.proofs.Labellings.{first-given}
 use Rattle.ask_walk.specs.Fit.{count, all, netIn, passedOver, Fit}
 use Rattle.ask_walk.proofs.Rows.{row-all}
 use Rattle.ask_walk.proofs.Counting.{Within, Gains, try-gains, open-gains, ones-low}

@@ -10,9 +10,9 @@ use lib.ListN.{getD}
 use borrow.Author.Tests.{eq-eqb, ne-eqb, le-leb, lt-leb}
 use Rattle.lineage.specs.Numbers.{numAt, numbers}
 use Rattle.lineage.specs.Question.{outside, firstLabelling}
-use Rattle.laws_answers.proofs.Labellings.{first-given}
 use Rattle.numbers.proofs.Numbers.{numbers-at}
 use Rattle.stored.specs.Sections.{labelsIn}
+use Rattle.ask_intervals.proofs.Labellings.{first-given}
 use Rattle.ask_walk.specs.Fit.{passedOver}
 
 module _ (w k d t : ℕ) (groups levels labels marks : List ℕ) (h name : ℕ) (h-low : h < k) (t-low : t < k) (named : name ≡ numAt w groups h) where

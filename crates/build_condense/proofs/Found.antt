@@ -13,11 +13,12 @@ use Rattle.laws.specs.Rising.{Distinct}
 use Rattle.laws.proofs.Visited.{distinct}
 use Rattle.laws.proofs.TwoPasses.{passes-made}
 use Rattle.laws.proofs.Parts.{part-length}
+use Rattle.laws.specs.Visits.{Lows}
 use Rattle.numbers.specs.Regions.{Kept, under, over}
 use Rattle.numbers.proofs.Regions.{kept-then, kept-wider}
 use Rattle.build_traversal.specs.Lows.{Traversed}
 use Rattle.build_traversal.proofs.Lows.{lows-at}
-use Rattle.build_groups.specs.Trees.{Lows, treeNames}
+use Rattle.build_groups.specs.Trees.{treeNames}
 use Rattle.build_groups.specs.Fit.{NamesFit, ListFit}
 use Rattle.build_groups.specs.Places.{placesOf}
 use Rattle.build_groups.proofs.Forests.{lows-begin}

@@ -7,13 +7,13 @@ use Prim.Native.Nat.{ℕ, suc, _+_, _-_, _≤_, _<_}
 use native.Mathlib.Omega.{arith}
 use lib.ListN.{length, getD, drop, drop-of-length-le}
 use Rattle.lineage.specs.Lists.{upto, among, joined, part}
-use Rattle.numbers.specs.Regions.{Kept}
-use Rattle.numbers.proofs.Regions.{kept-same, kept-then, kept-apart, read-at}
 use Rattle.laws.proofs.Lists.{among-append, table-is}
 use Rattle.laws.proofs.Parts.{part-length, part-part}
 use Rattle.laws.proofs.Laid.{part-below, in-below}
+use Rattle.numbers.specs.Regions.{Kept}
+use Rattle.numbers.proofs.Regions.{kept-same, kept-then, kept-apart, read-at}
+use Rattle.numbers.specs.Stamped.{Stamped}
 use Rattle.build_rows.proofs.Orders.{order-low}
-use Rattle.build_orders.specs.Stamped.{Stamped}
 use Rattle.build_groups.specs.Trees.{treesFrom, treesOf, leastOf, nameIn, treeNames}
 use Rattle.build_groups.specs.Fit.{RunFit, NamesFit}
 use Rattle.build_groups.proofs.Regions.{apart-part}

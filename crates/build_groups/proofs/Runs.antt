@@ -4,10 +4,10 @@ use mathlib.Core.List.{List}
 use Prim.Native.Nat.{ℕ, _+_, _<_}
 use native.Mathlib.Omega.{arith}
 use lib.ListN.{length, getD, set}
-use Rattle.build_orders.proofs.Stamping.{Stamping, stamping-more}
-use Rattle.build_groups.specs.Fit.{RunFit}
 use Rattle.laws.proofs.Parts.{part-at, part-length}
+use Rattle.numbers.proofs.Stamping.{Stamping, stamping-more}
 use Rattle.numbers.proofs.Regions.{read-at}
+use Rattle.build_groups.specs.Fit.{RunFit}
 
 -- the vertex at hand, and where its turn reads and writes
 pub record Vertex (w : List ℕ) (at base n i : ℕ) : Type 0 where

@@ -5,7 +5,7 @@ ghost use lib.ListN.{length};
 ghost use Rattle.lineage.specs.Lists.{part};
 ghost use Rattle.lineage.specs.Graph.{groupList};
 ghost use Rattle.numbers.specs.Regions.{Kept};
-ghost use Rattle.build_orders.specs.Stamped.{Stamped};
+ghost use Rattle.numbers.specs.Stamped.{Stamped};
 ghost use Rattle.build_groups.specs.Trees.{leastOf, treeNames};
 ghost use Rattle.build_groups.specs.Fit.{RunFit, NamesFit, ListFit};
 ghost use Rattle.build_groups.specs.Places.{placesOf};

@@ -10,12 +10,13 @@ use borrow.Author.Tests.{eq-eqb, ne-eqb, not-false}
 use Rattle.lineage.specs.Lists.{upto, any, among, part, Every}
 use Rattle.lineage.specs.Labels.{Order}
 use Rattle.lineage.specs.Calls.{orderAt, badOrder}
-use Rattle.numbers.specs.Regions.{Kept}
-use Rattle.numbers.proofs.Regions.{kept-same, kept-then}
 use Rattle.laws.proofs.Lists.{in-upto, upto-low, any-same, any-none}
 use Rattle.laws.proofs.Parts.{part-length}
 use Rattle.laws.proofs.Every.{every-mapped}
-use Rattle.build_orders.specs.Stamped.{Stamped, lacks}
+use Rattle.numbers.specs.Regions.{Kept}
+use Rattle.numbers.proofs.Regions.{kept-same, kept-then}
+use Rattle.numbers.specs.Stamped.{Stamped}
+use Rattle.build_orders.specs.Lacks.{lacks}
 use Rattle.build_orders.proofs.First.{NoneBelow, none-begin, none-more}
 
 -- order i lies in an order list of d orders

@@ -7,8 +7,9 @@ ghost use Rattle.lineage.specs.Graph.{groupList};
 ghost use Rattle.lineage.specs.Labels.{inOrder};
 ghost use Rattle.lineage.specs.Calls.{badEdge, badOrder};
 ghost use Rattle.numbers.specs.Regions.{Kept};
+ghost use Rattle.numbers.specs.Stamped.{Stamped};
 ghost use Rattle.build_orders.specs.Input.{graphOf};
-ghost use Rattle.build_orders.specs.Stamped.{Stamped, lacks};
+ghost use Rattle.build_orders.specs.Lacks.{lacks};
 ghost use Rattle.build_orders.specs.Fit.{RankedFit, RootsFit};
 ghost use Rattle.build_orders.specs.Roots.{rowEmpty};
 

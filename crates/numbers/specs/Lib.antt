@@ -2,3 +2,4 @@
 pub mod Put
 pub mod Regions
 pub mod Marks
+pub mod Stamped

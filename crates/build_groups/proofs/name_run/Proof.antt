@@ -2,7 +2,7 @@
 use Prim.Native.Nat.{_-_, _≤_}
 use native.Mathlib.Omega.{arith}
 use borrow.Author.Needs.{needs}
-use Rattle.build_orders.proofs.Stamping.{Stamping, stamping-none, stamping-all}
+use Rattle.numbers.proofs.Stamping.{Stamping, stamping-none, stamping-all}
 use Rattle.build_groups.proofs.Runs.{Vertex, run-vertex, run-more}
 use Rattle.build_groups.proofs.name_run.Statement.{statement}
 use Rattle.build_groups.proofs.name_run.Tie as tie

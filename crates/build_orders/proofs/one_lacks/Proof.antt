@@ -3,9 +3,9 @@ use Prim.Native.Nat.{_-_, _≤_}
 use native.Mathlib.Omega.{arith}
 use borrow.Author.Needs.{needs}
 use Rattle.lineage.specs.Lists.{part}
-use Rattle.build_orders.specs.Stamped.{lacks}
+use Rattle.build_orders.specs.Lacks.{lacks}
 use Rattle.build_orders.proofs.First.{NoneBelow, none-begin, none-more, none-not-any}
-use Rattle.build_orders.proofs.Stamping.{word-lacks, word-has}
+use Rattle.build_orders.proofs.Lacking.{word-lacks, word-has}
 use Rattle.build_orders.proofs.one_lacks.Statement.{statement}
 use Rattle.build_orders.proofs.one_lacks.Tie as tie
 

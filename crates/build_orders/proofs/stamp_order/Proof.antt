@@ -3,7 +3,7 @@ use mathlib.Core.Logic.{⊎-elim}
 use Prim.Native.Nat.{_+_, _-_, _≤_}
 use native.Mathlib.Omega.{arith}
 use borrow.Author.Needs.{needs}
-use Rattle.build_orders.proofs.Stamping.{Stamping, stamping-none, stamping-more, stamping-past, stamping-all}
+use Rattle.numbers.proofs.Stamping.{Stamping, stamping-none, stamping-more, stamping-past, stamping-all}
 use Rattle.build_orders.proofs.stamp_order.Statement.{statement}
 use Rattle.build_orders.proofs.stamp_order.Tie as tie
 

@@ -1,19 +1,19 @@
 -- Stamping one number after another: a number of n or more has no word, and changes nothing.
-use mathlib.Core.Bool.{true, false, not, cond, or-false}
-use mathlib.Core.Path.{_≡_, refl, sym, ap, _∙_}
+use mathlib.Core.Bool.{cond, or-false}
+use mathlib.Core.Path.{_≡_, refl, _∙_}
 use mathlib.Core.List.{List, [], _∷_, _++_}
 use Prim.Native.Nat.{ℕ, _+_, _≤_, _<_}
 use native.Mathlib.Decide.{ℕ-discrete}
 use native.Mathlib.Omega.{arith}
 use lib.ListN.{length, getD, set}
 use lib.Seq.{getD-set-same, getD-set-other}
-use borrow.Author.Tests.{ne-eqb, eq-eqb}
-use Rattle.lineage.specs.Lists.{upto, any, among, part}
+use borrow.Author.Tests.{ne-eqb}
+use Rattle.lineage.specs.Lists.{among, part}
+use Rattle.laws.proofs.Lists.{among-append, in-right, here}
+use Rattle.laws.proofs.Parts.{part-length, part-more}
 use Rattle.numbers.specs.Regions.{Kept}
 use Rattle.numbers.proofs.Regions.{part-set, kept-same, kept-more}
-use Rattle.laws.proofs.Lists.{among-append, in-right, here, any-in, in-upto}
-use Rattle.laws.proofs.Parts.{part-length, part-at, part-more}
-use Rattle.build_orders.specs.Stamped.{Stamped, lacks}
+use Rattle.numbers.specs.Stamped.{Stamped}
 
 among-other : (v u : ℕ) (xs : List ℕ) → (v ≡ u → ⊥) → among v (xs ++ (u ∷ [])) ≡ among v xs
 among-other v u xs ne = among-append v xs (u ∷ []) ∙ rw (ne-eqb v u ne) (or-false (among v xs))
@@ -63,12 +63,3 @@ pub stamping-all :
     {w₀ w s : List ℕ} {base n stamp at j : ℕ} (m : ℕ) → j ≡ m → Stamping w₀ w s base n stamp at j
     → Kept w₀ w base n × Stamped stamp (part s at m) (part w₀ base n) (part w base n)
 stamping-all m e i = (i .kept, rw e at (i .stamped))
-
--- a word of the window, whether it is the stamp
-module _ (w : List ℕ) (base n stamp v : ℕ) (h : v < n) where
-  pub word-has : getD w (base + v) 0 ≡ stamp → lacks stamp (part w base n) v ≡ false
-  word-has e = ap not (eq-eqb (getD (part w base n) v 0) stamp (sym (part-at w base n v h) ∙ e))
-
-  pub word-lacks : (getD w (base + v) 0 ≡ stamp → ⊥) → true ≡ any (lacks stamp (part w base n)) (upto n)
-  word-lacks ne =
-      sym (any-in (lacks stamp (part w base n)) v (upto n) (in-upto n v h) (ap not (ne-eqb (getD (part w base n) v 0) stamp (λ e. ne (part-at w base n v h ∙ e)))))
