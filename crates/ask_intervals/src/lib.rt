@@ -6,8 +6,8 @@ ghost use lib.Dec.{leb};
 ghost use lib.ListN.{length};
 ghost use Rattle.lineage.specs.Numbers.{Width, numAt};
 ghost use Rattle.lineage.specs.Question.{inside, outside, firstLabelling};
-ghost use Rattle.stored.specs.Sections.{labelsIn};
-ghost use Rattle.ask_intervals.specs.Intervals.{Labelled, innerBound, outerBound};
+ghost use Rattle.stored.specs.Sections.{Labellings, labelsIn};
+ghost use Rattle.ask_intervals.specs.Intervals.{innerBound, outerBound};
 use stored::parts::E;
 use stored::parts::M;
 use stored::parts::S;
@@ -50,7 +50,7 @@ fn outer_bound(triples: &[u8], w: usize, x: usize, t: usize, b: usize) -> bool
 
 // The first labelling in which x's inner interval contains t's e: both bounds hold.
 pub fn inner_by(labels: &[u8], w: usize, k: usize, d: usize, x: usize, t: usize) -> usize
-    requires { ⌜ Labelled w k d (now labels) ⌝ }
+    requires { ⌜ Labellings w (now labels) k d ⌝ }
     requires { ⌜ (x < k) × (t < k) ⌝ }
     ensures { λ r. ⌜ r ≡ firstLabelling (inside x t) (labelsIn w (now (labels .entry)) k d) ⌝ }
 {
@@ -73,7 +73,7 @@ pub fn inner_by(labels: &[u8], w: usize, k: usize, d: usize, x: usize, t: usize)
 
 // The first labelling in which x's outer interval does not contain t's: one bound fails.
 pub fn outer_by(labels: &[u8], w: usize, k: usize, d: usize, x: usize, t: usize) -> usize
-    requires { ⌜ Labelled w k d (now labels) ⌝ }
+    requires { ⌜ Labellings w (now labels) k d ⌝ }
     requires { ⌜ (x < k) × (t < k) ⌝ }
     ensures { λ r. ⌜ r ≡ firstLabelling (outside x t) (labelsIn w (now (labels .entry)) k d) ⌝ }
 {

@@ -8,8 +8,7 @@ use Rattle.lineage.specs.Numbers.{numAt, numbers}
 use Rattle.lineage.specs.Index.{Index}
 use Rattle.lineage.specs.Walk.{Net, marked}
 use Rattle.lineage.specs.Question.{netOf}
-use Rattle.stored.specs.Sections.{childrenIn, labelsIn}
-use Rattle.ask_intervals.specs.Intervals.{Labelled}
+use Rattle.stored.specs.Sections.{childrenIn, Labellings, labelsIn}
 
 -- how many numbers of w bytes a stretch holds, and all of them
 abbrev pub count : ℕ → List ℕ → ℕ
@@ -42,7 +41,7 @@ passedOver w k d t groups levels labels marks h =
 -- each section holds its numbers, child starts rise within the children, children are places of lower levels, and each group's mark is among so many;
 -- t is a place
 pub record Fit (w k d t : ℕ) (groups levels starts children labels : List ℕ) (marks : ℕ) : Type 0 where
-  pub labelled : Labelled w k d labels
+  pub labelled : Labellings w labels k d
   pub target-low : t < k
   pub groups-long : w * k ≤ length groups
   pub levels-long : w * k ≤ length levels

@@ -5,7 +5,7 @@ ghost use Prim.Native.Nat.{_+_, _*_, _≤_, _<_};
 ghost use lib.ListN.{length, getD};
 ghost use Rattle.lineage.specs.Numbers.{numAt};
 ghost use Rattle.lineage.specs.Walk.{walked, openAt, tryAt};
-ghost use Rattle.ask_intervals.specs.Intervals.{Labelled};
+ghost use Rattle.stored.specs.Sections.{Labellings};
 ghost use Rattle.ask_walk.specs.Fit.{all, netIn, passedOver, Fit, Below};
 
 // Whether the target is found, by which labelling, and how many groups were opened.
@@ -27,7 +27,7 @@ fn passed_over(
     marks: &[u8],
     h: usize,
 ) -> bool
-    requires { ⌜ Labelled w k d (now labels) ⌝ }
+    requires { ⌜ Labellings w (now labels) k d ⌝ }
     requires { ⌜ (w * k ≤ length (now groups)) × (w * k ≤ length (now levels)) ⌝ }
     requires { ⌜ (h < k) × ((t < k) × (numAt w (now groups) h < length (now marks))) ⌝ }
     ensures { λ r. ⌜ r ≡ passedOver w k d t (now (groups .entry)) (now (levels .entry)) (now (labels .entry)) (now (marks .entry)) h ⌝ }

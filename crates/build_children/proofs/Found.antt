@@ -17,7 +17,7 @@ use Rattle.laws.proofs.Parts.{part-length}
 use Rattle.laws.proofs.Starts.{values-are, starts-are}
 use Rattle.build_rows.specs.Rows.{turnedRow}
 use Rattle.build_children.specs.Places.{childPlaces, parentPlaces}
-use Rattle.build_children.specs.Window.{childrenAt, windowSize, ChildrenFit, ChildrenAt, ParentsAt, ChildrenFound}
+use Rattle.build_children.specs.Window.{childrenAt, childrenWindow, ChildrenFit, ChildrenAt, ParentsAt, ChildrenFound}
 use Rattle.build_children.proofs.Rows.{rows-same, rows-turned, among-those, those-upto, turned-those}
 use Rattle.build_children.proofs.Named.{children-are}
 
@@ -67,7 +67,7 @@ module _ {G : Graph} {w w' : List ℕ} {place k base c : ℕ} (fit : ChildrenFit
           starts : ℕ
           starts = childrenAt base k (length (G .sources))
 
-          room : base + windowSize k (length (G .sources)) ≤ length w'
+          room : base + childrenWindow k (length (G .sources)) ≤ length w'
           room = omega (arith, fit .room, found .kept .long)
 
           values : part w' (starts + k + 1) c ≡ joined children

@@ -18,25 +18,25 @@ use Rattle.numbers.proofs.Regions.{kept-then, kept-wider, kept-apart, apart-wit
 use Rattle.build_rows.specs.Rows.{mapped, turnedRow, singles, strippedRow}
 use Rattle.build_rows.specs.Fit.{PairsFit, RowsFit, TurnFit}
 use Rattle.build_children.specs.Places.{childPlaces}
-use Rattle.build_children.specs.Window.{sequenceAt, childrenAt, windowSize, ChildrenFit, ChildrenAt, ParentsAt, ChildrenFound}
+use Rattle.build_children.specs.Window.{sequenceAt, childrenAt, childrenWindow, ChildrenFit, ChildrenAt, ParentsAt, ChildrenFound}
 use Rattle.build_children.proofs.Rows.{upto-order, rows-same, rows-turned, those-below}
 use Rattle.build_children.proofs.Places.{comingFrom, coming-low, stripped-children, turned-parents}
 
 -- passes have written in the window, and the sequence is there
 record Sequenced (w₀ w : List ℕ) (base k e : ℕ) : Type 0 where
-  kept : Kept w₀ w base (windowSize k e)
+  kept : Kept w₀ w base (childrenWindow k e)
   sequence : part w (sequenceAt base k e) k ≡ upto k
 
 -- a pass writes the parents' area, or the children's
 below-sequence : {w₀ w w' : List ℕ} {base k e : ℕ} (c : ℕ) → c ≤ e → Sequenced w₀ w base k e → Kept w w' base (k + 1 + c) → Sequenced w₀ w' base k e
 below-sequence {base = base} {k} {e} c h s K = record {
-  kept = kept-then (s .kept) (kept-wider base (windowSize k e) (omega arith) (omega arith) K);
+  kept = kept-then (s .kept) (kept-wider base (childrenWindow k e) (omega arith) (omega arith) K);
   sequence = K .above (sequenceAt base k e) k (omega arith) ∙ s .sequence;
 }
 
 above-sequence : {w₀ w w' : List ℕ} {base k e : ℕ} → Sequenced w₀ w base k e → Kept w w' (childrenAt base k e) (k + 1 + e) → Sequenced w₀ w' base k e
 above-sequence {base = base} {k} {e} s K = record {
-  kept = kept-then (s .kept) (kept-wider base (windowSize k e) (omega arith) (omega arith) K);
+  kept = kept-then (s .kept) (kept-wider base (childrenWindow k e) (omega arith) (omega arith) K);
   sequence = K .below (sequenceAt base k e) k (omega arith) ∙ s .sequence;
 }
 
@@ -57,7 +57,7 @@ module _ {G : Graph} {w₀ : List ℕ} {place k base : ℕ} (fit : ChildrenFit G
   P = part w₀ place n
 
   -- the window lies in the buffer, and the table of places is as it was
-  long : {w : List ℕ} → Sequenced w₀ w base k e → base + windowSize k e ≤ length w
+  long : {w : List ℕ} → Sequenced w₀ w base k e → base + childrenWindow k e ≤ length w
   long s = omega (arith, fit .room, s .kept .long)
 
   place-same : {w : List ℕ} → Sequenced w₀ w base k e → part w place n ≡ P
@@ -85,7 +85,7 @@ module _ {G : Graph} {w₀ : List ℕ} {place k base : ℕ} (fit : ChildrenFit G
   -- 0, .. , k - 1 is written
   module _ {w₁ : List ℕ} (counting : Kept w₀ w₁ sequence k) (counted : part w₁ sequence k ≡ upto k) where
     sequenced₁ : Sequenced w₀ w₁ base k e
-    sequenced₁ = record { kept = kept-wider base (windowSize k e) (omega arith) (omega arith) counting; sequence = counted }
+    sequenced₁ = record { kept = kept-wider base (childrenWindow k e) (omega arith) (omega arith) counting; sequence = counted }
 
     pub edges-fit : PairsFit (G .targets) (G .sources) w₁ place n k starts
     edges-fit = record {

@@ -24,17 +24,17 @@ use Rattle.build_groups.specs.Places.{placesOf}
 use Rattle.build_groups.proofs.Forests.{lows-begin}
 use Rattle.build_groups.proofs.Vertices.{order₂}
 use Rattle.build_groups.proofs.TreeNames.{names-are, names-named}
-use Rattle.build_condense.specs.Window.{traversalAt, windowSize, CondenseFit, GroupsFound}
+use Rattle.build_condense.specs.Window.{traversalAt, groupsWindow, CondenseFit, GroupsFound}
 
 module _
-    {G : Graph} {w₀ w₁ : List ℕ} (fit : CondenseFit G w₀) (going : Kept w₀ w₁ 0 (windowSize (G .n) (length (G .sources))))
+    {G : Graph} {w₀ w₁ : List ℕ} (fit : CondenseFit G w₀) (going : Kept w₀ w₁ 0 (groupsWindow (G .n) (length (G .sources))))
     (gone : Traversed (pass₂ G) w₁ (traversalAt (G .n) (length (G .sources))) (G .n) (G .n))
   where
     abbrev n : ℕ
     n = G .n
 
     abbrev size : ℕ
-    size = windowSize n (length (G .sources))
+    size = groupsWindow n (length (G .sources))
 
     abbrev out : ℕ
     out = traversalAt n (length (G .sources)) + 4 * n

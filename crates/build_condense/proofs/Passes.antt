@@ -17,7 +17,7 @@ use Rattle.numbers.proofs.Regions.{kept-then, kept-wider}
 use Rattle.build_traversal.specs.Lows.{Traversed}
 use Rattle.build_orders.specs.Input.{graphOf}
 use Rattle.build_groups.proofs.Vertices.{order₁}
-use Rattle.build_condense.specs.Window.{traversalAt, windowSize, PassFit, CondenseFit}
+use Rattle.build_condense.specs.Window.{traversalAt, groupsWindow, PassFit, CondenseFit}
 
 -- the graph with its edges turned
 abbrev turned : Graph → Graph
@@ -44,7 +44,7 @@ module _ {G : Graph} {w₀ : List ℕ} (fit : CondenseFit G w₀) where
   order = base + 6 * n
 
   abbrev size : ℕ
-  size = windowSize n (length (G .sources))
+  size = groupsWindow n (length (G .sources))
 
   -- 0, .. , n - 1 is written
   module _ {w₁ : List ℕ} (counting : Kept w₀ w₁ 0 n) (counted : part w₁ 0 n ≡ upto n) where

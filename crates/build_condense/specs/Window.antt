@@ -20,8 +20,8 @@ use Rattle.build_groups.specs.Places.{placesOf}
 abbrev pub traversalAt : ℕ → ℕ → ℕ
 traversalAt n e = 2 * n + 1 + e
 
-abbrev pub windowSize : ℕ → ℕ → ℕ
-windowSize n e = 9 * n + 1 + e
+abbrev pub groupsWindow : ℕ → ℕ → ℕ
+groupsWindow n e = 9 * n + 1 + e
 
 -- one traversal of all vertices along the edges: the first n words are 0, .. , n - 1; the roots are an order of the vertices, and lie outside what is written; the rows
 -- end before the regions of the traversal begin
@@ -38,13 +38,13 @@ pub record PassFit (G : Graph) (w : List ℕ) (roots base : ℕ) : Type 0 where
 -- edges between vertices, and the window lies in the buffer
 pub record CondenseFit (G : Graph) (w : List ℕ) : Type 0 where
   pub ends : Ends G
-  pub room : windowSize (G .n) (length (G .sources)) ≤ length w
+  pub room : groupsWindow (G .n) (length (G .sources)) ≤ length w
   pub few-edges : length (G .sources) < 2 ^ 32
   pub few-vertices : G .n < 2 ^ 32
 
 -- what is found, of k groups: nothing but the window differs; the name of each vertex's group, all names rising, and the place of each vertex's group
 pub record GroupsFound (G : Graph) (w w' : List ℕ) (k : ℕ) : Type 0 where
-  pub kept : Kept w w' 0 (windowSize (G .n) (length (G .sources)))
+  pub kept : Kept w w' 0 (groupsWindow (G .n) (length (G .sources)))
   pub few : k ≤ G .n
   pub names : part w' 0 (G .n) ≡ namesOf G
   pub groups : part w' (G .n) k ≡ groupList (namesOf G)

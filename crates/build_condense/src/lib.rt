@@ -9,7 +9,7 @@ ghost use Rattle.laws.specs.Passes.{row, pass₂};
 ghost use Rattle.numbers.specs.Regions.{Kept, Outside};
 ghost use Rattle.build_traversal.specs.Lows.{Traversed};
 ghost use Rattle.build_orders.specs.Input.{graphOf};
-ghost use Rattle.build_condense.specs.Window.{traversalAt, windowSize, PassFit, CondenseFit, GroupsFound};
+ghost use Rattle.build_condense.specs.Window.{traversalAt, groupsWindow, PassFit, CondenseFit, GroupsFound};
 
 // Copies the n words at `from` to base, the last first.
 fn reversed(w: &mut [u32], from: usize, n: usize, base: usize)
@@ -39,7 +39,7 @@ fn pass(keys: &[u32], values: &[u32], w: &mut [u32], n: usize, roots: usize, bas
 // One traversal along the edges, from the vertices in turn; then one along the turned edges, from the last vertex that was finished to the first.
 fn two_passes(n: usize, sources: &[u32], targets: &[u32], w: &mut [u32])
     requires { ⌜ CondenseFit (graphOf n (now sources) (now targets)) (now w) ⌝ }
-    ensures { λ _. ⌜ Kept (now (w .entry)) (now (w .exit)) 0 (windowSize n (length (now (sources .entry)))) ⌝ }
+    ensures { λ _. ⌜ Kept (now (w .entry)) (now (w .exit)) 0 (groupsWindow n (length (now (sources .entry)))) ⌝ }
     ensures { λ _. ⌜ Traversed (pass₂ (graphOf n (now (sources .entry)) (now (targets .entry)))) (now (w .exit)) (traversalAt n (length (now (sources .entry)))) n n ⌝ }
 {
     let base = 2 * n + 1 + sources.len();

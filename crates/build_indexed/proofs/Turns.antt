@@ -16,7 +16,7 @@ use Rattle.laws.proofs.Parts.{part-length}
 use Rattle.numbers.specs.Put.{put}
 use Rattle.numbers.specs.Regions.{Kept}
 use Rattle.numbers.proofs.Regions.{kept-same}
-use Rattle.build_labelled.specs.Window.{windowSize, childrenBy}
+use Rattle.build_labelled.specs.Window.{labelsWindow, childrenBy}
 use Rattle.build_labelled.proofs.Regions.{children-same}
 use Rattle.build_labelled.proofs.Again.{groups-kept, labelled-since}
 use Rattle.stored_header.specs.declared.Layout.{Layout}
@@ -30,7 +30,7 @@ pub record Turns (l : Layout) (e : ℕ) (orders out₀ w₀ out w : List ℕ) (a
   pub most : j ≤ l .d
   pub here : at ≡ l .labels + l .width * (4 * l .k * j)
   pub long : length out ≡ length out₀
-  pub kept : Kept w₀ w (labelsFrom (l .n) (l .k) e) (windowSize (l .n) (l .k) (l .c))
+  pub kept : Kept w₀ w (labelsFrom (l .n) (l .k) e) (labelsWindow (l .n) (l .k) (l .c))
   pub last : 0 < j → OrderLabelled l e orders w₀ w (j - 1)
   pub labels : out ≡ blocksPut (l .width) (l .labels) (labellingBlock l e orders w₀) out₀ j
 
@@ -40,7 +40,7 @@ module _ {l : Layout} {e : ℕ} {orders w₀ : List ℕ} (fit : Ready l e orders
   total-at = ap (λ (z : Layout). z .total) (fit .laid) ∙ ap (λ n. n + l .width * (l .d * (4 * l .k))) (sym (ap (λ (z : Layout). z .labels) (fit .laid)))
 
   -- something was written where labellings are made: the groups are still there
-  module _ {w : List ℕ} (K : Kept w₀ w (labelsFrom (l .n) (l .k) e) (windowSize (l .n) (l .k) (l .c))) where
+  module _ {w : List ℕ} (K : Kept w₀ w (labelsFrom (l .n) (l .k) e) (labelsWindow (l .n) (l .k) (l .c))) where
     abbrev S : GroupsStored w₀ (l .n) (l .k) (l .c) e
     S = fit .stored
 
@@ -92,7 +92,7 @@ module _ {l : Layout} {e : ℕ} {orders w₀ : List ℕ} (fit : Ready l e orders
     most = omega arith;
     here = omega arith;
     long = refl;
-    kept = kept-same w₀ (labelsFrom (l .n) (l .k) e) (windowSize (l .n) (l .k) (l .c));
+    kept = kept-same w₀ (labelsFrom (l .n) (l .k) e) (labelsWindow (l .n) (l .k) (l .c));
     last = λ h. absurd (omega arith);
     labels = blocks-none (l .width) (l .labels) (labellingBlock l e orders w₀) out₀;
   }

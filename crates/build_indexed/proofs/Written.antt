@@ -20,7 +20,7 @@ use Rattle.laws.proofs.Every.{every-mapped}
 use Rattle.numbers.specs.Put.{put}
 use Rattle.numbers.specs.Regions.{Kept}
 use Rattle.build_labels.specs.Fit.{UpFit}
-use Rattle.build_labelled.specs.Window.{byRankAt, levelsAt, windowSize, groupsBy, childrenBy}
+use Rattle.build_labelled.specs.Window.{byRankAt, levelsAt, labelsWindow, groupsBy, childrenBy}
 use Rattle.build_labelled.specs.Fit.{LabelFit}
 use Rattle.build_labelled.proofs.Again.{levels-fit, levels-beside}
 use Rattle.stored_header.specs.declared.Layout.{Layout}
@@ -139,7 +139,7 @@ module _ {l : Layout} {e : ℕ} {orders w₀ : List ℕ} (fit : Ready l e orders
           beside : OrderLabelled l e orders w₀ w₂ (l .d - 1) × (part w₂ (levelsAt (labelsFrom (l .n) (l .k) e) (l .k)) (l .k) ≡ levelsOf children)
           beside = levels-beside last-fits made (rw base-is at K) (rw (base-is, children-is) at levels)
 
-          pub index-kept : Kept w₀ w₂ (labelsFrom (l .n) (l .k) e) (windowSize (l .n) (l .k) (l .c))
+          pub index-kept : Kept w₀ w₂ (labelsFrom (l .n) (l .k) e) (labelsWindow (l .n) (l .k) (l .c))
           index-kept = beside .0 .kept
 
           pub groups-fit : (form : ℕ) {out₁ : List ℕ} → form < 2 ^ 32 → l .total ≤ length out₁ → GroupsFit out₁ form l w₂ 0 (l .n) (base + 3 * l .k) children-at (children-at + l .k + 1)

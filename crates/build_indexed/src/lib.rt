@@ -11,7 +11,7 @@ ghost use Rattle.lineage.specs.Stored.{encode};
 ghost use Rattle.lineage.specs.Calls.{orderAt};
 ghost use Rattle.numbers.specs.Put.{put};
 ghost use Rattle.numbers.specs.Regions.{Kept};
-ghost use Rattle.build_labelled.specs.Window.{byRankAt, windowSize};
+ghost use Rattle.build_labelled.specs.Window.{byRankAt, labelsWindow};
 ghost use Rattle.build_orders.specs.Input.{graphOf};
 ghost use Rattle.build_indexed.specs.Written.{writtenAs};
 ghost use Rattle.build_indexed.specs.Memory.{childrenFrom, labelsFrom, condensedIn, labellingBlock, CondensedFit, CondensedFound, Ready, OrderLabelled};
@@ -122,7 +122,7 @@ pub fn write_index(
     requires { ⌜ Ready l edges (now orders) (now w) ⌝ }
     requires { ⌜ l .total ≤ length (now out) ⌝ }
     ensures { λ _. ⌜ now (out .exit) ≡ encode (writtenAs form (l .width)) (indexBy (condensedIn (now (w .entry)) (l .n) (l .k) (l .c) edges) (map (orderAt (l .n) (now (orders .entry))) (upto (l .d)))) ++ drop (l .total) (now (out .entry)) ⌝ }
-    ensures { λ _. ⌜ Kept (now (w .entry)) (now (w .exit)) (labelsFrom (l .n) (l .k) edges) (windowSize (l .n) (l .k) (l .c)) ⌝ }
+    ensures { λ _. ⌜ Kept (now (w .entry)) (now (w .exit)) (labelsFrom (l .n) (l .k) edges) (labelsWindow (l .n) (l .k) (l .c)) ⌝ }
 {
     let n = l.n;
     let k = l.k;

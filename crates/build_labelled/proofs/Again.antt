@@ -10,14 +10,14 @@ use Rattle.lineage.specs.Labels.{labelling}
 use Rattle.numbers.specs.Regions.{Kept}
 use Rattle.numbers.proofs.Regions.{kept-then, kept-wider, kept-apart, outside-kept}
 use Rattle.build_labels.specs.Fit.{UpFit}
-use Rattle.build_labelled.specs.Window.{byRankAt, levelsAt, windowSize, childrenBy, Labelled}
+use Rattle.build_labelled.specs.Window.{byRankAt, levelsAt, labelsWindow, childrenBy, Labelled}
 use Rattle.build_labelled.specs.Fit.{GroupsFit, LabelFit}
 use Rattle.build_labelled.proofs.Regions.{rows-within, starts-same, values-same, children-same}
 use Rattle.build_labelled.proofs.Forest.{labelling-is, up-fits}
 
 -- something was written in the window
 module _
-    {w w' : List ℕ} {n k c names place parents children base : ℕ} (fit : GroupsFit w n k c names place parents children base) (K : Kept w w' base (windowSize n k c))
+    {w w' : List ℕ} {n k c names place parents children base : ℕ} (fit : GroupsFit w n k c names place parents children base) (K : Kept w w' base (labelsWindow n k c))
   where
     names-same : part w' names n ≡ part w names n
     names-same = kept-apart K (fit .vertices .names-there .apart)
@@ -65,7 +65,7 @@ module _
         → Labelled (part orders at n) w w'' n k c names children base × (part w'' (levelsAt base k) k ≡ levelsOf (childrenBy w children k c))
     levels-beside K levels = (
       record {
-        kept = kept-then (l .kept) (kept-wider base (windowSize n k c) (omega arith) (omega arith) K);
+        kept = kept-then (l .kept) (kept-wider base (labelsWindow n k c) (omega arith) (omega arith) K);
         made =
             (λ i. record {
               s = K .below (base + 2 * k) k (omega arith) i;

@@ -23,7 +23,7 @@ use Rattle.build_traversal.proofs.Lows.{lows-at}
 use Rattle.build_labels.specs.Labels.{ranksOf, innersOf, childrenIn}
 use Rattle.build_labels.specs.Fit.{UpFit}
 use Rattle.build_labels.proofs.Labelled.{labels-are, forest-order, forest-falls}
-use Rattle.build_labelled.specs.Window.{byRankAt, windowSize, groupsBy, childrenBy}
+use Rattle.build_labelled.specs.Window.{byRankAt, labelsWindow, groupsBy, childrenBy}
 use Rattle.build_labelled.specs.Fit.{LabelFit}
 use Rattle.build_labelled.proofs.Regions.{outside-within, starts-same, values-same}
 
@@ -80,10 +80,10 @@ module _ {orders w : List ℕ} {at n k c names place parents children base : ℕ
 
   -- the places by rank are there: k words before them can be filled upwards
   pub up-fits :
-      {w' : List ℕ} {base' : ℕ} → Kept w w' base (windowSize n k c) → part w' (byRankAt base n k c) k ≡ finished forest → base ≤ base' → base' + k ≤ byRankAt base n k c
+      {w' : List ℕ} {base' : ℕ} → Kept w w' base (labelsWindow n k c) → part w' (byRankAt base n k c) k ≡ finished forest → base ≤ base' → base' + k ≤ byRankAt base n k c
       → UpFit w' (byRankAt base n k c) k children (children + k + 1) c base'
   up-fits K by-rank l h =
-      let room : base + windowSize n k c ≤ length w = fit .groups .vertices .room in
+      let room : base + labelsWindow n k c ≤ length w = fit .groups .vertices .room in
       record {
         out-there = record { fits = omega (arith, K .long); apart = over h };
         starts-there = outside-within (K .long) l (omega arith) (fit .groups .children-there .starts);

@@ -17,7 +17,7 @@ use Rattle.build_rows.proofs.Orders.{order-low}
 use Rattle.build_orders.specs.Fit.{RankedFit, RootsFit}
 use Rattle.build_orders.specs.Roots.{rowEmpty}
 use Rattle.build_orders.proofs.Sequence.{places-order}
-use Rattle.build_labelled.specs.Window.{rootsAt, orderedAt, windowSize, groupsBy, OrderRows}
+use Rattle.build_labelled.specs.Window.{rootsAt, orderedAt, labelsWindow, groupsBy, OrderRows}
 use Rattle.build_labelled.specs.Fit.{PlacesFit, OrderFit}
 use Rattle.build_labelled.proofs.Regions.{outside-within, starts-same, values-same}
 
@@ -47,7 +47,7 @@ module _ {orders w₀ : List ℕ} {at n k c names place parents base : ℕ} (fit
 
   -- the places are written in the order
   module _ {w₁ : List ℕ} {r : ℕ} (ranking : Kept w₀ w₁ base n) (most : r ≤ n) (written : part w₁ base r ≡ ranked) where
-    long₁ : base + windowSize n k c ≤ length w₁
+    long₁ : base + labelsWindow n k c ≤ length w₁
     long₁ = omega (arith, fit .vertices .room, ranking .long)
 
     count : r ≡ k
@@ -69,11 +69,11 @@ module _ {orders w₀ : List ℕ} {at n k c names place parents base : ℕ} (fit
         {w₂ : List ℕ} {q : ℕ} (rooting : Kept w₁ w₂ (rootsAt base n) k) (few : q ≤ k)
         (roots : part w₂ (rootsAt base n) q ≡ those (rowEmpty (part w₁ parents (k + 1))) (part w₁ base k))
       where
-        kept₁ : Kept w₀ w₁ base (windowSize n k c)
-        kept₁ = kept-wider base (windowSize n k c) (omega arith) (omega arith) ranking
+        kept₁ : Kept w₀ w₁ base (labelsWindow n k c)
+        kept₁ = kept-wider base (labelsWindow n k c) (omega arith) (omega arith) ranking
 
-        kept₂ : Kept w₀ w₂ base (windowSize n k c)
-        kept₂ = kept-then kept₁ (kept-wider base (windowSize n k c) (omega arith) (omega arith) rooting)
+        kept₂ : Kept w₀ w₂ base (labelsWindow n k c)
+        kept₂ = kept-then kept₁ (kept-wider base (labelsWindow n k c) (omega arith) (omega arith) rooting)
 
         sequence-same : part w₂ base k ≡ ranked
         sequence-same = rooting .below base k (omega (arith, count)) ∙ sequence
@@ -100,7 +100,7 @@ module _ {orders w₀ : List ℕ} {at n k c names place parents base : ℕ} (fit
             → RowsAt w₃ (orderedAt base n k) k c (turnedRow (rowsIn w₂ parents (parents + k + 1) c k) (part w₂ base k))
             → OrderRows (part orders at n) w₀ w₃ n k c names parents base q
         ordered turning rows = record {
-          kept = kept-then kept₂ (kept-wider base (windowSize n k c) (omega arith) (omega arith) turning);
+          kept = kept-then kept₂ (kept-wider base (labelsWindow n k c) (omega arith) (omega arith) turning);
           few = few;
           roots =
               turning .below (rootsAt base n) q (omega arith)

@@ -16,7 +16,7 @@ use Rattle.build_groups.proofs.Listing.{place-at}
 use Rattle.build_children.specs.Window.{childrenAt}
 use Rattle.build_children.proofs.Found.{ChildrenStored}
 use Rattle.build_labels.specs.Labels.{childrenIn}
-use Rattle.build_labelled.specs.Window.{windowSize, childrenBy}
+use Rattle.build_labelled.specs.Window.{labelsWindow, childrenBy}
 use Rattle.build_labelled.specs.Fit.{GroupsFit}
 
 module _
@@ -31,7 +31,7 @@ module _
     -- the groups can be labelled
     pub stored-fits :
         {names place base : ℕ} → part w names (G .n) ≡ namesOf G → part w place (G .n) ≡ placesOf (namesOf G)
-        → names + G .n ≤ base → place + G .n ≤ base → c ≤ e → childrenAt from k e + k + 1 + c ≤ base → base + windowSize (G .n) k c ≤ length w → k < 2 ^ 32 → c < 2 ^ 32
+        → names + G .n ≤ base → place + G .n ≤ base → c ≤ e → childrenAt from k e + k + 1 + c ≤ base → base + labelsWindow (G .n) k c ≤ length w → k < 2 ^ 32 → c < 2 ^ 32
         → GroupsFit w (G .n) k c names place from (childrenAt from k e) base
     stored-fits names-are places-are names-low place-low most rows-low room few-groups few-children = record {
       vertices = record {

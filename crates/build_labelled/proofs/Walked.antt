@@ -24,7 +24,7 @@ use Rattle.build_orders.proofs.Parents.{roots-are}
 use Rattle.build_children.proofs.Rows.{upto-order, those-below}
 use Rattle.build_children.proofs.Found.{children-ranked}
 use Rattle.build_labels.specs.Labels.{ranksOf, innersOf}
-use Rattle.build_labelled.specs.Window.{rootsAt, orderedAt, walkAt, byRankAt, windowSize, OrderRows, LabelsMade, Labelled}
+use Rattle.build_labelled.specs.Window.{rootsAt, orderedAt, walkAt, byRankAt, labelsWindow, OrderRows, LabelsMade, Labelled}
 use Rattle.build_labelled.specs.Fit.{OrderFit, LabelsFit, LabelFit}
 use Rattle.build_labelled.proofs.Regions.{rows-within, children-same}
 use Rattle.build_labelled.proofs.Ordered.{ranked-order}
@@ -56,7 +56,7 @@ module _ {orders w₀ : List ℕ} {at n k c names place parents children base : 
     abbrev roots : List ℕ
     roots = part w₁ (rootsAt base n) q
 
-    long₁ : base + windowSize n k c ≤ length w₁
+    long₁ : base + labelsWindow n k c ≤ length w₁
     long₁ = omega (arith, fit .groups .vertices .room, ordered .kept .long)
 
     rows : RowsAt w₁ rowsFrom k c (λ p. those (λ x. childOf (below fit) p x) (ranked fit))
@@ -97,10 +97,10 @@ module _ {orders w₀ : List ℕ} {at n k c names place parents children base : 
         {w₂ : List ℕ} {r : ℕ} (walking : Kept w₁ w₂ (walkAt base n k c) (6 * k))
         (traversed : Traversed (traverse (rowsIn w₁ rowsFrom (rowsFrom + k + 1) c k) (suc k) roots []) w₂ (walkAt base n k c) k r)
       where
-        kept₂ : Kept w₀ w₂ base (windowSize n k c)
-        kept₂ = kept-then (ordered .kept) (kept-wider base (windowSize n k c) (omega arith) (omega arith) walking)
+        kept₂ : Kept w₀ w₂ base (labelsWindow n k c)
+        kept₂ = kept-then (ordered .kept) (kept-wider base (labelsWindow n k c) (omega arith) (omega arith) walking)
 
-        long₂ : base + windowSize n k c ≤ length w₂
+        long₂ : base + labelsWindow n k c ≤ length w₂
         long₂ = omega (arith, fit .groups .vertices .room, kept₂ .long)
 
         finished-is : part w₂ (byRankAt base n k c) r ≡ finished (forest fit)
@@ -128,7 +128,7 @@ module _ {orders w₀ : List ℕ} {at n k c names place parents children base : 
         -- and the labels are made
         pub labelled : {w₃ : List ℕ} → LabelsMade w₂ w₃ (byRankAt base n k c) k c children base → Labelled (part orders at n) w₀ w₃ n k c names children base
         labelled {w₃} made = record {
-          kept = kept-then kept₂ (kept-wider base (windowSize n k c) (omega arith) (omega arith) (made .kept));
+          kept = kept-then kept₂ (kept-wider base (labelsWindow n k c) (omega arith) (omega arith) (made .kept));
           made = (λ i. record { s = s i; m = m i; e = e i; byRank = by-rank i }) ∙ sym (labelling-is fit);
         }
           where

@@ -12,7 +12,7 @@ use Rattle.laws.specs.Laid.{Below, Laid}
 use Rattle.numbers.specs.Regions.{Outside}
 use Rattle.build_rows.specs.Rows.{RowsAt}
 use Rattle.build_labels.specs.Fit.{UpFit}
-use Rattle.build_labelled.specs.Window.{windowSize, groupsBy, childrenBy}
+use Rattle.build_labelled.specs.Window.{labelsWindow, groupsBy, childrenBy}
 
 -- k rows of c values, the values behind the starts, outside a window
 pub record RowsOutside (w : List ℕ) (at k c base size : ℕ) : Type 0 where
@@ -21,18 +21,18 @@ pub record RowsOutside (w : List ℕ) (at k c base size : ℕ) : Type 0 where
 
 -- of each of n vertices the name and the place of its group, of k
 pub record PlacesFit (w : List ℕ) (n k c names place base : ℕ) : Type 0 where
-  pub names-there : Outside w names n base (windowSize n k c)
-  pub place-there : Outside w place n base (windowSize n k c)
+  pub names-there : Outside w names n base (labelsWindow n k c)
+  pub place-there : Outside w place n base (labelsWindow n k c)
   pub places : (v : ℕ) → v < n → getD (part w place n) v 0 ≡ placeOf (groupsBy w names n) (getD (part w names n) v 0)
   pub all : length (groupsBy w names n) ≡ k
-  pub room : base + windowSize n k c ≤ length w
+  pub room : base + labelsWindow n k c ≤ length w
 
 -- an order of the vertices at `at`, and k rows of c places
 pub record OrderFit (orders w : List ℕ) (at n k c names place parents base : ℕ) : Type 0 where
   pub inside : at + n ≤ length orders
   pub order : Order n (part orders at n)
   pub vertices : PlacesFit w n k c names place base
-  pub parents-there : RowsOutside w parents k c base (windowSize n k c)
+  pub parents-there : RowsOutside w parents k c base (labelsWindow n k c)
   pub parents-laid : Laid (part w parents (k + 1)) (part w (parents + k + 1) c) k
   pub parents-low : Below k (part w (parents + k + 1) c)
   pub few : c < 2 ^ 32
@@ -47,10 +47,10 @@ pub record LabelsFit (w : List ℕ) (out k c children base : ℕ) : Type 0 where
 -- the groups of n vertices: names, places, and the rows of children and of parents, c of each; names and children are sound, so no group is below itself
 pub record GroupsFit (w : List ℕ) (n k c names place parents children base : ℕ) : Type 0 where
   pub vertices : PlacesFit w n k c names place base
-  pub children-there : RowsOutside w children k c base (windowSize n k c)
+  pub children-there : RowsOutside w children k c base (labelsWindow n k c)
   pub children-laid : Laid (part w children (k + 1)) (part w (children + k + 1) c) k
   pub sound : SoundGroups (part w names n) (groupsBy w names n) (levelsOf (childrenBy w children k c)) (childrenBy w children k c)
-  pub parents-there : RowsOutside w parents k c base (windowSize n k c)
+  pub parents-there : RowsOutside w parents k c base (labelsWindow n k c)
   pub parents-are : RowsAt w parents k c (λ q. those (λ p. childOf (childrenBy w children k c) p q) (upto k))
   pub few-groups : k < 2 ^ 32
   pub few-children : c < 2 ^ 32

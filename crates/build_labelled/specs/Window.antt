@@ -34,8 +34,8 @@ byRankAt base n k c = walkAt base n k c + 4 * k
 abbrev pub levelsAt : ℕ → ℕ → ℕ
 levelsAt base k = base + 3 * k
 
-abbrev pub windowSize : ℕ → ℕ → ℕ → ℕ
-windowSize n k c = n + 8 * k + 1 + c
+abbrev pub labelsWindow : ℕ → ℕ → ℕ → ℕ
+labelsWindow n k c = n + 8 * k + 1 + c
 
 -- the labelling that lies in a window: e, m and s by place, and the places by rank
 abbrev pub windowLabelling : List ℕ → ℕ → ℕ → ℕ → ℕ → Labelling
@@ -51,7 +51,7 @@ childrenBy w children k c = childrenIn w children (children + k + 1) c k
 
 -- what an order is made into: of the places as the order has them those whose row of parents is empty, q in all, and the parents' rows turned over them
 pub record OrderRows (order w w' : List ℕ) (n k c names parents base q : ℕ) : Type 0 where
-  pub kept : Kept w w' base (windowSize n k c)
+  pub kept : Kept w w' base (labelsWindow n k c)
   pub few : q ≤ k
   pub roots : part w' (rootsAt base n) q ≡ those (rowEmpty (part w parents (k + 1))) (inOrder order (groupsBy w names n))
   pub rows : RowsAt w' (orderedAt base n k) k c (turnedRow (rowsIn w parents (parents + k + 1) c k) (inOrder order (groupsBy w names n)))
@@ -65,5 +65,5 @@ pub record LabelsMade (w w' : List ℕ) (out k c children base : ℕ) : Type 0 w
 
 -- nothing but the window differs, and in it lies the labelling under the order
 pub record Labelled (order w w' : List ℕ) (n k c names children base : ℕ) : Type 0 where
-  pub kept : Kept w w' base (windowSize n k c)
+  pub kept : Kept w w' base (labelsWindow n k c)
   pub made : windowLabelling w' base n k c ≡ labelling (groupsBy w names n) (childrenBy w children k c) order

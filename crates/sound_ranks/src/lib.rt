@@ -6,7 +6,7 @@ ghost use Rattle.lineage.specs.Numbers.{numAt};
 ghost use Rattle.lineage.specs.Sound.{rankPasses, fallPasses, outerPasses, innerPasses};
 ghost use Rattle.stored.specs.Sections.{childrenIn, labellingIn};
 ghost use Rattle.sound_ranks.specs.Tests.{triplesAlone, leastBelow};
-ghost use Rattle.sound_ranks.specs.Fit.{Triples, Labels, Labelled};
+ghost use Rattle.sound_ranks.specs.Fit.{Triples, Labels, LabelledRows};
 use numbers::lesser;
 use numbers::num;
 use sound_groups::row_span;
@@ -61,7 +61,7 @@ fn fall_passes(
     c: usize,
     p: usize,
 ) -> bool
-    requires { ⌜ Labelled w (now starts) (now children) (now triples) k c ⌝ }
+    requires { ⌜ LabelledRows w (now starts) (now children) (now triples) k c ⌝ }
     requires { ⌜ p < k ⌝ }
     ensures { λ a. ⌜ a ≡ fallPasses (childrenIn w (now (starts .entry)) (now (children .entry)) k c) (triplesAlone w (now (triples .entry)) k) p ⌝ }
 {
@@ -89,7 +89,7 @@ pub fn falls_pass(
     k: usize,
     c: usize,
 ) -> bool
-    requires { ⌜ Labelled w (now starts) (now children) (now triples) k c ⌝ }
+    requires { ⌜ LabelledRows w (now starts) (now children) (now triples) k c ⌝ }
     ensures { λ a. ⌜ a ≡ allBelow k (fallPasses (childrenIn w (now (starts .entry)) (now (children .entry)) k c) (triplesAlone w (now (triples .entry)) k)) ⌝ }
 {
     let mut p = 0;
@@ -112,7 +112,7 @@ fn least_below(
     c: usize,
     p: usize,
 ) -> usize
-    requires { ⌜ Labelled w (now starts) (now children) (now triples) k c ⌝ }
+    requires { ⌜ LabelledRows w (now starts) (now children) (now triples) k c ⌝ }
     requires { ⌜ p < k ⌝ }
     ensures { λ r. ⌜ r ≡ leastBelow (childrenIn w (now (starts .entry)) (now (children .entry)) k c) (triplesAlone w (now (triples .entry)) k) p ⌝ }
 {
@@ -139,7 +139,7 @@ fn outer_passes(
     c: usize,
     p: usize,
 ) -> bool
-    requires { ⌜ Labelled w (now starts) (now children) (now triples) k c ⌝ }
+    requires { ⌜ LabelledRows w (now starts) (now children) (now triples) k c ⌝ }
     requires { ⌜ p < k ⌝ }
     ensures { λ a. ⌜ a ≡ outerPasses (childrenIn w (now (starts .entry)) (now (children .entry)) k c) (triplesAlone w (now (triples .entry)) k) p ⌝ }
 {
@@ -155,7 +155,7 @@ pub fn outers_pass(
     k: usize,
     c: usize,
 ) -> bool
-    requires { ⌜ Labelled w (now starts) (now children) (now triples) k c ⌝ }
+    requires { ⌜ LabelledRows w (now starts) (now children) (now triples) k c ⌝ }
     ensures { λ a. ⌜ a ≡ allBelow k (outerPasses (childrenIn w (now (starts .entry)) (now (children .entry)) k c) (triplesAlone w (now (triples .entry)) k)) ⌝ }
 {
     let mut p = 0;

@@ -2,12 +2,12 @@
 -- whole image; code is lent the stretches, and its contracts speak of these lists.
 use mathlib.Core.Path.{_≡_}
 use mathlib.Core.List.{List, map}
-use Prim.Native.Nat.{ℕ, _+_, _*_, _-_}
+use Prim.Native.Nat.{ℕ, _+_, _*_, _-_, _≤_}
 use lib.ListN.{length, getD}
 use Rattle.lineage.specs.Lists.{upto, part}
 use Rattle.lineage.specs.Labels.{Labelling}
 use Rattle.lineage.specs.Index.{Index}
-use Rattle.lineage.specs.Numbers.{numAt, numbers}
+use Rattle.lineage.specs.Numbers.{Width, numAt, numbers}
 use Rattle.lineage.specs.Stored.{sizes, countsIn, stretch, rowAt}
 use Rattle.numbers.specs.Regions.{Part}
 use Rattle.stored_header.specs.declared.Layout.{Layout}
@@ -36,6 +36,13 @@ labellingIn w triples places k = record {
   e = map (λ p. numAt w triples (3 * p + 2)) (upto k);
   byRank = numbers w places k;
 }
+
+-- labels hold d labellings of k groups, within the bounds of every form
+pub record Labellings (w : ℕ) (labels : List ℕ) (k d : ℕ) : Type 0 where
+  pub width : Width w
+  pub groups-few : k ≤ 200000
+  pub labellings-few : d ≤ 5
+  pub long : w * (d * (4 * k)) ≤ length labels
 
 -- the triples of labelling j, and its places by rank, as stretches of the labels
 unfoldable pub triplesOf : ℕ → List ℕ → ℕ → ℕ → List ℕ

@@ -6,7 +6,7 @@ ghost use lib.ListN.{length};
 ghost use Rattle.lineage.specs.Numbers.{Width, numAt};
 ghost use Rattle.numbers.specs.Regions.{Part};
 ghost use Rattle.stored_header.specs.Header.{Laid};
-ghost use Rattle.stored.specs.Sections.{Section, ChildrenOf};
+ghost use Rattle.stored.specs.Sections.{Section, ChildrenOf, Labellings};
 
 // Section i: from its offset to the next one, the last to the total length.
 fn section(index: &[u8], l: Layout, i: usize) -> &[u8]
@@ -85,9 +85,8 @@ pub const E: usize = 2;
 
 // The k triples s, m, e of labelling j, by place.
 pub fn triples(labels: &[u8], w: usize, k: usize, d: usize, j: usize) -> &[u8]
-    requires { ⌜ Width w ⌝ }
-    requires { ⌜ (k ≤ 200000) × ((d ≤ 5) × (j < d)) ⌝ }
-    requires { ⌜ w * (d * (4 * k)) ≤ length (now labels) ⌝ }
+    requires { ⌜ Labellings w (now labels) k d ⌝ }
+    requires { ⌜ j < d ⌝ }
     ensures { λ r. ⌜ Part (now (labels .entry)) (w * (j * (4 * k))) (w * (3 * k)) (now r) ⌝ }
 {
     numbers::numbers_from(labels, w, label_count(k, j), 3 * k)
@@ -95,9 +94,8 @@ pub fn triples(labels: &[u8], w: usize, k: usize, d: usize, j: usize) -> &[u8]
 
 // The k places by rank of labelling j.
 pub fn by_rank(labels: &[u8], w: usize, k: usize, d: usize, j: usize) -> &[u8]
-    requires { ⌜ Width w ⌝ }
-    requires { ⌜ (k ≤ 200000) × ((d ≤ 5) × (j < d)) ⌝ }
-    requires { ⌜ w * (d * (4 * k)) ≤ length (now labels) ⌝ }
+    requires { ⌜ Labellings w (now labels) k d ⌝ }
+    requires { ⌜ j < d ⌝ }
     ensures { λ r. ⌜ Part (now (labels .entry)) (w * (j * (4 * k) + 3 * k)) (w * k) (now r) ⌝ }
 {
     numbers::numbers_from(labels, w, label_count(k, j) + 3 * k, k)

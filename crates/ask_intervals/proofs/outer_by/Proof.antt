@@ -29,8 +29,7 @@ labellings-holds c = (refl, passed-none _ _ _ _ _)
 triples-requires : tie.Need-triples-requires Inv-loop μ-loop Inv-labellings μ-labellings
 triples-requires c κs =
     let s = c .before .before .before in
-    let L = s .pre .0 in
-    (L .width, ((L .groups-few, (L .labellings-few, c .labellings-test .taken)), L .long))
+    (s .pre .0, c .labellings-test .taken)
 
 loop-holds : tie.Need-loop-holds Inv-loop μ-loop Inv-labellings μ-labellings
 loop-holds c = (c .before .before .labellings .inv .0, (omega arith, λ j h. absurd (omega arith)))
