@@ -20,6 +20,8 @@ use Rattle.build_labelled.specs.Window.{labelsWindow, childrenBy}
 use Rattle.build_labelled.proofs.Regions.{children-same}
 use Rattle.build_labelled.proofs.Again.{groups-kept, labelled-since}
 use Rattle.stored_header.specs.declared.Layout.{Layout}
+use Rattle.stored_header.specs.Header.{counts}
+use Rattle.stored_header.proofs.Laid.{sited-by}
 use Rattle.stored.proofs.Held.{labelling-within}
 use Rattle.stored.proofs.LabelNumbers.{numbers-of-long}
 use Rattle.build_writing.proofs.Behind.{blocksPut, blocks-none, blocks-more}
@@ -37,7 +39,7 @@ pub record Turns (l : Layout) (e : ℕ) (orders out₀ w₀ out w : List ℕ) (a
 module _ {l : Layout} {e : ℕ} {orders w₀ : List ℕ} (fit : Ready l e orders w₀) where
   -- where the labels end
   pub total-at : l .total ≡ l .labels + l .width * (l .d * (4 * l .k))
-  total-at = ap (λ (z : Layout). z .total) (fit .laid) ∙ ap (λ n. n + l .width * (l .d * (4 * l .k))) (sym (ap (λ (z : Layout). z .labels) (fit .laid)))
+  total-at = sited-by l (l .width) (counts (l .n) (l .k) (l .c) (l .d)) (fit .laid) .total-at
 
   -- something was written where labellings are made: the groups are still there
   module _ {w : List ℕ} (K : Kept w₀ w (labelsFrom (l .n) (l .k) e) (labelsWindow (l .n) (l .k) (l .c))) where

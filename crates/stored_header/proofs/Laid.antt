@@ -14,7 +14,7 @@ use Rattle.lineage.specs.Calls.{answered, refuse, outcome}
 use Rattle.laws.proofs.Tests.{neither, both}
 use Rattle.laws.proofs.Lists.{same-list}
 use Rattle.stored_header.specs.declared.Layout.{Layout}
-use Rattle.stored_header.specs.Header.{layoutIn, offsetsIn, offsetsOf, offsetsAgree, headerChecks, Laid}
+use Rattle.stored_header.specs.Header.{layoutBy, layoutIn, offsetsIn, offsetsOf, offsetsAgree, headerChecks, Sited, Laid}
 use Rattle.stored_header.proofs.Forms.{Within, form-within}
 
 -- counts that fit a form
@@ -43,6 +43,19 @@ fit-bounds form a fit =
       most = leb-true (a .d) 5 (d .1);
     }
 
+-- a layout that a width and counts give
+pub sited-by : (l : Layout) (w : ℕ) (a : Counts) → l ≡ layoutBy w a → Sited l
+sited-by l w a e =
+    subst⁻¹ Sited e (record {
+      names-at = refl;
+      groups-at = refl;
+      levels-at = refl;
+      starts-at = refl;
+      children-at = refl;
+      labels-at = refl;
+      total-at = refl;
+    })
+
 -- the checks pass only all together
 inverse : (short unknown wrong : Bool) (form : ℕ) (l l' : Layout)
     → answered l ≡ refuse short 10 0 (refuse unknown 11 form (refuse wrong 12 0 (answered l')))
@@ -70,13 +83,7 @@ module _ (b : List ℕ) where
         entries = B .entries;
         least = B .least;
         most = B .most;
-        names-at = refl;
-        groups-at = refl;
-        levels-at = refl;
-        starts-at = refl;
-        children-at = refl;
-        labels-at = refl;
-        total-at = refl;
+        sited = sited-by (layoutIn b) (formOf (headerAt b 0) .width) (countsIn b) refl;
         long = eqb-true (length b) (layoutIn b .total) (o .1);
       }
 

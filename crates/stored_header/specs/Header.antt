@@ -75,6 +75,16 @@ abbrev pub headerOutcome : Header → Outcome Layout
 headerOutcome (Passed l) = answered l
 headerOutcome (Refused number extra) = refused number extra
 
+-- each section starts where the one before it ends, the first behind the header; at the end of the last is the total
+pub record Sited (l : Layout) : Type 0 where
+  pub names-at : l .names ≡ 48
+  pub groups-at : l .groups ≡ l .names + l .width * l .n
+  pub levels-at : l .levels ≡ l .groups + l .width * l .k
+  pub starts-at : l .starts ≡ l .levels + l .width * l .k
+  pub children-at : l .children ≡ l .starts + l .width * (l .k + 1)
+  pub labels-at : l .labels ≡ l .children + l .width * l .c
+  pub total-at : l .total ≡ l .labels + l .width * (l .d * (4 * l .k))
+
 -- the bytes have this layout, whose counts are within the bounds of every form: what a header that passes gives, and all that the calls above need of it
 pub record Laid (b : List ℕ) (l : Layout) : Type 0 where
   pub known : isForm (headerAt b 0) ≡ true
@@ -86,11 +96,5 @@ pub record Laid (b : List ℕ) (l : Layout) : Type 0 where
   pub entries : l .c ≤ 1000000
   pub least : 1 ≤ l .d
   pub most : l .d ≤ 5
-  pub names-at : l .names ≡ 48
-  pub groups-at : l .groups ≡ l .names + l .width * l .n
-  pub levels-at : l .levels ≡ l .groups + l .width * l .k
-  pub starts-at : l .starts ≡ l .levels + l .width * l .k
-  pub children-at : l .children ≡ l .starts + l .width * (l .k + 1)
-  pub labels-at : l .labels ≡ l .children + l .width * l .c
-  pub total-at : l .total ≡ l .labels + l .width * (l .d * (4 * l .k))
+  pub sited : Sited l
   pub long : length b ≡ l .total
