@@ -9,7 +9,7 @@ use borrow.Author.Tests.{le-ltb, eq-eqb, ne-eqb}
 use Rattle.lineage.specs.Lists.{upto, any, among, Every}
 use Rattle.lineage.specs.Graph.{Graph, Ends}
 use Rattle.lineage.specs.Labels.{Order}
-use Rattle.lineage.specs.Stored.{Form}
+use Rattle.lineage.specs.Stored.{Form, mostLabellings}
 use Rattle.lineage.specs.Calls.{Input, orderAt, ordersOf, badEdge, badOrder, built, lengthOf, buildEarly, buildLate}
 use Rattle.laws.proofs.Tests.{clash, is-false}
 use Rattle.laws.proofs.Lists.{in-any, upto-low, table-long, table-at}
@@ -50,7 +50,7 @@ accepted F B work out A permuted room =
         (
           le-ltb (F .edges) (length (G .sources)) (A .edges),
           (
-            rw (ne-eqb (B .d) 0 some) (le-ltb 5 (B .d) (A .most)),
+            rw (ne-eqb (B .d) 0 some) (le-ltb mostLabellings (B .d) (A .most)),
             (
               ap not (eq-eqb (length (B .orders)) _ (A .whole)),
               (

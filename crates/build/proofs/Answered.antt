@@ -10,6 +10,7 @@ use lib.Seq.{take-all}
 use Rattle.lineage.specs.Lists.{part, cleared}
 use Rattle.lineage.specs.Stored.{Form, encode}
 use Rattle.lineage.specs.Calls.{Check, Outcome, refused, answered, outcome, anyApplies, Input, workNeeded, built, lengthOf, buildEarly, buildLate, buildAnswer, buildOutput, buildWork}
+use Rattle.numbers.specs.Bounds.{vertexBound, entryBound}
 use Rattle.numbers.specs.Regions.{Kept}
 use Rattle.stored_header.specs.declared.Row.{Row}
 use Rattle.stored_header.proofs.Checks.{refused-first, passed-first, refused-applies, passed-applies}
@@ -53,7 +54,7 @@ module _ (form : ℕ) (row : Row) (B : Input) (work out : List ℕ) where
     needed-is : needed ≡ workNeeded (B .graph)
     needed-is = passed-is early (workNeeded (B .graph)) needed (sym passed)
 
-    pub admitted-within : RowFit form row → Admitted (boundsOf 200000 1000000) B (length work)
+    pub admitted-within : RowFit form row → Admitted (boundsOf vertexBound entryBound) B (length work)
     admitted-within fit =
         let A = admitted F B (length work) (all-pass early (workNeeded (B .graph)) needed (sym passed)) in
         record {

@@ -10,7 +10,7 @@ use lib.ListN.{length, drop}
 use borrow.Author.Tests.{ltb-false, eqb-true, eqb-false, not-false, lt-ltb, le-ltb, eq-eqb, ne-eqb}
 use Rattle.lineage.specs.Lists.{upto, any, firstOf, Every}
 use Rattle.lineage.specs.Graph.{Graph}
-use Rattle.lineage.specs.Stored.{Form}
+use Rattle.lineage.specs.Stored.{Form, mostLabellings}
 use Rattle.lineage.specs.Calls.{Check, Outcome, refused, answered, refuse, outcome, Input, badEdge, workNeeded, buildEarly}
 use Rattle.laws.proofs.Tests.{or-left, or-right, or-false-left, or-false-right}
 use Rattle.build_orders.proofs.First.{first-other, any-first}
@@ -55,13 +55,13 @@ module _ (F : Form) (B : Input) (work : ℕ) where
   edges-pass h = rw (le-ltb (F .edges) (length (G .sources)) h)
 
   pub labellings-none : B .d ≡ 0 → refused 4 0 ≡ behind 3
-  labellings-none h = rw (or-left (ltb 5 (B .d)) (eq-eqb (B .d) 0 h))
+  labellings-none h = rw (or-left (ltb mostLabellings (B .d)) (eq-eqb (B .d) 0 h))
 
   pub labellings-many : 5 < B .d → refused 4 0 ≡ behind 3
-  labellings-many h = rw (or-right (eqb (B .d) 0) (lt-ltb 5 (B .d) h))
+  labellings-many h = rw (or-right (eqb (B .d) 0) (lt-ltb mostLabellings (B .d) h))
 
-  pub labellings-pass : (B .d ≡ 0 → ⊥) → B .d ≤ 5 → behind 4 ≡ behind 3
-  labellings-pass some few = rw (ne-eqb (B .d) 0 some, le-ltb 5 (B .d) few)
+  pub labellings-pass : (B .d ≡ 0 → ⊥) → B .d ≤ mostLabellings → behind 4 ≡ behind 3
+  labellings-pass some few = rw (ne-eqb (B .d) 0 some, le-ltb mostLabellings (B .d) few)
 
   pub orders-wrong : (length (B .orders) ≡ B .d * G .n → ⊥) → refused 5 0 ≡ behind 4
   orders-wrong h = rw (ne-eqb (length (B .orders)) (B .d * G .n) h)
@@ -113,7 +113,7 @@ module _ {A : Type 0} where
 pub admitted : (F : Form) (B : Input) (work : ℕ) → Every (λ c. c .applies ≡ false) (buildEarly F B work) → Admitted F B work
 admitted F B work p =
     let G : Graph = B .graph in
-    let some : B .d ≡ 0 → ⊥ = eqb-false (B .d) 0 (or-false-left (eqb (B .d) 0) (ltb 5 (B .d)) (p .1 .1 .1 .0)) in
+    let some : B .d ≡ 0 → ⊥ = eqb-false (B .d) 0 (or-false-left (eqb (B .d) 0) (ltb mostLabellings (B .d)) (p .1 .1 .1 .0)) in
     let paired : length (G .sources) ≡ length (G .targets) =
     eqb-true (length (G .sources)) (length (G .targets)) (not-false (eqb (length (G .sources)) (length (G .targets))) (p .1 .0)) in
     record {
@@ -121,7 +121,7 @@ admitted F B work p =
       edges = ltb-false (F .edges) (length (G .sources)) (p .1 .1 .0);
       ends = ends-of G paired (p .1 .1 .1 .1 .1 .1 .0);
       least = pos-of-ne-zero some;
-      most = ltb-false 5 (B .d) (or-false-right (eqb (B .d) 0) (ltb 5 (B .d)) (p .1 .1 .1 .0));
+      most = ltb-false mostLabellings (B .d) (or-false-right (eqb (B .d) 0) (ltb mostLabellings (B .d)) (p .1 .1 .1 .0));
       whole = eqb-true (length (B .orders)) (B .d * G .n) (not-false (eqb (length (B .orders)) (B .d * G .n)) (p .1 .1 .1 .1 .0));
       room = ltb-false work (workNeeded G) (p .1 .1 .1 .1 .1 .0);
     }

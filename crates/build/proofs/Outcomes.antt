@@ -14,6 +14,7 @@ use Rattle.lineage.specs.Index.{Index, indexBy, indexOf}
 use Rattle.lineage.specs.Stored.{Form, encode}
 use Rattle.lineage.specs.Calls.{refused, answered, Input, orderAt, ordersOf, badOrder, workNeeded, built, lengthOf}
 use Rattle.laws.proofs.Lists.{in-upto, any-none}
+use Rattle.numbers.specs.Bounds.{vertexBound, entryBound}
 use Rattle.numbers.specs.Regions.{Kept}
 use Rattle.numbers.proofs.Regions.{kept-then, kept-wider}
 use Rattle.build_orders.proofs.Permutations.{order-of}
@@ -28,7 +29,7 @@ use Rattle.build.specs.Admitted.{Admitted}
 use Rattle.build.specs.Answers.{LateBuilt}
 use Rattle.build.proofs.Checks.{any-found, none-found, first-found}
 
-module _ {B : Input} (work : List ℕ) (A : Admitted (boundsOf 200000 1000000) B (length work)) where
+module _ {B : Input} (work : List ℕ) (A : Admitted (boundsOf vertexBound entryBound) B (length work)) where
   abbrev G : Graph
   G = B .graph
 

@@ -7,6 +7,7 @@ ghost use lib.ListN.{length};
 ghost use Rattle.lineage.specs.Numbers.{Width};
 ghost use Rattle.lineage.specs.Stored.{form1};
 ghost use Rattle.lineage.specs.Calls.{workNeeded, buildEarly, buildAnswer, buildOutput, buildWork, outcome};
+ghost use Rattle.numbers.specs.Bounds.{vertexBound, entryBound};
 ghost use Rattle.build_orders.specs.Input.{graphOf};
 ghost use Rattle.build_indexed.specs.Written.{writtenAs};
 ghost use Rattle.build.specs.Input.{inputOf, boundsOf, formBy, RowFit};
@@ -30,7 +31,7 @@ fn early(
     d: usize,
     work: usize,
 ) -> Checked
-    requires { ⌜ («most_vertices» ≤ 200000) × («most_edges» ≤ 1000000) ⌝ }
+    requires { ⌜ («most_vertices» ≤ vertexBound) × («most_edges» ≤ entryBound) ⌝ }
     ensures { λ r. ⌜ checkedOf r ≡ outcome (buildEarly (boundsOf «most_vertices» «most_edges») (inputOf n (now (sources .entry)) (now (targets .entry)) d (now (orders .entry))) work) (workNeeded (graphOf n (now (sources .entry)) (now (targets .entry)))) ⌝ }
 {
     let edges = sources.len();
@@ -83,7 +84,7 @@ fn late(
 ) -> Built
     requires { ⌜ form < 2 ^ 32 ⌝ }
     requires { ⌜ Width width ⌝ }
-    requires { ⌜ Admitted (boundsOf 200000 1000000) (inputOf n (now sources) (now targets) d (now orders)) (length (now work)) ⌝ }
+    requires { ⌜ Admitted (boundsOf vertexBound entryBound) (inputOf n (now sources) (now targets) d (now orders)) (length (now work)) ⌝ }
     ensures { λ r. ⌜ LateBuilt (writtenAs form width) (inputOf n (now (sources .entry)) (now (targets .entry)) d (now (orders .entry))) (now (work .entry)) (now (out .entry)) (builtOf r) (now (work .exit)) (now (out .exit)) ⌝ }
 {
     let edges = sources.len();

@@ -8,7 +8,8 @@ use lib.ListN.{length}
 use Rattle.lineage.specs.Lists.{part}
 use Rattle.lineage.specs.Numbers.{written}
 use Rattle.lineage.specs.Labels.{Labelling}
-use Rattle.lineage.specs.Stored.{labelNumbers}
+use Rattle.lineage.specs.Stored.{labelNumbers, mostLabellings}
+use Rattle.numbers.specs.Bounds.{vertexBound}
 use Rattle.numbers.specs.Put.{put}
 use Rattle.build_orders.proofs.Permutations.{order-room}
 use Rattle.build_labelled.specs.Window.{byRankAt, windowLabelling, Labelled}
@@ -20,9 +21,9 @@ use Rattle.build_indexed.specs.Memory.{childrenFrom, labelsFrom, labelli
 
 module _ {l : Layout} {e : ℕ} {orders w : List ℕ} (fit : Ready l e orders w) where
   -- order j lies in the order list
-  pub order-small : (j : ℕ) → j < l .d → j * l .n ≤ 1000000
+  pub order-small : (j : ℕ) → j < l .d → j * l .n ≤ mostLabellings * vertexBound
   order-small j h =
-      let few : j ≤ 5 = omega (arith, fit .most) in
+      let few : j ≤ mostLabellings = omega (arith, fit .most) in
       mul-le-mul few (fit .vertices)
 
   -- the regions that code has reckoned

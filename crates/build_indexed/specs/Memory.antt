@@ -14,8 +14,9 @@ use Rattle.lineage.specs.Lists.{joined, part}
 use Rattle.lineage.specs.Numbers.{Width}
 use Rattle.lineage.specs.Graph.{Graph, Ends, Condensed, condense, groupList}
 use Rattle.lineage.specs.Labels.{Order, Labelling, labelling}
-use Rattle.lineage.specs.Stored.{startsFrom, labelNumbers}
+use Rattle.lineage.specs.Stored.{startsFrom, labelNumbers, mostLabellings}
 use Rattle.lineage.specs.Calls.{orderAt, workNeeded}
+use Rattle.numbers.specs.Bounds.{vertexBound, entryBound}
 use Rattle.numbers.specs.Regions.{Kept}
 use Rattle.build_children.specs.Window.{childrenAt}
 use Rattle.build_labelled.specs.Window.{groupsBy, childrenBy, Labelled}
@@ -46,8 +47,8 @@ pub record GroupsStored (w : List ℕ) (n k c e : ℕ) : Type 0 where
 -- edges between vertices, within the bounds of every form, and the needed words
 pub record CondensedFit (G : Graph) (w : List ℕ) : Type 0 where
   pub ends : Ends G
-  pub vertices : G .n ≤ 200000
-  pub edges : length (G .sources) ≤ 1000000
+  pub vertices : G .n ≤ vertexBound
+  pub edges : length (G .sources) ≤ entryBound
   pub room : workNeeded G ≤ length w
 
 -- what is found: k groups and c child entries, in the needed words
@@ -60,10 +61,10 @@ pub record CondensedFound (G : Graph) (w w' : List ℕ) (k c : ℕ) : Type 0 whe
 pub record Ready (l : Layout) (e : ℕ) (orders w : List ℕ) : Type 0 where
   pub width : Width (l .width)
   pub laid : l ≡ layoutBy (l .width) (counts (l .n) (l .k) (l .c) (l .d))
-  pub vertices : l .n ≤ 200000
-  pub edges : e ≤ 1000000
+  pub vertices : l .n ≤ vertexBound
+  pub edges : e ≤ entryBound
   pub least : 1 ≤ l .d
-  pub most : l .d ≤ 5
+  pub most : l .d ≤ mostLabellings
   pub whole : length orders ≡ l .d * l .n
   pub permuted : (j : ℕ) → j < l .d → Order (l .n) (orderAt (l .n) orders j)
   pub stored : GroupsStored w (l .n) (l .k) (l .c) e

@@ -9,6 +9,7 @@ ghost use Rattle.lineage.specs.Numbers.{written};
 ghost use Rattle.lineage.specs.Index.{indexBy};
 ghost use Rattle.lineage.specs.Stored.{encode};
 ghost use Rattle.lineage.specs.Calls.{orderAt};
+ghost use Rattle.numbers.specs.Bounds.{vertexBound, entryBound};
 ghost use Rattle.numbers.specs.Put.{put};
 ghost use Rattle.numbers.specs.Regions.{Kept};
 ghost use Rattle.build_labelled.specs.Window.{byRankAt, labelsWindow};
@@ -34,7 +35,7 @@ pub fn condensed(n: usize, sources: &[u32], targets: &[u32], w: &mut [u32]) -> S
 
 // Where the children lie: behind names, group list, places and parents.
 fn children_from(n: usize, k: usize, edges: usize) -> usize
-    requires { ⌜ (n ≤ 200000) × ((k ≤ n) × (edges ≤ 1000000)) ⌝ }
+    requires { ⌜ (n ≤ vertexBound) × ((k ≤ n) × (edges ≤ entryBound)) ⌝ }
     ensures { λ r. ⌜ r ≡ childrenFrom n k edges ⌝ }
 {
     3 * n + k + 1 + edges + k
@@ -42,7 +43,7 @@ fn children_from(n: usize, k: usize, edges: usize) -> usize
 
 // Where a labelling is made: behind the children.
 fn labels_from(n: usize, k: usize, edges: usize) -> usize
-    requires { ⌜ (n ≤ 200000) × ((k ≤ n) × (edges ≤ 1000000)) ⌝ }
+    requires { ⌜ (n ≤ vertexBound) × ((k ≤ n) × (edges ≤ entryBound)) ⌝ }
     ensures { λ r. ⌜ r ≡ labelsFrom n k edges ⌝ }
 {
     children_from(n, k, edges) + k + 1 + edges
@@ -50,7 +51,7 @@ fn labels_from(n: usize, k: usize, edges: usize) -> usize
 
 // Where the places by rank of a labelling lie.
 fn by_rank_from(n: usize, k: usize, c: usize, edges: usize) -> usize
-    requires { ⌜ (n ≤ 200000) × ((k ≤ n) × ((c ≤ edges) × (edges ≤ 1000000))) ⌝ }
+    requires { ⌜ (n ≤ vertexBound) × ((k ≤ n) × ((c ≤ edges) × (edges ≤ entryBound))) ⌝ }
     ensures { λ r. ⌜ r ≡ byRankAt (labelsFrom n k edges) n k c ⌝ }
 {
     labels_from(n, k, edges) + n + k + k + 1 + c + 4 * k

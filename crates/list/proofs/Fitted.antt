@@ -19,6 +19,7 @@ use Rattle.laws.proofs.Decides.{sound-decides}
 use Rattle.laws.proofs.Grouped.{name-in, group-name, place-low}
 use Rattle.laws.proofs.Inverse.{e-most}
 use Rattle.laws.proofs.Lists.{table-at}
+use Rattle.numbers.specs.Bounds.{entryBound}
 use Rattle.numbers.specs.Regions.{Part}
 use Rattle.numbers.proofs.Numbers.{room, numbers-long, numbers-at}
 use Rattle.stored_header.specs.declared.Layout.{Layout}
@@ -97,7 +98,7 @@ module _
     unfolding indexFrom
     sound-groups = sound-index .condensed
 
-    holds : (s : List ℕ) (count : ℕ) → length s ≡ w * count → count ≤ 1000000 → Holds w s count
+    holds : (s : List ℕ) (count : ℕ) → length s ≡ w * count → count ≤ entryBound → Holds w s count
     holds s count e h = record { width = S .width; long = omega arith; few = h }
 
     rows-pass : allBelow k (rowPasses (childrenIn w starts children k c)) ≡ true

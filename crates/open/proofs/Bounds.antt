@@ -9,9 +9,10 @@ use lib.ListN.{length}
 use Rattle.lineage.specs.Lists.{Every}
 use Rattle.lineage.specs.Index.{Index}
 use Rattle.lineage.specs.Numbers.{written}
-use Rattle.lineage.specs.Stored.{form1, Counts, startsFrom, sections, countsOf, header, encode, countsIn}
+use Rattle.lineage.specs.Stored.{form1, Counts, startsFrom, sections, countsOf, header, encode, countsIn, mostLabellings}
 use Rattle.laws.specs.Sound.{Sound}
 use Rattle.laws.proofs.Starts.{starts-long}
+use Rattle.numbers.specs.Bounds.{vertexBound}
 use Rattle.numbers.proofs.Written.{written-long}
 use Rattle.stored_header.specs.declared.Layout.{Layout}
 use Rattle.stored_header.specs.Header.{Laid}
@@ -20,7 +21,7 @@ use Rattle.stored.proofs.LabelNumbers.{labels-long}
 use Rattle.stored.proofs.Encoded.{counts-again}
 use Rattle.open.proofs.Fits.{full}
 
-module _ {I : Index} (S : Sound I) (short : length (encode form1 I) < 2 ^ 31) (few : length (I .labels) ≤ 5) where
+module _ {I : Index} (S : Sound I) (short : length (encode form1 I) < 2 ^ 31) (few : length (I .labels) ≤ mostLabellings) where
   abbrev a : Counts
   a = countsOf I
 
@@ -47,8 +48,8 @@ module _ {I : Index} (S : Sound I) (short : length (encode form1 I) < 2 ^ 31) (f
 pub laid-short : {b : List ℕ} {l : Layout} → Laid b l → length b < 2 ^ 31
 laid-short {b} {l} L =
     let w = L .width .high in
-    let k : l .k ≤ 200000 = omega (arith, L .vertices, L .groups) in
-    let k1 : l .k + 1 ≤ 200001 = omega arith in
+    let k : l .k ≤ vertexBound = omega (arith, L .vertices, L .groups) in
+    let k1 : l .k + 1 ≤ vertexBound + 1 = omega arith in
     omega (
       arith,
       L .long,

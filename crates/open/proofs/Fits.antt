@@ -11,7 +11,7 @@ use Rattle.lineage.specs.Lists.{Every}
 use Rattle.lineage.specs.Graph.{Graph, Ends, namesOf, condense, levelsOf}
 use Rattle.lineage.specs.Labels.{Order, Labelling, labelling}
 use Rattle.lineage.specs.Index.{Index, indexBy, indexOf}
-use Rattle.lineage.specs.Stored.{Form, form1, Counts, countsOf, countsFit, encode, headerAt, countsIn, formOf, section}
+use Rattle.lineage.specs.Stored.{Form, form1, Counts, countsOf, countsFit, encode, headerAt, countsIn, formOf, section, mostLabellings}
 use Rattle.lineage.specs.Sound.{startsPass, sound, contentsSound}
 use Rattle.lineage.specs.Calls.{answered, openAnswer}
 use Rattle.laws.specs.Sound.{SoundLabelling, Sound}
@@ -40,7 +40,7 @@ pub bounds-kept : (F : Form) (G : Graph) → Ends G → (orders : List (List ℕ
     → G .n ≤ F .vertices
     → length (G .sources) ≤ F .entries
     → 1 ≤ length orders
-    → length orders ≤ 5
+    → length orders ≤ mostLabellings
     → countsFit F (countsOf (indexOf G orders)) ≡ true
 unfolding indexOf indexBy condense
 bounds-kept F G ends orders permuted vertices edges least most =

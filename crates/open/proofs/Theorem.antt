@@ -12,7 +12,7 @@ use Rattle.lineage.specs.Lists.{joined, Every}
 use Rattle.lineage.specs.Graph.{Graph, Ends}
 use Rattle.lineage.specs.Labels.{Order, labelling}
 use Rattle.lineage.specs.Index.{Index, indexBy, indexOf, Made}
-use Rattle.lineage.specs.Stored.{Form, form1, Counts, countsOf, countsFit, encode, headerAt, countsIn, formOf, stretch, section, labellingAt, decode}
+use Rattle.lineage.specs.Stored.{Form, form1, Counts, countsOf, countsFit, encode, headerAt, countsIn, formOf, stretch, section, labellingAt, decode, mostLabellings}
 use Rattle.lineage.specs.Sound.{startsPass, sound, contentsSound}
 use Rattle.lineage.specs.Calls.{answered, openAnswer, indexIn}
 use Rattle.laws.proofs.Sound.{made-sound, sound-is-made, made-long}
@@ -133,7 +133,7 @@ pub built-opens : (G : Graph) → Ends G → (orders : List (List ℕ)) → Ever
     → G .n ≤ 4096
     → length (G .sources) ≤ 16384
     → 1 ≤ length orders
-    → length orders ≤ 5
+    → length orders ≤ mostLabellings
     → (marks : ℕ)
     → G .n ≤ marks
     → openAnswer (encode form1 (indexOf G orders)) marks ≡ answered (countsOf (indexOf G orders))

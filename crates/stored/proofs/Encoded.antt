@@ -16,6 +16,7 @@ use Rattle.lineage.specs.Calls.{answered, outcome, indexIn}
 use Rattle.laws.proofs.Lists.{getD-mapped, same-self}
 use Rattle.laws.proofs.Every.{every-at}
 use Rattle.laws.proofs.Starts.{starts-long, rows-read}
+use Rattle.numbers.specs.Bounds.{vertexBound}
 use Rattle.numbers.proofs.Written.{written-long, num-front, written-at, numbers-written}
 use Rattle.stored_header.specs.Header.{layoutIn, offsetsIn, headerChecks, Laid}
 use Rattle.stored.specs.Fits.{Fits}
@@ -49,7 +50,7 @@ pub header-fits : (F : Form) (a : Counts) → F .number < 2 ^ 32 → Bounded F a
 header-fits F a number B =
     let w = B .width .high in
     let vertices = mul-le-mul w (B .vertices) in
-    let k : a .k ≤ 200000 = omega arith in
+    let k : a .k ≤ vertexBound = omega arith in
     let groups = mul-le-mul w k in
     let entries = mul-le-mul w (B .entries) in
     let labels = mul-le-mul w (mul-le-mul (B .most) (mul-le-mul-left 4 k)) in

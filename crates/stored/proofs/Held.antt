@@ -5,6 +5,8 @@ use Prim.Native.Nat.{ℕ, _+_, _*_, _-_, _^_, _≤_, _<_}
 use native.Mathlib.Omega.{arith}
 use native.Mathlib.Nat.{mul-le-mul, mul-le-mul-left, mul-le-mul-right, suc-mul}
 use lib.ListN.{length}
+use Rattle.lineage.specs.Stored.{mostLabellings}
+use Rattle.numbers.specs.Bounds.{vertexBound}
 use Rattle.numbers.specs.Regions.{Part}
 use Rattle.stored.specs.Sections.{Labellings}
 
@@ -16,7 +18,7 @@ labelling-within k d j h = omega (arith, mul-le-mul-right (4 * k) h, suc-mul j (
 pub labelling-fits : {w k d : ℕ} {labels : List ℕ} → Labellings w labels k d → (j from count : ℕ) → j < d → from + count ≤ j * (4 * k) + 4 * k
     → (from + count < 2 ^ 32) × (w * (from + count) ≤ length labels)
 labelling-fits {w} {k} {d} L j from count h r =
-    let most : d * (4 * k) ≤ 5 * (4 * 200000) = mul-le-mul (L .labellings-few) (mul-le-mul-left 4 (L .groups-few)) in
+    let most : d * (4 * k) ≤ mostLabellings * (4 * vertexBound) = mul-le-mul (L .labellings-few) (mul-le-mul-left 4 (L .groups-few)) in
     let within : from + count ≤ d * (4 * k) = omega (arith, labelling-within k d j h) in
     (omega arith, omega (arith, mul-le-mul-left w within, L .long))
 

@@ -8,7 +8,8 @@ use Rattle.lineage.specs.Lists.{upto, part}
 use Rattle.lineage.specs.Labels.{Labelling}
 use Rattle.lineage.specs.Index.{Index}
 use Rattle.lineage.specs.Numbers.{Width, numAt, numbers}
-use Rattle.lineage.specs.Stored.{sizes, countsIn, stretch, rowAt}
+use Rattle.lineage.specs.Stored.{sizes, countsIn, stretch, rowAt, mostLabellings}
+use Rattle.numbers.specs.Bounds.{vertexBound}
 use Rattle.numbers.specs.Regions.{Part}
 use Rattle.stored_header.specs.declared.Layout.{Layout}
 
@@ -40,8 +41,8 @@ labellingIn w triples places k = record {
 -- labels hold d labellings of k groups, within the bounds of every form
 pub record Labellings (w : ℕ) (labels : List ℕ) (k d : ℕ) : Type 0 where
   pub width : Width w
-  pub groups-few : k ≤ 200000
-  pub labellings-few : d ≤ 5
+  pub groups-few : k ≤ vertexBound
+  pub labellings-few : d ≤ mostLabellings
   pub long : w * (d * (4 * k)) ≤ length labels
 
 -- the triples of labelling j, and its places by rank, as stretches of the labels

@@ -9,10 +9,11 @@ use lib.ListN.{length}
 use borrow.Author.Tests.{leb-true, eqb-true, not-false}
 use Rattle.lineage.specs.Lists.{sameList}
 use Rattle.lineage.specs.Numbers.{Width}
-use Rattle.lineage.specs.Stored.{Form, Counts, headerAt, countsIn, formOf, isForm, countsFit, offsetsFit}
+use Rattle.lineage.specs.Stored.{Form, Counts, headerAt, countsIn, formOf, isForm, countsFit, offsetsFit, mostLabellings}
 use Rattle.lineage.specs.Calls.{answered, refuse, outcome}
 use Rattle.laws.proofs.Tests.{neither, both}
 use Rattle.laws.proofs.Lists.{same-list}
+use Rattle.numbers.specs.Bounds.{vertexBound, entryBound}
 use Rattle.stored_header.specs.declared.Layout.{Layout}
 use Rattle.stored_header.specs.Header.{layoutBy, layoutIn, offsetsIn, offsetsOf, offsetsAgree, headerChecks, Sited, Laid}
 use Rattle.stored_header.proofs.Forms.{Within, form-within}
@@ -20,11 +21,11 @@ use Rattle.stored_header.proofs.Forms.{Within, form-within}
 -- counts that fit a form
 pub record Bounded (F : Form) (a : Counts) : Type 0 where
   pub width : Width (F .width)
-  pub vertices : a .n ≤ 200000
+  pub vertices : a .n ≤ vertexBound
   pub groups : a .k ≤ a .n
-  pub entries : a .c ≤ 1000000
+  pub entries : a .c ≤ entryBound
   pub least : 1 ≤ a .d
-  pub most : a .d ≤ 5
+  pub most : a .d ≤ mostLabellings
 
 pub fit-bounds : (form : ℕ) (a : Counts) → countsFit (formOf form) a ≡ true → Bounded (formOf form) a
 fit-bounds form a fit =
@@ -40,7 +41,7 @@ fit-bounds form a fit =
       groups = leb-true (a .k) (a .n) (k .0);
       entries = omega (arith, leb-true (a .c) (F .entries) (c .0), W .entries);
       least = leb-true 1 (a .d) (d .0);
-      most = leb-true (a .d) 5 (d .1);
+      most = leb-true (a .d) mostLabellings (d .1);
     }
 
 -- a layout that a width and counts give

@@ -7,8 +7,9 @@ use lib.Dec.{eqb}
 use lib.ListN.{length, getD, take}
 use Rattle.lineage.specs.Lists.{upto, sameList}
 use Rattle.lineage.specs.Numbers.{Width}
-use Rattle.lineage.specs.Stored.{Counts, offsets, headerAt, countsIn, formOf, isForm}
+use Rattle.lineage.specs.Stored.{Counts, offsets, headerAt, countsIn, formOf, isForm, mostLabellings}
 use Rattle.lineage.specs.Calls.{Check, Outcome, refused, answered, formChecks}
+use Rattle.numbers.specs.Bounds.{vertexBound, entryBound}
 use Rattle.stored_header.specs.declared.Row.{Row}
 use Rattle.stored_header.specs.declared.Layout.{Layout}
 use Rattle.stored_header.specs.declared.Header.{Header}
@@ -91,10 +92,10 @@ pub record Laid (b : List ℕ) (l : Layout) : Type 0 where
   pub is : l ≡ layoutIn b
   pub offsets : offsetsIn b ≡ offsetsOf l
   pub width : Width (l .width)
-  pub vertices : l .n ≤ 200000
+  pub vertices : l .n ≤ vertexBound
   pub groups : l .k ≤ l .n
-  pub entries : l .c ≤ 1000000
+  pub entries : l .c ≤ entryBound
   pub least : 1 ≤ l .d
-  pub most : l .d ≤ 5
+  pub most : l .d ≤ mostLabellings
   pub sited : Sited l
   pub long : length b ≡ l .total

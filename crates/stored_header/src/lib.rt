@@ -5,8 +5,9 @@ ghost use lib.Dec.{eqb};
 ghost use lib.ListN.{length};
 ghost use Rattle.lineage.specs.Lists.{Every};
 ghost use Rattle.lineage.specs.Numbers.{Width, written};
-ghost use Rattle.lineage.specs.Stored.{headerAt, formOf, countsFit};
+ghost use Rattle.lineage.specs.Stored.{headerAt, formOf, countsFit, mostLabellings};
 ghost use Rattle.lineage.specs.Calls.{outcome};
+ghost use Rattle.numbers.specs.Bounds.{vertexBound, entryBound};
 ghost use Rattle.numbers.specs.Put.{put};
 ghost use Rattle.stored_header.specs.Header.{rowOf, counts, layoutBy, layoutIn, offsetsAgree, headerOf, headerChecks, headerOutcome};
 
@@ -68,8 +69,8 @@ fn counts_fit(form: usize, n: usize, k: usize, c: usize, d: usize) -> bool
 
 // The numbers of the labels: four for each group and labelling.
 pub fn label_count(k: usize, d: usize) -> usize
-    requires { ⌜ (k ≤ 200000) × (d ≤ 5) ⌝ }
-    ensures { λ r. ⌜ (r ≡ d * (4 * k)) × (r ≤ 4000000) ⌝ }
+    requires { ⌜ (k ≤ vertexBound) × (d ≤ mostLabellings) ⌝ }
+    ensures { λ r. ⌜ (r ≡ d * (4 * k)) × (r ≤ mostLabellings * (4 * vertexBound)) ⌝ }
 {
     d * (4 * k)
 }
@@ -77,7 +78,7 @@ pub fn label_count(k: usize, d: usize) -> usize
 // Sections of these sizes follow the header without gaps.
 pub fn lay_out(width: usize, n: usize, k: usize, c: usize, d: usize) -> Layout
     requires { ⌜ Width width ⌝ }
-    requires { ⌜ (n ≤ 200000) × ((k ≤ n) × ((c ≤ 1000000) × (d ≤ 5))) ⌝ }
+    requires { ⌜ (n ≤ vertexBound) × ((k ≤ n) × ((c ≤ entryBound) × (d ≤ mostLabellings))) ⌝ }
     ensures { λ r. ⌜ r ≡ layoutBy width (counts n k c d) ⌝ }
 {
     let names = HEADER_LENGTH;

@@ -7,6 +7,7 @@ use native.Mathlib.Nat.{mul-le-mul}
 use borrow.Author.Needs.{needs}
 use Rattle.lineage.specs.Calls.{Outcome, Input}
 use Rattle.lineage.specs.Stored.{Form}
+use Rattle.numbers.specs.Bounds.{vertexBound}
 use Rattle.build.specs.Input.{inputOf, boundsOf}
 use Rattle.build.proofs.Checks.{behind, vertices-many, vertices-pass, lists-differ, lists-pass, edges-many, edges-pass, labellings-none, labellings-many, labellings-pass, orders-wrong, orders-pass, work-short, work-pass, edge-bad, edges-right}
 use Rattle.build.proofs.early.Statement.{statement}
@@ -63,7 +64,7 @@ mul-if6 : tie.Need-mul-if6
 mul-if6 c =
     let e = c .before .before .before .before in
     let n = start e .args .n in
-    let low : n ≤ 200000 = omega arith in
+    let low : n ≤ vertexBound = omega arith in
     omega (arith, mul-le-mul (c .if5 .left) low)
 
 returns-6 : tie.Need-returns-6
