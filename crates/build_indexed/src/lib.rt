@@ -24,12 +24,12 @@ pub struct Sizes {
 }
 
 // Finds the groups and their children: names, group list and places in the first 3n words, then the rows of parents and of children.
-pub fn condensed(n: usize, sources: &[u32], targets: &[u32], w: &mut [u32]) -> Sizes
-    requires { ⌜ CondensedFit (graphOf n (now sources) (now targets)) (now w) ⌝ }
-    ensures { λ r. ⌜ CondensedFound (graphOf n (now (sources .entry)) (now (targets .entry))) (now (w .entry)) (now (w .exit)) (r .k) (r .c) ⌝ }
+pub fn condensed(n: usize, sources: &[u32], targets: &[u32], work: &mut [u32]) -> Sizes
+    requires { ⌜ CondensedFit (graphOf n (now sources) (now targets)) (now work) ⌝ }
+    ensures { λ r. ⌜ CondensedFound (graphOf n (now (sources .entry)) (now (targets .entry))) (now (work .entry)) (now (work .exit)) (r .k) (r .c) ⌝ }
 {
-    let k = build_condense::condense(n, sources, targets, w);
-    let c = build_children::children(sources, targets, w, 2 * n, n, k, 3 * n);
+    let k = build_condense::condense(n, sources, targets, work);
+    let c = build_children::children(sources, targets, work, 2 * n, n, k, 3 * n);
     Sizes { k, c }
 }
 
@@ -65,12 +65,12 @@ fn write_order(
     edges: usize,
     orders: &[u32],
     j: usize,
-    w: &mut [u32],
+    work: &mut [u32],
 )
-    requires { ⌜ Ready l edges (now orders) (now w) ⌝ }
+    requires { ⌜ Ready l edges (now orders) (now work) ⌝ }
     requires { ⌜ (j < l .d) × (at + l .width * (4 * l .k) ≤ length (now out)) ⌝ }
-    ensures { λ _. ⌜ OrderLabelled l edges (now (orders .entry)) (now (w .entry)) (now (w .exit)) j ⌝ }
-    ensures { λ _. ⌜ now (out .exit) ≡ put (now (out .entry)) at (written (l .width) (labellingBlock l edges (now (orders .entry)) (now (w .entry)) j)) ⌝ }
+    ensures { λ _. ⌜ OrderLabelled l edges (now (orders .entry)) (now (work .entry)) (now (work .exit)) j ⌝ }
+    ensures { λ _. ⌜ now (out .exit) ≡ put (now (out .entry)) at (written (l .width) (labellingBlock l edges (now (orders .entry)) (now (work .entry)) j)) ⌝ }
 {
     let n = l.n;
     let k = l.k;
@@ -78,12 +78,24 @@ fn write_order(
     let children = children_from(n, k, edges);
     let base = labels_from(n, k, edges);
     let by_rank = by_rank_from(n, k, c, edges);
-    build_labelled::label(orders, j * n, w, n, k, c, 0, 2 * n, 3 * n, children, base);
+    build_labelled::label(
+        orders,
+        j * n,
+        work,
+        n,
+        k,
+        c,
+        0,
+        2 * n,
+        3 * n,
+        children,
+        base,
+    );
     build_writing::write_labelling(
         out,
         at,
         l.width,
-        w,
+        work,
         base + 2 * k,
         base + k,
         base,
@@ -93,17 +105,17 @@ fn write_order(
 }
 
 // Labels the groups under one order after the other, and writes each labelling behind the one before it, at the offset of the labels.
-fn write_labels(out: &mut [u8], l: Layout, edges: usize, orders: &[u32], w: &mut [u32])
-    requires { ⌜ Ready l edges (now orders) (now w) ⌝ }
+fn write_labels(out: &mut [u8], l: Layout, edges: usize, orders: &[u32], work: &mut [u32])
+    requires { ⌜ Ready l edges (now orders) (now work) ⌝ }
     requires { ⌜ l .total ≤ length (now out) ⌝ }
-    ensures { λ _. ⌜ OrderLabelled l edges (now (orders .entry)) (now (w .entry)) (now (w .exit)) (l .d - 1) ⌝ }
-    ensures { λ _. ⌜ now (out .exit) ≡ put (now (out .entry)) (l .labels) (written (l .width) (joined (map (labellingBlock l edges (now (orders .entry)) (now (w .entry))) (upto (l .d))))) ⌝ }
+    ensures { λ _. ⌜ OrderLabelled l edges (now (orders .entry)) (now (work .entry)) (now (work .exit)) (l .d - 1) ⌝ }
+    ensures { λ _. ⌜ now (out .exit) ≡ put (now (out .entry)) (l .labels) (written (l .width) (joined (map (labellingBlock l edges (now (orders .entry)) (now (work .entry))) (upto (l .d))))) ⌝ }
 {
     let step = numbers::bytes_of(l.width, 4 * l.k);
     let mut at = l.labels;
     let mut j = 0;
     while j < l.d {
-        write_order(out, at, l, edges, orders, j, w);
+        write_order(out, at, l, edges, orders, j, work);
         at += step;
         j += 1;
     }
@@ -117,26 +129,26 @@ pub fn write_index(
     l: Layout,
     edges: usize,
     orders: &[u32],
-    w: &mut [u32],
+    work: &mut [u32],
 )
     requires { ⌜ form < 2 ^ 32 ⌝ }
-    requires { ⌜ Ready l edges (now orders) (now w) ⌝ }
+    requires { ⌜ Ready l edges (now orders) (now work) ⌝ }
     requires { ⌜ l .total ≤ length (now out) ⌝ }
-    ensures { λ _. ⌜ now (out .exit) ≡ encode (writtenAs form (l .width)) (indexBy (condensedIn (now (w .entry)) (l .n) (l .k) (l .c) edges) (map (orderAt (l .n) (now (orders .entry))) (upto (l .d)))) ++ drop (l .total) (now (out .entry)) ⌝ }
-    ensures { λ _. ⌜ Kept (now (w .entry)) (now (w .exit)) (labelsFrom (l .n) (l .k) edges) (labelsWindow (l .n) (l .k) (l .c)) ⌝ }
+    ensures { λ _. ⌜ now (out .exit) ≡ encode (writtenAs form (l .width)) (indexBy (condensedIn (now (work .entry)) (l .n) (l .k) (l .c) edges) (map (orderAt (l .n) (now (orders .entry))) (upto (l .d)))) ++ drop (l .total) (now (out .entry)) ⌝ }
+    ensures { λ _. ⌜ Kept (now (work .entry)) (now (work .exit)) (labelsFrom (l .n) (l .k) edges) (labelsWindow (l .n) (l .k) (l .c)) ⌝ }
 {
     let n = l.n;
     let k = l.k;
     let c = l.c;
     let children = children_from(n, k, edges);
     let base = labels_from(n, k, edges);
-    write_labels(out, l, edges, orders, w);
-    build_labelled::levels(w, n, k, c, children, base);
+    write_labels(out, l, edges, orders, work);
+    build_labelled::levels(work, n, k, c, children, base);
     build_writing::write_groups(
         out,
         form,
         l,
-        w,
+        work,
         0,
         n,
         base + 3 * k,

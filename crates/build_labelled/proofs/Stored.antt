@@ -20,19 +20,19 @@ use Rattle.build_labelled.specs.Window.{labelsWindow, childrenBy}
 use Rattle.build_labelled.specs.Fit.{GroupsFit}
 
 module _
-    (G : Graph) (ends : Ends G) {w : List ℕ} {from k e c : ℕ} (all : length (groupList (namesOf G)) ≡ k)
-    (stored : ChildrenStored (childrenOf G (namesOf G) (groupList (namesOf G))) w from k e c)
+    (G : Graph) (ends : Ends G) {work : List ℕ} {from k e c : ℕ} (all : length (groupList (namesOf G)) ≡ k)
+    (stored : ChildrenStored (childrenOf G (namesOf G) (groupList (namesOf G))) work from k e c)
   where
     -- the children that lie in the buffer
-    pub children-are : childrenBy w (childrenAt from k e) k c ≡ childrenOf G (namesOf G) (groupList (namesOf G))
+    pub children-are : childrenBy work (childrenAt from k e) k c ≡ childrenOf G (namesOf G) (groupList (namesOf G))
     unfolding childrenIn
     children-are = rows-are (childrenOf G (namesOf G) (groupList (namesOf G))) (children-long G ends ∙ all) (stored .rows)
 
     -- the groups can be labelled
     pub stored-fits :
-        {names place base : ℕ} → part w names (G .n) ≡ namesOf G → part w place (G .n) ≡ placesOf (namesOf G)
-        → names + G .n ≤ base → place + G .n ≤ base → c ≤ e → childrenAt from k e + k + 1 + c ≤ base → base + labelsWindow (G .n) k c ≤ length w → k < 2 ^ 32 → c < 2 ^ 32
-        → GroupsFit w (G .n) k c names place from (childrenAt from k e) base
+        {names place base : ℕ} → part work names (G .n) ≡ namesOf G → part work place (G .n) ≡ placesOf (namesOf G)
+        → names + G .n ≤ base → place + G .n ≤ base → c ≤ e → childrenAt from k e + k + 1 + c ≤ base → base + labelsWindow (G .n) k c ≤ length work → k < 2 ^ 32 → c < 2 ^ 32
+        → GroupsFit work (G .n) k c names place from (childrenAt from k e) base
     stored-fits names-are places-are names-low place-low most rows-low room few-groups few-children = record {
       vertices = record {
         names-there = record { fits = omega arith; apart = under names-low };

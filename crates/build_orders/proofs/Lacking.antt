@@ -10,10 +10,10 @@ use Rattle.laws.proofs.Lists.{any-in, in-upto}
 use Rattle.laws.proofs.Parts.{part-at}
 use Rattle.build_orders.specs.Lacks.{lacks}
 
-module _ (w : List ℕ) (base n stamp v : ℕ) (h : v < n) where
-  pub word-has : getD w (base + v) 0 ≡ stamp → lacks stamp (part w base n) v ≡ false
-  word-has e = ap not (eq-eqb (getD (part w base n) v 0) stamp (sym (part-at w base n v h) ∙ e))
+module _ (work : List ℕ) (base n stamp v : ℕ) (h : v < n) where
+  pub word-has : getD work (base + v) 0 ≡ stamp → lacks stamp (part work base n) v ≡ false
+  word-has e = ap not (eq-eqb (getD (part work base n) v 0) stamp (sym (part-at work base n v h) ∙ e))
 
-  pub word-lacks : (getD w (base + v) 0 ≡ stamp → ⊥) → true ≡ any (lacks stamp (part w base n)) (upto n)
+  pub word-lacks : (getD work (base + v) 0 ≡ stamp → ⊥) → true ≡ any (lacks stamp (part work base n)) (upto n)
   word-lacks ne =
-      sym (any-in (lacks stamp (part w base n)) v (upto n) (in-upto n v h) (ap not (ne-eqb (getD (part w base n) v 0) stamp (λ e. ne (part-at w base n v h ∙ e)))))
+      sym (any-in (lacks stamp (part work base n)) v (upto n) (in-upto n v h) (ap not (ne-eqb (getD (part work base n) v 0) stamp (λ e. ne (part-at work base n v h ∙ e)))))

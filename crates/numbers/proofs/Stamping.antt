@@ -31,35 +31,35 @@ stamped-past : {stamp : ℕ} {numbers words words' : List ℕ} (u : ℕ) → len
 stamped-past {numbers = numbers} u h s = record { at = λ v k. rw (among-other v u numbers (λ e. omega arith)) (s .at v k) }
 
 -- of s, from at on, j numbers are gone through: their words are stamped in the window, n words from base on
-pub record Stamping (w₀ w s : List ℕ) (base n stamp at j : ℕ) : Type 0 where
-  pub kept : Kept w₀ w base n
-  pub stamped : Stamped stamp (part s at j) (part w₀ base n) (part w base n)
+pub record Stamping (work₀ work s : List ℕ) (base n stamp at j : ℕ) : Type 0 where
+  pub kept : Kept work₀ work base n
+  pub stamped : Stamped stamp (part s at j) (part work₀ base n) (part work base n)
 
-pub stamping-none : (w s : List ℕ) (base n stamp at : ℕ) → Stamping w w s base n stamp at 0
+pub stamping-none : (work s : List ℕ) (base n stamp at : ℕ) → Stamping work work s base n stamp at 0
 unfolding part
-stamping-none w s base n stamp at = record { kept = kept-same w base n; stamped = record { at = λ v h. refl } }
+stamping-none work s base n stamp at = record { kept = kept-same work base n; stamped = record { at = λ v h. refl } }
 
 module _
-    {w₀ w s : List ℕ} {base n stamp at j : ℕ} (room : base + n ≤ length w₀) (inside : at + j < length s) (i : Stamping w₀ w s base n stamp at j)
+    {work₀ work s : List ℕ} {base n stamp at j : ℕ} (room : base + n ≤ length work₀) (inside : at + j < length s) (i : Stamping work₀ work s base n stamp at j)
   where
-    pub stamping-more : {w' : List ℕ} → getD s (at + j) 0 < n → w' ≡ set w (base + getD s (at + j) 0) stamp → Stamping w₀ w' s base n stamp at (j + 1)
+    pub stamping-more : {work' : List ℕ} → getD s (at + j) 0 < n → work' ≡ set work (base + getD s (at + j) 0) stamp → Stamping work₀ work' s base n stamp at (j + 1)
     stamping-more h e =
         let v : ℕ = getD s (at + j) 0 in
         rw e (record {
           kept = kept-more v stamp h (i .kept);
           stamped =
-              rw (part-set w base n v stamp h, part-more s at j 0 inside)
-              (stamped-more v (omega (arith, part-length w base n (omega (arith, i .kept .long)))) (i .stamped));
+              rw (part-set work base n v stamp h, part-more s at j 0 inside)
+              (stamped-more v (omega (arith, part-length work base n (omega (arith, i .kept .long)))) (i .stamped));
         })
 
-    pub stamping-past : {w' : List ℕ} → n ≤ getD s (at + j) 0 → w' ≡ w → Stamping w₀ w' s base n stamp at (j + 1)
+    pub stamping-past : {work' : List ℕ} → n ≤ getD s (at + j) 0 → work' ≡ work → Stamping work₀ work' s base n stamp at (j + 1)
     stamping-past h e =
         rw e (record {
           kept = i .kept;
-          stamped = rw (part-more s at j 0 inside) (stamped-past (getD s (at + j) 0) (omega (arith, part-length w₀ base n room)) (i .stamped));
+          stamped = rw (part-more s at j 0 inside) (stamped-past (getD s (at + j) 0) (omega (arith, part-length work₀ base n room)) (i .stamped));
         })
 
 pub stamping-all :
-    {w₀ w s : List ℕ} {base n stamp at j : ℕ} (m : ℕ) → j ≡ m → Stamping w₀ w s base n stamp at j
-    → Kept w₀ w base n × Stamped stamp (part s at m) (part w₀ base n) (part w base n)
+    {work₀ work s : List ℕ} {base n stamp at j : ℕ} (m : ℕ) → j ≡ m → Stamping work₀ work s base n stamp at j
+    → Kept work₀ work base n × Stamped stamp (part s at m) (part work₀ base n) (part work base n)
 stamping-all m e i = (i .kept, rw e at (i .stamped))

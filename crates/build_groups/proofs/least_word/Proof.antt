@@ -7,10 +7,10 @@ use Rattle.build_groups.proofs.least_word.Statement.{statement}
 use Rattle.build_groups.proofs.least_word.Tie as tie
 
 abbrev Inv-loop : tie.InvT-loop
-Inv-loop w at size least₀ i₀ least i = (i ≤ size) × Lessening w at size i least
+Inv-loop work at size least₀ i₀ least i = (i ≤ size) × Lessening work at size i least
 
 abbrev μ-loop : tie.MeasureT-loop
-μ-loop w at size least₀ i₀ least i = size - i
+μ-loop work at size least₀ i₀ least i = size - i
 
 mul-least : tie.Need-mul-least Inv-loop μ-loop
 mul-least c = search needs

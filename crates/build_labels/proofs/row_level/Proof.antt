@@ -7,16 +7,16 @@ use Rattle.build_labels.proofs.row_level.Statement.{statement}
 use Rattle.build_labels.proofs.row_level.Tie as tie
 
 abbrev Inv-loop : tie.InvT-loop
-Inv-loop w at size base k level₀ i₀ level i = (i ≤ size) × Climbing w at size base k i level
+Inv-loop work at size base k level₀ i₀ level i = (i ≤ size) × Climbing work at size base k i level
 
 abbrev μ-loop : tie.MeasureT-loop
-μ-loop w at size base k level₀ i₀ level i = size - i
+μ-loop work at size base k level₀ i₀ level i = size - i
 
 -- the place at hand
 place :
     (c : tie.In-loop Inv-loop μ-loop)
     → let a = c .before .before .before .args in
-    Place (a .w .now) (a .at) (a .size) (a .base) (a .k) (c .before .loop .i)
+    Place (a .work .now) (a .at) (a .size) (a .base) (a .k) (c .before .loop .i)
 place c = row-place (c .before .before .before .pre .0) (c .before .loop .i) (c .loop-test .taken)
 
 loop-holds : tie.Need-loop-holds Inv-loop μ-loop

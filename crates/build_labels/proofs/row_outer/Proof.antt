@@ -7,16 +7,16 @@ use Rattle.build_labels.proofs.row_outer.Statement.{statement}
 use Rattle.build_labels.proofs.row_outer.Tie as tie
 
 abbrev Inv-loop : tie.InvT-loop
-Inv-loop w at size base k e s₀ i₀ s i = (i ≤ size) × Sinking w at size base k e i s
+Inv-loop work at size base k e s₀ i₀ s i = (i ≤ size) × Sinking work at size base k e i s
 
 abbrev μ-loop : tie.MeasureT-loop
-μ-loop w at size base k e s₀ i₀ s i = size - i
+μ-loop work at size base k e s₀ i₀ s i = size - i
 
 -- the place at hand
 place :
     (c : tie.In-loop Inv-loop μ-loop)
     → let a = c .before .before .before .args in
-    Place (a .w .now) (a .at) (a .size) (a .base) (a .k) (c .before .loop .i)
+    Place (a .work .now) (a .at) (a .size) (a .base) (a .k) (c .before .loop .i)
 place c = row-place (c .before .before .before .pre) (c .before .loop .i) (c .loop-test .taken)
 
 loop-holds : tie.Need-loop-holds Inv-loop μ-loop
