@@ -70,15 +70,15 @@ module _ (w k : ℕ) (labels : List ℕ) where
     not-outside h = outside-is ∙ ap not (both-hold (outerBound w triples x t) h)
 
   -- none of the first l labellings of d passes the test
-  pub record Passed (p : Labelling → Bool) (d l : ℕ) : Type 0 where
+  pub record NonePassed (p : Labelling → Bool) (d l : ℕ) : Type 0 where
     pub low : l ≤ d
     pub left : firstFrom (l + 1) p (drop l (labelsIn w labels k d)) ≡ firstLabelling p (labelsIn w labels k d)
 
   module _ (p : Labelling → Bool) (d : ℕ) where
-    pub passed-none : Passed p d 0
-    passed-none = record { low = omega arith; left = refl }
+    pub none-begins : NonePassed p d 0
+    none-begins = record { low = omega arith; left = refl }
 
-    module _ (l : ℕ) (P : Passed p d l) where
+    module _ (l : ℕ) (P : NonePassed p d l) where
       ahead : l < d → drop l (labelsIn w labels k d) ≡ own l ∷ drop (l + 1) (labelsIn w labels k d)
       unfolding labelsIn
       ahead h =
@@ -89,14 +89,14 @@ module _ (w k : ℕ) (labels : List ℕ) where
       turned : l < d → cond (p (own l)) (l + 1) (firstFrom (l + 1 + 1) p (drop (l + 1) (labelsIn w labels k d))) ≡ firstLabelling p (labelsIn w labels k d)
       turned h = simp add-one (simp add-one at (rw (ahead h) at (P .left)))
 
-      pub passed-more : l < d → p (own l) ≡ false → Passed p d (l + 1)
-      passed-more h e = record { low = omega arith; left = rw e at (turned h) }
+      pub none-more : l < d → p (own l) ≡ false → NonePassed p d (l + 1)
+      none-more h e = record { low = omega arith; left = rw e at (turned h) }
 
-      pub passed-here : l < d → p (own l) ≡ true → l + 1 ≡ firstLabelling p (labelsIn w labels k d)
-      passed-here h e = rw e at (turned h)
+      pub none-found : l < d → p (own l) ≡ true → l + 1 ≡ firstLabelling p (labelsIn w labels k d)
+      none-found h e = rw e at (turned h)
 
-      pub passed-all : d ≤ l → 0 ≡ firstLabelling p (labelsIn w labels k d)
-      passed-all h =
+      pub none-all : d ≤ l → 0 ≡ firstLabelling p (labelsIn w labels k d)
+      none-all h =
           let high : length (labelsIn w labels k d) ≤ l = omega (arith, labels-long w labels k d) in
           ap (firstFrom (l + 1) p) (sym (drop-of-length-le (labelsIn w labels k d) high)) ∙ P .left
 

@@ -20,7 +20,7 @@ use Rattle.build_traversal.specs.Lows.{Traversed}
 use Rattle.build_traversal.proofs.Lows.{lows-at}
 use Rattle.build_groups.specs.Trees.{treeNames}
 use Rattle.build_groups.specs.Fit.{NamesFit, ListFit}
-use Rattle.build_groups.specs.Places.{placesOf}
+use Rattle.build_groups.specs.Places.{placesOfNames}
 use Rattle.build_groups.proofs.Forests.{lows-begin}
 use Rattle.build_groups.proofs.Vertices.{order₂}
 use Rattle.build_groups.proofs.TreeNames.{names-are, names-named}
@@ -84,7 +84,7 @@ module _
 
       -- and the names listed
       pub groups-found :
-          {work₃ : List ℕ} {k : ℕ} → Kept work₂ work₃ n (n + n) → k ≤ n → part work₃ n k ≡ groupList (part work₂ 0 n) → part work₃ (n + n) n ≡ placesOf (part work₂ 0 n)
+          {work₃ : List ℕ} {k : ℕ} → Kept work₂ work₃ n (n + n) → k ≤ n → part work₃ n k ≡ groupList (part work₂ 0 n) → part work₃ (n + n) n ≡ placesOfNames (part work₂ 0 n)
           → GroupsFound G work₀ work₃ k
       groups-found {work₃} {k} listing few listed placed =
           let groups : part work₃ n k ≡ groupList (namesOf G) = listed ∙ ap groupList names in
@@ -95,5 +95,5 @@ module _
             names = listing .below 0 n (omega arith) ∙ names;
             groups = groups;
             count = sym (part-length work₃ n k (omega (arith, long₂, listing .long))) ∙ ap length groups;
-            places = subst (λ at. part work₃ at n ≡ placesOf (part work₂ 0 n)) twice placed ∙ ap placesOf names;
+            places = subst (λ at. part work₃ at n ≡ placesOfNames (part work₂ 0 n)) twice placed ∙ ap placesOfNames names;
           }

@@ -14,7 +14,7 @@ use Rattle.lineage.specs.Lists.{upto, part}
 use Rattle.lineage.specs.Graph.{Graph, Ends, namesOf, groupList}
 use Rattle.lineage.specs.Labels.{Order}
 use Rattle.numbers.specs.Regions.{Kept, Outside}
-use Rattle.build_groups.specs.Places.{placesOf}
+use Rattle.build_groups.specs.Places.{placesOfNames}
 
 -- where the regions of the traversals lie, and how many words there are in all
 abbrev pub traversalAt : ℕ → ℕ → ℕ
@@ -49,4 +49,4 @@ pub record GroupsFound (G : Graph) (work work' : List ℕ) (k : ℕ) : Type 0 wh
   pub names : part work' 0 (G .n) ≡ namesOf G
   pub groups : part work' (G .n) k ≡ groupList (namesOf G)
   pub count : k ≡ length (groupList (namesOf G))
-  pub places : part work' (2 * G .n) (G .n) ≡ placesOf (namesOf G)
+  pub places : part work' (2 * G .n) (G .n) ≡ placesOfNames (namesOf G)

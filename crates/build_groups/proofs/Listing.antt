@@ -21,7 +21,7 @@ use Rattle.laws.proofs.Tests.{is-false}
 use Rattle.laws.proofs.Lists.{those-append, those-yes, those-no, those-pass, those-keep, in-upto, upto-low, position-past, position-left, table-at, table-is}
 use Rattle.laws.proofs.Parts.{part-at, part-length}
 use Rattle.build_groups.specs.Fit.{ListFit}
-use Rattle.build_groups.specs.Places.{placesOf}
+use Rattle.build_groups.specs.Places.{placesOfNames}
 
 -- of a filter of 0, 1, .. , a number's position is how many pass before it
 position-upto : (p : ℕ → Bool) (n v : ℕ) → v < n → p v ≡ true → position v (those p (upto n)) ≡ length (those p (upto v))
@@ -157,8 +157,8 @@ module _ {work₀ work : List ℕ} {names n base v k : ℕ} (f : ListFit work₀
 
 pub listing-all :
     {work₀ work : List ℕ} {names n base v k : ℕ} → ListFit work₀ names n base → v ≡ n → Listing work₀ work names n base v k
-    → Kept work₀ work base (n + n) × ((k ≤ n) × ((part work base k ≡ groupList (part work₀ names n)) × (part work (base + n) n ≡ placesOf (part work₀ names n))))
-unfolding groupList placesOf
+    → Kept work₀ work base (n + n) × ((k ≤ n) × ((part work base k ≡ groupList (part work₀ names n)) × (part work (base + n) n ≡ placesOfNames (part work₀ names n))))
+unfolding groupList placesOfNames
 listing-all {work₀} {work} {names} {n} {base} {v} {k} f e i =
     let given : List ℕ = part work₀ names n in
     let long : length given ≡ n = part-length work₀ names n (f .names-there .fits) in (
@@ -175,6 +175,6 @@ listing-all {work₀} {work} {names} {n} {base} {v} {k} f e i =
     )
 
 -- the place of a vertex's group
-pub place-at : (names : List ℕ) (v : ℕ) → v < length names → getD (placesOf names) v 0 ≡ placeOf (groupList names) (getD names v 0)
-unfolding placesOf
+pub place-at : (names : List ℕ) (v : ℕ) → v < length names → getD (placesOfNames names) v 0 ≡ placeOf (groupList names) (getD names v 0)
+unfolding placesOfNames
 place-at names v h = table-at (λ u. placeOf (groupList names) (getD names u 0)) (length names) v 0 h

@@ -6,6 +6,6 @@ use Rattle.lineage.specs.Lists.{upto}
 use Rattle.lineage.specs.Graph.{groupList, placeOf}
 
 -- for each vertex the place of its group, from the names
-unfoldable pub placesOf : List ℕ → List ℕ
+unfoldable pub placesOfNames : List ℕ → List ℕ
 unfolding groupList
-placesOf names = map (λ v. placeOf (groupList names) (getD names v 0)) (upto (length names))
+placesOfNames names = map (λ v. placeOf (groupList names) (getD names v 0)) (upto (length names))

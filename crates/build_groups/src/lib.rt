@@ -8,7 +8,7 @@ ghost use Rattle.numbers.specs.Regions.{Kept};
 ghost use Rattle.numbers.specs.Stamped.{Stamped};
 ghost use Rattle.build_groups.specs.Trees.{leastOf, treeNames};
 ghost use Rattle.build_groups.specs.Fit.{RunFit, NamesFit, ListFit};
-ghost use Rattle.build_groups.specs.Places.{placesOf};
+ghost use Rattle.build_groups.specs.Places.{placesOfNames};
 
 // The least of the size words from at on.
 fn least_word(work: &[u32], at: usize, size: usize) -> u32
@@ -65,7 +65,7 @@ pub fn group_list(work: &mut [u32], names: usize, n: usize, base: usize) -> usiz
     ensures { λ _. ⌜ Kept (now (work .entry)) (now (work .exit)) base (n + n) ⌝ }
     ensures { λ r. ⌜ r ≤ n ⌝ }
     ensures { λ r. ⌜ part (now (work .exit)) base r ≡ groupList (part (now (work .entry)) names n) ⌝ }
-    ensures { λ _. ⌜ part (now (work .exit)) (base + n) n ≡ placesOf (part (now (work .entry)) names n) ⌝ }
+    ensures { λ _. ⌜ part (now (work .exit)) (base + n) n ≡ placesOfNames (part (now (work .entry)) names n) ⌝ }
 {
     let places = base + n;
     let mut k = 0;

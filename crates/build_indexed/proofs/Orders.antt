@@ -15,7 +15,7 @@ use Rattle.build_orders.proofs.Permutations.{order-room}
 use Rattle.build_labelled.specs.Window.{byRankAt, windowLabelling, Labelled}
 use Rattle.build_labelled.specs.Fit.{LabelFit}
 use Rattle.stored_header.specs.declared.Layout.{Layout}
-use Rattle.build_writing.specs.Words.{labellingIn}
+use Rattle.build_writing.specs.Words.{labellingInWords}
 use Rattle.build_writing.specs.Fit.{LabellingFit}
 use Rattle.build_indexed.specs.Memory.{childrenFrom, labelsFrom, labellingBlock, Ready, OrderLabelled}
 
@@ -58,11 +58,11 @@ module _ {l : Layout} {e : ℕ} {orders work : List ℕ} (fit : Ready l e orders
                 few = omega (arith, fit .vertices, fit .stored .few-groups);
               }
 
-          labelling-there : labellingIn work' (base + 2 * l .k) (base + l .k) base byRank (l .k) ≡ windowLabelling work' (labelsFrom (l .n) (l .k) e) (l .n) (l .k) (l .c)
+          labelling-there : labellingInWords work' (base + 2 * l .k) (base + l .k) base byRank (l .k) ≡ windowLabelling work' (labelsFrom (l .n) (l .k) e) (l .n) (l .k) (l .c)
           labelling-there = rw (base-is, ranks-is)
 
           pub order-written : (out' r : List ℕ) (at : ℕ)
-              → r ≡ put out' at (written (l .width) (labelNumbers (l .k) (labellingIn work' (base + 2 * l .k) (base + l .k) base byRank (l .k))))
+              → r ≡ put out' at (written (l .width) (labelNumbers (l .k) (labellingInWords work' (base + 2 * l .k) (base + l .k) base byRank (l .k))))
               → r ≡ put out' at (written (l .width) (labellingBlock l e orders work j))
           order-written out' r at h =
               h ∙ ap (λ (z : Labelling). put out' at (written (l .width) (labelNumbers (l .k) z))) (labelling-there ∙ order-labelled .made)

@@ -29,7 +29,7 @@ use Rattle.stored.specs.Fits.{Full}
 use Rattle.stored_header.proofs.Laid.{Bounded}
 use Rattle.stored.proofs.Encoded.{header-fits}
 use Rattle.build_writing.specs.Words.{groupSections}
-use Rattle.build_writing.specs.Fit.{GroupsFit}
+use Rattle.build_writing.specs.Fit.{SectionsFit}
 use Rattle.build_writing.proofs.Encoded.{Whole, firstSections, labelSection, index-put}
 use Rattle.build_indexed.specs.Written.{writtenAs}
 use Rattle.build_indexed.specs.Memory.{childrenFrom, labelsFrom, condensedIn, labellingUnder, labellingBlock, Ready, OrderLabelled}
@@ -142,7 +142,7 @@ module _ {l : Layout} {e : ℕ} {orders work₀ : List ℕ} (fit : Ready l e ord
           pub index-kept : Kept work₀ work₂ (labelsFrom (l .n) (l .k) e) (labelsWindow (l .n) (l .k) (l .c))
           index-kept = beside .0 .kept
 
-          pub groups-fit : (form : ℕ) {out₁ : List ℕ} → form < 2 ^ 32 → l .total ≤ length out₁ → GroupsFit out₁ form l work₂ 0 (l .n) (base + 3 * l .k) children-at (children-at + l .k + 1)
+          pub groups-fit : (form : ℕ) {out₁ : List ℕ} → form < 2 ^ 32 → l .total ≤ length out₁ → SectionsFit out₁ form l work₂ 0 (l .n) (base + 3 * l .k) children-at (children-at + l .k + 1)
           groups-fit form small long =
               let room = fit .stored .fit .vertices .room in
               let same = index-kept .long in

@@ -20,7 +20,7 @@ use Rattle.numbers.specs.Regions.{Kept, over}
 use Rattle.build_rows.specs.Rows.{rowsIn}
 use Rattle.build_traversal.specs.Lows.{lows}
 use Rattle.build_traversal.proofs.Lows.{lows-at}
-use Rattle.build_labels.specs.Labels.{ranksOf, innersOf, childrenIn}
+use Rattle.build_labels.specs.Labels.{ranksOf, innersOf, childrenInWords}
 use Rattle.build_labels.specs.Fit.{UpFit}
 use Rattle.build_labels.proofs.Labelled.{labels-are, forest-order, forest-falls}
 use Rattle.build_labelled.specs.Window.{byRankAt, labelsWindow, groupsBy, childrenBy}
@@ -42,11 +42,11 @@ module _ {orders work : List ℕ} {at n k c names place parents children base : 
 
   -- a row of children for each place
   pub below-long : length below ≡ k
-  unfolding childrenIn
+  unfolding childrenInWords
   below-long = table-long row k
 
   child-at : (p q : ℕ) → p < k → among q (row p) ≡ true → childOf below p q ≡ true
-  unfolding childrenIn
+  unfolding childrenInWords
   child-at p q h i = rw (table-at row k p [] h) i
 
   values-low : Below k (part work (children + k + 1) c)

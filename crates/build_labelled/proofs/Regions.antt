@@ -7,7 +7,7 @@ use lib.ListN.{length}
 use Rattle.lineage.specs.Lists.{part}
 use Rattle.numbers.specs.Regions.{Kept, Outside}
 use Rattle.numbers.proofs.Regions.{kept-apart, apart-within}
-use Rattle.build_labels.specs.Labels.{childrenIn}
+use Rattle.build_labels.specs.Labels.{childrenInWords}
 use Rattle.build_labelled.specs.Window.{childrenBy}
 use Rattle.build_labelled.specs.Fit.{RowsOutside}
 
@@ -30,5 +30,5 @@ module _ {work work' : List ℕ} {at k c base size : ℕ} (o : RowsOutside work 
   values-same = kept-apart K (o .values .apart)
 
   pub children-same : childrenBy work' at k c ≡ childrenBy work at k c
-  unfolding childrenIn
+  unfolding childrenInWords
   children-same = rw (starts-same, values-same)

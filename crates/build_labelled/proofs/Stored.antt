@@ -11,11 +11,11 @@ use Rattle.laws.proofs.Names.{names-long}
 use Rattle.laws.proofs.Condensed.{children-long, groups-sound}
 use Rattle.laws.proofs.Starts.{rows-are}
 use Rattle.numbers.specs.Regions.{under}
-use Rattle.build_groups.specs.Places.{placesOf}
+use Rattle.build_groups.specs.Places.{placesOfNames}
 use Rattle.build_groups.proofs.Listing.{place-at}
 use Rattle.build_children.specs.Window.{childrenAt}
 use Rattle.build_children.proofs.Found.{ChildrenStored}
-use Rattle.build_labels.specs.Labels.{childrenIn}
+use Rattle.build_labels.specs.Labels.{childrenInWords}
 use Rattle.build_labelled.specs.Window.{labelsWindow, childrenBy}
 use Rattle.build_labelled.specs.Fit.{GroupsFit}
 
@@ -25,12 +25,12 @@ module _
   where
     -- the children that lie in the buffer
     pub children-are : childrenBy work (childrenAt from k e) k c ≡ childrenOf G (namesOf G) (groupList (namesOf G))
-    unfolding childrenIn
+    unfolding childrenInWords
     children-are = rows-are (childrenOf G (namesOf G) (groupList (namesOf G))) (children-long G ends ∙ all) (stored .rows)
 
     -- the groups can be labelled
     pub stored-fits :
-        {names place base : ℕ} → part work names (G .n) ≡ namesOf G → part work place (G .n) ≡ placesOf (namesOf G)
+        {names place base : ℕ} → part work names (G .n) ≡ namesOf G → part work place (G .n) ≡ placesOfNames (namesOf G)
         → names + G .n ≤ base → place + G .n ≤ base → c ≤ e → childrenAt from k e + k + 1 + c ≤ base → base + labelsWindow (G .n) k c ≤ length work → k < 2 ^ 32 → c < 2 ^ 32
         → GroupsFit work (G .n) k c names place from (childrenAt from k e) base
     stored-fits names-are places-are names-low place-low most rows-low room few-groups few-children = record {

@@ -16,7 +16,7 @@ use Rattle.lineage.specs.Labels.{inOrder, outer, Labelling, labelling}
 use Rattle.numbers.specs.Regions.{Kept}
 use Rattle.build_rows.specs.Rows.{RowsAt, rowsIn, turnedRow}
 use Rattle.build_orders.specs.Roots.{rowEmpty}
-use Rattle.build_labels.specs.Labels.{ranksOf, innersOf, childrenIn}
+use Rattle.build_labels.specs.Labels.{ranksOf, innersOf, childrenInWords}
 
 -- where those that are nobody's child lie, the rows, the traversal, the places by rank and the levels, and how many words there are in all
 abbrev pub rootsAt : ℕ → ℕ → ℕ
@@ -47,7 +47,7 @@ abbrev pub groupsBy : List ℕ → ℕ → ℕ → List ℕ
 groupsBy work names n = groupList (part work names n)
 
 abbrev pub childrenBy : List ℕ → ℕ → ℕ → ℕ → List (List ℕ)
-childrenBy work children k c = childrenIn work children (children + k + 1) c k
+childrenBy work children k c = childrenInWords work children (children + k + 1) c k
 
 -- what an order is made into: of the places as the order has them those whose row of parents is empty, q in all, and the parents' rows turned over them
 pub record OrderRows (order work work' : List ℕ) (n k c names parents base q : ℕ) : Type 0 where

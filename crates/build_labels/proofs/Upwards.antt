@@ -19,7 +19,7 @@ use Rattle.laws.proofs.Parts.{part-length, part-part}
 use Rattle.laws.proofs.Laid.{start-low, row-below, below-in}
 use Rattle.build_rows.specs.Rows.{rowsIn}
 use Rattle.build_rows.proofs.Orders.{order-low}
-use Rattle.build_labels.specs.Labels.{childrenIn}
+use Rattle.build_labels.specs.Labels.{childrenInWords}
 use Rattle.build_labels.specs.Fit.{RowFit, UpFit}
 use Rattle.build_labels.proofs.Ranking.{position-most}
 
@@ -46,7 +46,7 @@ module _ {work₀ : List ℕ} {out k starts values c base : ℕ} (f : UpFit work
   byRank = part work₀ out k
 
   abbrev pub children : List (List ℕ)
-  children = childrenIn work₀ starts values c k
+  children = childrenInWords work₀ starts values c k
 
   abbrev pub row : ℕ → List ℕ
   row = rowsIn work₀ starts values c k
@@ -55,11 +55,11 @@ module _ {work₀ : List ℕ} {out k starts values c base : ℕ} (f : UpFit work
   long = part-length work₀ out k (f .out-there .fits)
 
   pub children-long : length children ≡ k
-  unfolding childrenIn
+  unfolding childrenInWords
   children-long = table-long row k
 
   pub children-at : (p : ℕ) → p < k → getD children p [] ≡ row p
-  unfolding childrenIn
+  unfolding childrenInWords
   children-at p h = table-at row k p [] h
 
   -- a child is a place, of a lower rank

@@ -15,6 +15,6 @@ abbrev pub innersOf : ℕ → List ℕ → List ℕ → List ℕ
 innersOf k byRank low = map (λ p. getD low (position p byRank) 0) (upto k)
 
 -- the children of k places, whose rows lie in work
-unfoldable pub childrenIn : List ℕ → ℕ → ℕ → ℕ → ℕ → List (List ℕ)
+unfoldable pub childrenInWords : List ℕ → ℕ → ℕ → ℕ → ℕ → List (List ℕ)
 unfolding rowAt
-childrenIn work starts values c k = map (rowsIn work starts values c k) (upto k)
+childrenInWords work starts values c k = map (rowsIn work starts values c k) (upto k)

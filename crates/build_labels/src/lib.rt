@@ -7,7 +7,7 @@ ghost use Rattle.lineage.specs.Lists.{upto, least, greatest, part};
 ghost use Rattle.lineage.specs.Graph.{levelsOf};
 ghost use Rattle.lineage.specs.Labels.{outer};
 ghost use Rattle.numbers.specs.Regions.{Kept};
-ghost use Rattle.build_labels.specs.Labels.{ranksOf, innersOf, childrenIn};
+ghost use Rattle.build_labels.specs.Labels.{ranksOf, innersOf, childrenInWords};
 ghost use Rattle.build_labels.specs.Fit.{RanksFit, RowFit, UpFit, OuterFit};
 
 // e of each place, then m of each place: the rank, counted from 1, and the number at that rank. From the last rank to the first.
@@ -71,7 +71,7 @@ pub fn levels(
 )
     requires { ⌜ UpFit (now work) out k starts values c base ⌝ }
     ensures { λ _. ⌜ Kept (now (work .entry)) (now (work .exit)) base k ⌝ }
-    ensures { λ _. ⌜ part (now (work .exit)) base k ≡ levelsOf (childrenIn (now (work .entry)) starts values c k) ⌝ }
+    ensures { λ _. ⌜ part (now (work .exit)) base k ≡ levelsOf (childrenInWords (now (work .entry)) starts values c k) ⌝ }
 {
     let mut r = 0;
     while r < k {
@@ -97,7 +97,7 @@ pub fn outer(
 )
     requires { ⌜ OuterFit (now work) out e k starts values c base ⌝ }
     ensures { λ _. ⌜ Kept (now (work .entry)) (now (work .exit)) base k ⌝ }
-    ensures { λ _. ⌜ part (now (work .exit)) base k ≡ map (outer (childrenIn (now (work .entry)) starts values c k) (part (now (work .entry)) e k) k) (upto k) ⌝ }
+    ensures { λ _. ⌜ part (now (work .exit)) base k ≡ map (outer (childrenInWords (now (work .entry)) starts values c k) (part (now (work .entry)) e k) k) (upto k) ⌝ }
 {
     let mut r = 0;
     while r < k {

@@ -14,10 +14,10 @@ use Rattle.stored_header.specs.Header.{counts, headerOf, Sited}
 use Rattle.stored_header.proofs.Laid.{sited-by}
 use Rattle.stored.proofs.Offsets.{putSections, sections-put}
 use Rattle.build_writing.specs.Words.{groupSections}
-use Rattle.build_writing.specs.Fit.{GroupsFit}
+use Rattle.build_writing.specs.Fit.{SectionsFit}
 use Rattle.build_writing.proofs.Behind.{section-put}
 
-module _ {out : List ℕ} {form : ℕ} {l : Layout} {words : List ℕ} {names groups levels starts children : ℕ} (fit : GroupsFit out form l words names groups levels starts children) where
+module _ {out : List ℕ} {form : ℕ} {l : Layout} {words : List ℕ} {names groups levels starts children : ℕ} (fit : SectionsFit out form l words names groups levels starts children) where
   -- where each section starts
   pub fit-sited : Sited l
   fit-sited = sited-by l (l .width) (counts (l .n) (l .k) (l .c) (l .d)) (fit .laid)

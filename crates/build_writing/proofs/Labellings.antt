@@ -11,16 +11,16 @@ use Rattle.laws.proofs.Lists.{table-same}
 use Rattle.laws.proofs.Parts.{part-at}
 use Rattle.laws.proofs.Joined.{table-blocks-long}
 use Rattle.numbers.specs.Put.{put}
-use Rattle.build_writing.specs.Words.{tripleIn, labellingIn}
+use Rattle.build_writing.specs.Words.{tripleIn, labellingInWords}
 use Rattle.build_writing.proofs.Behind.{written-next}
 
 module _ (words : List ℕ) (s m e r k : ℕ) where
-  triples-are : map (tripleIn words s m e) (upto k) ≡ map (triple (labellingIn words s m e r k)) (upto k)
+  triples-are : map (tripleIn words s m e) (upto k) ≡ map (triple (labellingInWords words s m e r k)) (upto k)
   triples-are =
-      let own : ℕ → List ℕ = triple (labellingIn words s m e r k) in
+      let own : ℕ → List ℕ = triple (labellingInWords words s m e r k) in
       table-same (tripleIn words s m e) own k same
     where
-      same : (p : ℕ) → p < k → tripleIn words s m e p ≡ triple (labellingIn words s m e r k) p
+      same : (p : ℕ) → p < k → tripleIn words s m e p ≡ triple (labellingInWords words s m e r k) p
       same p h = rw (part-at words s k p h, part-at words m k p h, part-at words e k p h)
 
   pub labelling-put : (w at places : ℕ) (out t u : List ℕ)
@@ -28,7 +28,7 @@ module _ (words : List ℕ) (s m e r k : ℕ) where
       → places ≡ at + w * (3 * k)
       → t ≡ put out at (written w (joined (map (tripleIn words s m e) (upto k))))
       → u ≡ put t places (written w (part words r k))
-      → u ≡ put out at (written w (labelNumbers k (labellingIn words s m e r k)))
+      → u ≡ put out at (written w (labelNumbers k (labellingInWords words s m e r k)))
   labelling-put w at places out t u fits here et eu =
       let triples : List ℕ = joined (map (tripleIn words s m e) (upto k)) in
       let long : w * length triples ≡ w * (3 * k) = ap (λ (n : ℕ). w * n) (table-blocks-long (tripleIn words s m e) 3 k (λ j h. refl)) in

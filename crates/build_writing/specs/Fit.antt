@@ -28,7 +28,7 @@ pub record LabellingFit (out : List ℕ) (at w : ℕ) (words : List ℕ) (s m e 
   pub few : k ≤ vertexBound
 
 -- a layout that is laid out by its own counts, all of whose numbers are of 32 bits; and the five sections before the labels
-pub record GroupsFit (out : List ℕ) (form : ℕ) (l : Layout) (words : List ℕ) (names groups levels starts children : ℕ) : Type 0 where
+pub record SectionsFit (out : List ℕ) (form : ℕ) (l : Layout) (words : List ℕ) (names groups levels starts children : ℕ) : Type 0 where
   pub width : Width (l .width)
   pub laid : l ≡ layoutBy (l .width) (counts (l .n) (l .k) (l .c) (l .d))
   pub small : Every (λ x. x < 2 ^ 32) (headerOf form l)

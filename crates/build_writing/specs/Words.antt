@@ -11,8 +11,8 @@ abbrev pub tripleIn : List ℕ → (s m e : ℕ) → ℕ → List ℕ
 tripleIn words s m e p = getD words (s + p) 0 ∷ getD words (m + p) 0 ∷ getD words (e + p) 0 ∷ []
 
 -- the labelling whose s, m, e and places by rank lie in regions of k words
-abbrev pub labellingIn : List ℕ → (s m e byRank k : ℕ) → Labelling
-labellingIn words s m e byRank k =
+abbrev pub labellingInWords : List ℕ → (s m e byRank k : ℕ) → Labelling
+labellingInWords words s m e byRank k =
     record { s = part words s k; m = part words m k; e = part words e k; byRank = part words byRank k }
 
 -- the sections before the labels: names, group list, levels, child starts, children

@@ -9,8 +9,8 @@ ghost use Rattle.lineage.specs.Numbers.{Width, written};
 ghost use Rattle.lineage.specs.Stored.{labelNumbers};
 ghost use Rattle.numbers.specs.Put.{put};
 ghost use Rattle.stored_header.specs.Header.{headerOf};
-ghost use Rattle.build_writing.specs.Words.{tripleIn, labellingIn, groupSections};
-ghost use Rattle.build_writing.specs.Fit.{TriplesFit, LabellingFit, GroupsFit};
+ghost use Rattle.build_writing.specs.Words.{tripleIn, labellingInWords, groupSections};
+ghost use Rattle.build_writing.specs.Fit.{TriplesFit, LabellingFit, SectionsFit};
 
 // Writes s, m and e, from position at on.
 fn write_triple(out: &mut [u8], at: usize, w: usize, s: u32, m: u32, e: u32)
@@ -61,7 +61,7 @@ pub fn write_labelling(
     k: usize,
 )
     requires { ⌜ LabellingFit (now out) at w (now words) s m e «by_rank» k ⌝ }
-    ensures { λ _. ⌜ now (out .exit) ≡ put (now (out .entry)) at (written w (labelNumbers k (labellingIn (now (words .entry)) s m e «by_rank» k))) ⌝ }
+    ensures { λ _. ⌜ now (out .exit) ≡ put (now (out .entry)) at (written w (labelNumbers k (labellingInWords (now (words .entry)) s m e «by_rank» k))) ⌝ }
 {
     let places = at + numbers::bytes_of(w, 3 * k);
     write_triples(out, at, w, words, s, m, e, k);
@@ -80,7 +80,7 @@ pub fn write_groups(
     starts: usize,
     children: usize,
 )
-    requires { ⌜ GroupsFit (now out) form l (now words) names groups levels starts children ⌝ }
+    requires { ⌜ SectionsFit (now out) form l (now words) names groups levels starts children ⌝ }
     ensures { λ _. ⌜ now (out .exit) ≡ put (now (out .entry)) 0 (written 4 (headerOf form l) ++ joined (map (written (l .width)) (groupSections (now (words .entry)) l names groups levels starts children))) ⌝ }
 {
     stored_header::write_header(out, form, l);

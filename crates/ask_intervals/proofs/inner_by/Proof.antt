@@ -6,7 +6,7 @@ use mathlib.Core.Bool.{true}
 use Prim.Native.Nat.{ℕ, _-_, _<_}
 use Rattle.lineage.specs.Question.{inside}
 use Rattle.ask_intervals.specs.Intervals.{innerBound}
-use Rattle.ask_intervals.proofs.Labellings.{in-triples, one-more, is-inside, not-inside, Passed, passed-none, passed-more, passed-here, passed-all}
+use Rattle.ask_intervals.proofs.Labellings.{in-triples, one-more, is-inside, not-inside, NonePassed, none-begins, none-more, none-found, none-all}
 use Rattle.ask_intervals.proofs.inner_by.Statement.{statement}
 use Rattle.ask_intervals.proofs.inner_by.Tie as tie
 
@@ -17,13 +17,13 @@ abbrev μ-loop : tie.MeasureT-loop
 μ-loop labels w k d x t l answer₀ triples b₀ answer b = 2 - b
 
 abbrev Inv-labellings : tie.InvT-labellings
-Inv-labellings labels w k d x t l₀ answer₀ l answer = (answer ≡ 0) × Passed w k labels (inside x t) d l
+Inv-labellings labels w k d x t l₀ answer₀ l answer = (answer ≡ 0) × NonePassed w k labels (inside x t) d l
 
 abbrev μ-labellings : tie.MeasureT-labellings
 μ-labellings labels w k d x t l₀ answer₀ l answer = d - l
 
 labellings-holds : tie.Need-labellings-holds Inv-loop μ-loop Inv-labellings μ-labellings
-labellings-holds c = (refl, passed-none _ _ _ _ _)
+labellings-holds c = (refl, none-begins _ _ _ _ _)
 
 triples-requires : tie.Need-triples-requires Inv-loop μ-loop Inv-labellings μ-labellings
 triples-requires c κs =
@@ -64,20 +64,20 @@ labellings-again c =
     let s = c .before .before .before .before .before .before .before in
     let l = c .before .before .loop in (
       l .inv .0,
-      passed-more _ _ _ _ _ _ (c .before .before .before .before .before .labellings .inv .1) (c .before .before .before .before .labellings-test .taken)
+      none-more _ _ _ _ _ _ (c .before .before .before .before .before .labellings .inv .1) (c .before .before .before .before .labellings-test .taken)
           (not-inside _ _ _ _ _ _ _ (s .pre .1 .0) (s .pre .1 .1) (c .before .before .before .triples .ensures) _ _ (l .inv .1 .0)
           (c .before .inner-bound .ensures) (c .if1 .left)),
     )
 
 returns : tie.Need-returns Inv-loop μ-loop Inv-labellings μ-labellings
-returns c = c .before .labellings .inv .0 ∙ passed-all _ _ _ _ _ _ (c .before .labellings .inv .1) (omega arith)
+returns c = c .before .labellings .inv .0 ∙ none-all _ _ _ _ _ _ (c .before .labellings .inv .1) (omega arith)
 
 returns-2 : tie.Need-returns-2 Inv-loop μ-loop Inv-labellings μ-labellings
 returns-2 c =
     let s = c .before .before .before .before .before .before .before .before in
     let l = c .before .before .before .loop in
     let hold = one-more _ _ _ (l .inv .1 .1) (c .before .before .inner-bound .ensures) (c .before .if1 .taken) in
-    passed-here _ _ _ _ _ _ (c .before .before .before .before .before .before .labellings .inv .1)
+    none-found _ _ _ _ _ _ (c .before .before .before .before .before .before .labellings .inv .1)
     (c .before .before .before .before .before .labellings-test .taken)
     (is-inside _ _ _ _ _ _ _ (s .pre .1 .0) (s .pre .1 .1) (c .before .before .before .before .triples .ensures) (λ b h. hold b (omega arith)))
 

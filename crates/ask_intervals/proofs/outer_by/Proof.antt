@@ -7,7 +7,7 @@ use Prim.Native.Nat.{ℕ, _-_, _≤_, _<_}
 use borrow.Author.Tests.{not-true, not-false}
 use Rattle.lineage.specs.Question.{outside}
 use Rattle.ask_intervals.specs.Intervals.{outerBound}
-use Rattle.ask_intervals.proofs.Labellings.{in-triples, one-more, is-outside, not-outside, Passed, passed-none, passed-more, passed-here, passed-all}
+use Rattle.ask_intervals.proofs.Labellings.{in-triples, one-more, is-outside, not-outside, NonePassed, none-begins, none-more, none-found, none-all}
 use Rattle.ask_intervals.proofs.outer_by.Statement.{statement}
 use Rattle.ask_intervals.proofs.outer_by.Tie as tie
 
@@ -18,13 +18,13 @@ abbrev μ-loop : tie.MeasureT-loop
 μ-loop labels w k d x t l answer₀ triples b₀ answer b = 2 - b
 
 abbrev Inv-labellings : tie.InvT-labellings
-Inv-labellings labels w k d x t l₀ answer₀ l answer = (answer ≡ 0) × Passed w k labels (outside x t) d l
+Inv-labellings labels w k d x t l₀ answer₀ l answer = (answer ≡ 0) × NonePassed w k labels (outside x t) d l
 
 abbrev μ-labellings : tie.MeasureT-labellings
 μ-labellings labels w k d x t l₀ answer₀ l answer = d - l
 
 labellings-holds : tie.Need-labellings-holds Inv-loop μ-loop Inv-labellings μ-labellings
-labellings-holds c = (refl, passed-none _ _ _ _ _)
+labellings-holds c = (refl, none-begins _ _ _ _ _)
 
 triples-requires : tie.Need-triples-requires Inv-loop μ-loop Inv-labellings μ-labellings
 triples-requires c κs =
@@ -65,17 +65,17 @@ labellings-again c =
     let s = c .before .before .before .before .before .before in
     let l = c .before .loop in (
       l .inv .0,
-      passed-more _ _ _ _ _ _ (c .before .before .before .before .labellings .inv .1) (c .before .before .before .labellings-test .taken)
+      none-more _ _ _ _ _ _ (c .before .before .before .before .labellings .inv .1) (c .before .before .before .labellings-test .taken)
           (not-outside _ _ _ _ _ _ _ (s .pre .1 .0) (s .pre .1 .1) (c .before .before .triples .ensures) (λ b h. l .inv .1 .1 b (omega arith))),
     )
 
 returns : tie.Need-returns Inv-loop μ-loop Inv-labellings μ-labellings
-returns c = c .before .labellings .inv .0 ∙ passed-all _ _ _ _ _ _ (c .before .labellings .inv .1) (omega arith)
+returns c = c .before .labellings .inv .0 ∙ none-all _ _ _ _ _ _ (c .before .labellings .inv .1) (omega arith)
 
 returns-2 : tie.Need-returns-2 Inv-loop μ-loop Inv-labellings μ-labellings
 returns-2 c =
     let s = c .before .before .before .before .before .before .before .before in
-    passed-here _ _ _ _ _ _ (c .before .before .before .before .before .before .labellings .inv .1)
+    none-found _ _ _ _ _ _ (c .before .before .before .before .before .before .labellings .inv .1)
     (c .before .before .before .before .before .labellings-test .taken)
     (is-outside _ _ _ _ _ _ _ (s .pre .1 .0) (s .pre .1 .1) (c .before .before .before .before .triples .ensures) _ _ (c .before .before .loop-test .taken)
     (c .before .outer-bound .ensures) (not-true _ (c .if1 .taken)))

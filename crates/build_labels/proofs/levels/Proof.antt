@@ -4,7 +4,7 @@ use Prim.Native.Nat.{_-_, _≤_}
 use native.Mathlib.Omega.{arith}
 use borrow.Author.Needs.{needs}
 use Rattle.lineage.specs.Graph.{levelsOf}
-use Rattle.build_labels.specs.Labels.{childrenIn}
+use Rattle.build_labels.specs.Labels.{childrenInWords}
 use Rattle.build_labels.proofs.Upwards.{Filling, Place, filling-none, filling-place, row-fit, filling-more, filling-all}
 use Rattle.build_labels.proofs.Turns.{levels-count, level-is, level-small}
 use Rattle.build_labels.proofs.levels.Statement.{statement}
@@ -12,7 +12,7 @@ use Rattle.build_labels.proofs.levels.Tie as tie
 
 abbrev Inv-loop : tie.InvT-loop
 Inv-loop work₀ out k starts values c base r₀ work r =
-    (r ≤ k) × Filling work₀ work (levelsOf (childrenIn work₀ starts values c k)) out k base r
+    (r ≤ k) × Filling work₀ work (levelsOf (childrenInWords work₀ starts values c k)) out k base r
 
 abbrev μ-loop : tie.MeasureT-loop
 μ-loop work₀ out k starts values c base r₀ work r = k - r

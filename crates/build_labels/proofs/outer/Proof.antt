@@ -7,7 +7,7 @@ use lib.ListN.{length, getD}
 use borrow.Author.Needs.{needs}
 use Rattle.lineage.specs.Lists.{upto, part}
 use Rattle.lineage.specs.Labels.{outer}
-use Rattle.build_labels.specs.Labels.{childrenIn}
+use Rattle.build_labels.specs.Labels.{childrenInWords}
 use Rattle.build_labels.proofs.Upwards.{Filling, Place, filling-none, filling-place, row-fit, filling-more, filling-all}
 use Rattle.build_labels.proofs.Turns.{outer-count, outer-is}
 use Rattle.build_labels.proofs.outer.Statement.{statement}
@@ -15,7 +15,7 @@ use Rattle.build_labels.proofs.outer.Tie as tie
 
 abbrev Inv-loop : tie.InvT-loop
 Inv-loop work₀ out e k starts values c base r₀ work r =
-    (r ≤ k) × Filling work₀ work (map (outer (childrenIn work₀ starts values c k) (part work₀ e k) k) (upto k)) out k base r
+    (r ≤ k) × Filling work₀ work (map (outer (childrenInWords work₀ starts values c k) (part work₀ e k) k) (upto k)) out k base r
 
 abbrev μ-loop : tie.MeasureT-loop
 μ-loop work₀ out e k starts values c base r₀ work r = k - r
