@@ -1,0 +1,87 @@
+-- Demand 2: groups, levels, labels and walk are GRAIL's as document 01 states them; yes exactly when a path of zero or more edges exists. A group is named by its
+-- smallest vertex. What is stored opens again with the same answers, and bytes open only if some edge list, of any length, and some orders would have produced
+-- exactly those bytes.
+use mathlib.Core.Bool.{true}
+use mathlib.Core.Logic.{_↔_}
+use mathlib.Core.Path.{_≡_}
+use mathlib.Core.List.{List, _++_}
+use Prim.Native.Nat.{ℕ, _<_, _≤_}
+use lib.ListN.{length, take, drop}
+use Rattle.lineage.specs.Lists.{Every}
+use Rattle.lineage.specs.Graph.{Graph, Ends, Reaches}
+use Rattle.lineage.specs.Labels.{Order}
+use Rattle.lineage.specs.Index.{Index, indexOf}
+use Rattle.lineage.specs.Stored.{Form, form1, Counts, countsOf, encode, countsIn}
+use Rattle.lineage.specs.Question.{placeIn, answer}
+use Rattle.lineage.specs.Calls.{answered, Input, ordersOf, indexIn, Said, saidOf}
+use Rattle.laws_answers.specs.Answers.{Holds, Opened, Marked}
+use Rattle.numbers.proofs.Written.{Bytes}
+use Rattle.build.specs.declared.Built.{Built}
+use Rattle.build.specs.Answers.{builtOf}
+use Rattle.build.proofs.Theorems as build
+use Rattle.open.specs.declared.Opened.{Opened as OpenAnswer}
+use Rattle.open.specs.Opened.{openedOf}
+use Rattle.open.specs.Yields.{Yields}
+use Rattle.open.proofs.Theorem as opening
+use Rattle.ask.specs.declared.Asked.{Asked}
+use Rattle.ask.specs.Asked.{askedOf}
+use Rattle.ask.proofs.Theorems as ask
+use Rattle.drobisten.specs.declared.DrobistenAsked.{DrobistenAsked}
+use Rattle.drobisten.proofs.Theorems as host
+use Rattle.demands.specs.Grail.{Grail}
+
+-- the form that bytes are of: the one of the table
+abbrev pub formIn : List ℕ → Form
+formIn b = form1
+
+-- an answer and the marks left, of a question from u to v on the index I of a graph G
+pub record Right (G : Graph) (I : Index) (u v : ℕ) (marks : List ℕ) (r : Asked) (m : List ℕ) : Type 0 where
+  -- the answer and the marks of document 01, "A question"
+  pub said : askedOf r ≡ answered (saidOf (answer I u v))
+  pub marked : m ≡ answer I u v .marks ++ drop (G .n) marks
+  -- yes exactly when a path of zero or more edges exists
+  pub path : (answer I u v .says ≡ true) ↔ Reaches G u v
+  -- the first rule that holds decides
+  pub rule : Holds I (placeIn I u) (placeIn I v) (answer I u v .reason)
+  pub none-before : (q : ℕ) → q < answer I u v .reason → Holds I (placeIn I u) (placeIn I v) q → ⊥
+  -- the walk's opened groups are counted and marked, each once
+  pub walk : (o : List ℕ) × Opened I (placeIn I u) (placeIn I v) (answer I u v .reason) o × Marked I o (answer I u v)
+
+-- the bytes are those of the index of a graph under some orders
+pub record Stored (G : Graph) (orders : List (List ℕ)) (b : List ℕ) : Type 0 where
+  pub ends : Ends G
+  pub permuted : Every (Order (G .n)) orders
+  pub bytes : encode (formIn b) (indexOf G orders) ≡ b
+  pub holds : indexOf G orders ≡ indexIn b
+  -- its groups, levels and labels are GRAIL's
+  pub grail : Grail G orders (indexIn b)
+  -- it opens
+  pub opens : (marks : List ℕ) (r : OpenAnswer) (m : List ℕ) → G .n ≤ length marks → opening.Allowed b marks r m → openedOf r ≡ answered (countsOf (indexOf G orders))
+  -- every question between vertices is answered, and rightly; for the host too
+  pub asks : (u v : ℕ) (marks : List ℕ) (r : Asked) (m : List ℕ) → u < G .n → v < G .n → G .n ≤ length marks
+      → ask.Allowed b u v marks r m
+      → Right G (indexOf G orders) u v marks r m
+  pub host-asks : (u v : ℕ) (marks : List ℕ) (r : DrobistenAsked) (m : List ℕ) → u < G .n → v < G .n → G .n ≤ length marks
+      → host.Asks b u v marks r m
+      → (r .refusal ≡ 0) × ((r .yes ≡ 1) ↔ Reaches G u v)
+
+pub record AsGrail : Type 0 where
+  -- what a finished build stores is the index of its edge list under its orders
+  pub built : {B : Input} {work out : List ℕ} {r : Built} {work' out' : List ℕ} {total : ℕ} → build.Allowed B work out r work' out'
+      → builtOf r ≡ answered total
+      → Stored (B .graph) (ordersOf B) (take total out')
+  -- bytes open exactly when they are the index of some graph, of any number of edges, under some orders
+  pub opened : {b marks : List ℕ} {r : OpenAnswer} {m : List ℕ} → Bytes b → countsIn b .n ≤ length marks → opening.Allowed b marks r m
+      → ((a : Counts) × (openedOf r ≡ answered a)) ↔ ((G : Graph) × (orders : List (List ℕ)) × Stored G orders b)
+  -- then of whatever graph and d orders yield them
+  pub yielded : {b marks : List ℕ} {r : OpenAnswer} {m : List ℕ} {a : Counts} → opening.Allowed b marks r m → openedOf r ≡ answered a
+      → (Y : Yields (formIn b) b)
+      → length (Y .orders) ≡ a .d
+      → Stored (Y .graph) (Y .orders) b
+  -- so whatever graph and orders yield the bytes, an answer is yes exactly when a path of zero or more edges exists in that graph; for the host too
+  pub path : {b : List ℕ} {u v : ℕ} {marks : List ℕ} {r : Asked} {m : List ℕ} {s : Said} → ask.Allowed b u v marks r m → askedOf r ≡ answered s
+      → (Y : Yields (formIn b) b)
+      → (s .says ≡ true) ↔ Reaches (Y .graph) u v
+  pub host-path : {b : List ℕ} {u v : ℕ} {marks : List ℕ} {r : DrobistenAsked} {m : List ℕ} → host.Asks b u v marks r m → r .refusal ≡ 0
+      → (Y : Yields (formIn b) b)
+      → (r .yes ≡ 1) ↔ Reaches (Y .graph) u v

@@ -1,0 +1,1 @@
+// The demands, stated about the calls, stand in proofs/; there is no code here.
