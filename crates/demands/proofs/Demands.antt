@@ -1,4 +1,5 @@
--- The three demands.
+-- The three demands on the calls, proved. specs/ says what each is; what follows is the laws of this crate and of those below, cited.
+use Rattle.lineage.specs.Calls.{buildAnswer, openAnswer, askAnswer, listAnswer}
 use Rattle.build.proofs.build as build-call
 use Rattle.build.proofs.Theorems.{built-once}
 use Rattle.open.proofs.open as open-call
@@ -12,9 +13,13 @@ use Rattle.text_run.proofs.Theorems.{ran-once}
 use Rattle.drobisten.proofs.drobisten_open as host-open-call
 use Rattle.drobisten.proofs.drobisten_ask as host-ask-call
 use Rattle.drobisten.proofs.Theorems as host
-use Rattle.lineage.specs.Calls.{buildAnswer, openAnswer, askAnswer, listAnswer}
 use Rattle.demands.specs.Calls.{EveryCall}
+use Rattle.demands.specs.Stored.{AsGrail}
+use Rattle.demands.specs.Orders.{MoreOrders}
 use Rattle.demands.proofs.Refusals.{first-refusal}
+use Rattle.demands.proofs.Stored.{build-stored}
+use Rattle.demands.proofs.Opened.{opened-stored, yielded-stored, asked-path, host-path}
+use Rattle.demands.proofs.Orders.{same-graph, fewer, on-a-no}
 
 -- 1. The checker's theorem of each call is cited; what the contract says is, equation by equation, what is allowed.
 pub demand-1 : EveryCall
@@ -66,4 +71,16 @@ demand-1 = record {
   open-refuses = λ b marks number extra. first-refusal _ number extra _;
   ask-refuses = λ b u v marks number extra. first-refusal _ number extra _;
   list-refuses = λ b u marks out number extra. first-refusal _ number extra _;
+}
+
+-- 2. What is built is stored; what opens is stored, whatever graph and orders yield it; and what is stored is right.
+pub demand-2 : AsGrail
+demand-2 = record { built = build-stored; opened = opened-stored; yielded = yielded-stored; path = asked-path; host-path = host-path }
+
+-- 3. Two stored indexes of one graph, the orders of the first among those of the second.
+pub demand-3 : MoreOrders
+demand-3 = record {
+  fewer = fewer;
+  built = λ X₁ done₁ X₂ done₂ same. fewer (build-stored X₁ done₁) (same-graph same (build-stored X₂ done₂));
+  on-a-no = on-a-no;
 }

@@ -31,18 +31,18 @@ use Rattle.drobisten.proofs.Theorems as host
 -- and of the arguments e as they are left.
 pub record Answers {n : ℕ} (ps : List (PK n)) (res : RK n) (meets : Type 1 → Type 2) (asked : In n ps) (learnt allowed : Out n ps res)
     (same : (κs : Lfts n) → AtExit (endedOf n ps res) κs → AtExit (endedOf n ps res) κs → Type 0)
-  : Type 2 where
-    -- it meets its contract: called with anything that it may be lent it is safe, ends, and answers and leaves what the contract says
-    pub met : {M : Type 1} → meets M
-    -- the contract asks nothing
-    pub nothing-asked : (κs : Lfts n) (a : Dens κs ps) → asked κs a
-    -- it says that what is answered and left is allowed
-    pub allows : (κs : Lfts n) (a : Dens κs ps) (r : resT res κs .Denot) (e : AtExit (endedOf n ps res) κs) → learnt κs a r e → allowed κs a r e
-    -- and one answer and one content of each lent buffer are
-    pub once : (κs : Lfts n) (a : Dens κs ps) (r r' : resT res κs .Denot) (e e' : AtExit (endedOf n ps res) κs)
-        → allowed κs a r e
-        → allowed κs a r' e'
-        → (r ≡ r') × same κs e e'
+    : Type 2 where
+  -- it meets its contract: called with anything that it may be lent it is safe, ends, and answers and leaves what the contract says
+  pub met : {M : Type 1} → meets M
+  -- the contract asks nothing
+  pub nothing-asked : (κs : Lfts n) (a : Dens κs ps) → asked κs a
+  -- it says that what is answered and left is allowed
+  pub allows : (κs : Lfts n) (a : Dens κs ps) (r : resT res κs .Denot) (e : AtExit (endedOf n ps res) κs) → learnt κs a r e → allowed κs a r e
+  -- and one answer and one content of each lent buffer are
+  pub once : (κs : Lfts n) (a : Dens κs ps) (r r' : resT res κs .Denot) (e e' : AtExit (endedOf n ps res) κs)
+      → allowed κs a r e
+      → allowed κs a r' e'
+      → (r ≡ r') × same κs e e'
 
 -- the first of the checks that applies has this number and this extra number
 pub record Refuses (cs : List Check) (number extra : ℕ) : Type 0 where
