@@ -1,19 +1,13 @@
 -- Opening and asking check the same: bytes that open answer every question between their vertices, and bytes on which a question is answered open.
-use mathlib.Core.Bool.{true}
-use mathlib.Core.Path.{_≡_, refl, sym, ap, _∙_}
+use mathlib.Core.Path.{_≡_}
 use mathlib.Core.List.{List, [], _∷_, _++_}
 use Prim.Native.Nat.{ℕ, _≤_, _<_}
-use native.Mathlib.Omega.{arith}
-use lib.Dec.{leb, ltb}
 use lib.ListN.{length, drop}
 use borrow.Author.Tests.{lt-leb, le-ltb}
-use Rattle.lineage.specs.Lists.{Every}
 use Rattle.lineage.specs.Stored.{Counts, countsIn}
 use Rattle.lineage.specs.Question.{answer}
-use Rattle.lineage.specs.Calls.{Check, Outcome, refused, answered, formChecks, contentsCheck, openAnswer, indexIn, askEarly, Said, saidOf, askAnswer, askMarks}
+use Rattle.lineage.specs.Calls.{answered, formChecks, contentsCheck, openAnswer, indexIn, askEarly, Said, saidOf, askAnswer, askMarks}
 use Rattle.build.proofs.Checks.{all-pass, passed-is, pass-all}
-use Rattle.open.specs.Yields.{HeaderRight}
-use Rattle.open.proofs.Checks.{opened-right}
 use Rattle.ask.proofs.Theorems.{marks-are}
 
 -- the counts that are given are the header's

@@ -18,8 +18,8 @@ use Rattle.demands.specs.Stored.{AsGrail}
 use Rattle.demands.specs.Orders.{MoreOrders}
 use Rattle.demands.proofs.Refusals.{first-refusal}
 use Rattle.demands.proofs.Stored.{build-stored}
-use Rattle.demands.proofs.Opened.{opened-stored, yielded-stored, asked-path, host-path}
-use Rattle.demands.proofs.Orders.{same-graph, fewer, on-a-no}
+use Rattle.demands.proofs.Opened.{opened-yields, yielded-stored, opened-answers, asked-path, host-path}
+use Rattle.demands.proofs.Orders.{fewer, on-a-no}
 
 -- 1. The checker's theorem of each call is cited; what the contract says is, equation by equation, what is allowed.
 pub demand-1 : EveryCall
@@ -73,14 +73,21 @@ demand-1 = record {
   list-refuses = λ b u marks out number extra. first-refusal _ number extra _;
 }
 
--- 2. What is built is stored; what opens is stored, whatever graph and orders yield it; and what is stored is right.
+-- 2. What is built and what opens is a stored index, whatever graph and orders yield it; and what is stored is right.
 pub demand-2 : AsGrail
-demand-2 = record { built = build-stored; opened = opened-stored; yielded = yielded-stored; path = asked-path; host-path = host-path }
+demand-2 = record {
+  built = build-stored;
+  opened = opened-yields;
+  yielded = yielded-stored;
+  answers = opened-answers;
+  path = asked-path;
+  host-path = host-path;
+}
 
 -- 3. Two stored indexes of one graph, the orders of the first among those of the second.
 pub demand-3 : MoreOrders
 demand-3 = record {
   fewer = fewer;
-  built = λ X₁ done₁ X₂ done₂ same. fewer (build-stored X₁ done₁) (same-graph same (build-stored X₂ done₂));
+  built = λ G orders₁ orders₂ b₁ b₂ D₁ D₂. fewer G orders₁ orders₂ b₁ b₂ (build-stored D₁) (build-stored D₂);
   on-a-no = on-a-no;
 }

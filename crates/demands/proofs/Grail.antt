@@ -1,17 +1,15 @@
 -- The index of a graph under some orders is as document 01 tells it: each sentence is a law of `laws`, or an equation of the definition read at a place.
 use mathlib.Core.Bool.{true}
-use mathlib.Core.Logic.{_↔_}
 use mathlib.Core.Path.{_≡_, refl, sym, ap, subst, _∙_}
-use mathlib.Core.List.{List, [], map}
-use Prim.Native.Nat.{ℕ, suc, _<_}
+use mathlib.Core.List.{List, []}
+use Prim.Native.Nat.{ℕ, _<_}
 use native.Mathlib.Omega.{arith}
 use lib.ListN.{length, getD, length-map}
-use Rattle.lineage.specs.Lists.{upto, among, those, position, least, Every}
-use Rattle.lineage.specs.Graph.{Graph, Edge, Ends, namesOf, groupList, placeOf, isChild, childrenOf, condense}
-use Rattle.lineage.specs.Labels.{Order, inOrder, forestOf, finished, subtree, Labelling, labelsBy, labelling}
+use Rattle.lineage.specs.Lists.{upto, among, Every}
+use Rattle.lineage.specs.Graph.{Graph, Ends, placeOf, isChild, condense}
+use Rattle.lineage.specs.Labels.{Order, inOrder, forestOf, labelsBy, labelling}
 use Rattle.lineage.specs.Index.{Index, indexBy, indexOf}
 use Rattle.lineage.specs.Sound.{childOf}
-use Rattle.lineage.specs.Question.{placeIn}
 use Rattle.laws.specs.Leads.{OneGroup}
 use Rattle.laws.specs.Sound.{SoundGroups}
 use Rattle.laws.proofs.Every.{every-at}

@@ -3,16 +3,16 @@
 use mathlib.Core.Bool.{true}
 use mathlib.Core.Logic.{_↔_}
 use mathlib.Core.Path.{_≡_, refl, sym, ap, _∙_}
-use mathlib.Core.List.{List}
+use mathlib.Core.List.{List, _++_}
 use Prim.Native.Nat.{ℕ, _≤_, _<_}
 use native.Mathlib.Omega.{arith}
-use lib.ListN.{length}
+use lib.ListN.{length, drop}
 use borrow.Author.Tests.{eq-eqb}
-use Rattle.lineage.specs.Graph.{Graph, Reaches}
-use Rattle.lineage.specs.Index.{Index, Made}
-use Rattle.lineage.specs.Stored.{Counts, countsOf, countsIn}
-use Rattle.lineage.specs.Calls.{Outcome, refused, answered, openAnswer, indexIn, Said, askAnswer}
-use Rattle.laws_answers.proofs.Built.{built-long}
+use Rattle.lineage.specs.Graph.{Reaches}
+use Rattle.lineage.specs.Index.{indexOf, Made}
+use Rattle.lineage.specs.Stored.{Counts, countsOf, countsFit, countsIn}
+use Rattle.lineage.specs.Question.{answer}
+use Rattle.lineage.specs.Calls.{Outcome, refused, answered, indexIn, Said, saidOf, askAnswer}
 use Rattle.numbers.proofs.Written.{Bytes}
 use Rattle.open.specs.declared.Opened.{Opened}
 use Rattle.open.specs.Opened.{openedOf}
@@ -28,22 +28,18 @@ use Rattle.drobisten.specs.Host.{hostAsked, askedBy}
 use Rattle.drobisten.proofs.Theorems as host
 use Rattle.demands.specs.Stored.{formIn, Stored}
 use Rattle.demands.proofs.Yielded.{orders-are, bounds-are}
-use Rattle.demands.proofs.Asked.{opened-counts, asked-opens}
+use Rattle.demands.proofs.Asked.{opened-counts, opened-asks, opened-marks, asked-opens}
 use Rattle.demands.proofs.Stored.{stored}
 
--- bytes open exactly when they are a stored index
-pub opened-stored : {b marks : List ℕ} {r : Opened} {m : List ℕ} → Bytes b → countsIn b .n ≤ length marks → Allowed b marks r m
-    → ((a : Counts) × (openedOf r ≡ answered a)) ↔ ((G : Graph) × (orders : List (List ℕ)) × Stored G orders b)
-opened-stored {b} {marks} {r} {m} small room X = (
-  (λ (a, e).
-      let opens = sym (X .answers) ∙ e in
-      let (Y, bounds) = opens-within b (length marks) small room .0 (opens ∙ ap answered (opened-counts b (length marks) opens)) in
-      (Y .graph, Y .orders, stored Y bounds)),
-  λ (G, orders, T).
-      let n : countsIn b .n ≡ G .n =
-      sym (ask.names-long b) ∙ ap (λ (I : Index). length (I .names)) (sym (T .holds)) ∙ built-long G (T .ends) orders (T .permuted) in
-      (_, T .opens marks r m (omega (arith, n)) X),
-)
+-- bytes open exactly when a graph and orders yield them
+pub opened-yields : {b marks : List ℕ} {r : Opened} {m : List ℕ} → Bytes b → countsIn b .n ≤ length marks → Allowed b marks r m
+    → ((a : Counts) × (openedOf r ≡ answered a))
+    ↔ ((Y : Yields (formIn b) b) × (countsFit (formIn b) (countsOf (indexOf (Y .graph) (Y .orders))) ≡ true))
+opened-yields {b} {marks} small room X =
+    let (to, from) = opens-within b (length marks) small room in (
+      (λ (a, e). let opens = sym (X .answers) ∙ e in to (opens ∙ ap answered (opened-counts b (length marks) opens))),
+      λ y. (countsIn b, X .answers ∙ from y),
+    )
 
 -- of whatever graph and d orders yield them
 pub yielded-stored : {b marks : List ℕ} {r : Opened} {m : List ℕ} {a : Counts} → Allowed b marks r m → openedOf r ≡ answered a → (Y : Yields (formIn b) b)
@@ -52,6 +48,20 @@ pub yielded-stored : {b marks : List ℕ} {r : Opened} {m : List ℕ} {a : Count
 yielded-stored {b} {marks} X e Y d =
     let opens = sym (X .answers) ∙ e in
     stored Y (bounds-are (opened-right b (length marks) (sym opens)) Y (d ∙ ap (λ (a : Counts). a .d) (opened-counts b (length marks) opens)))
+
+-- they answer every question between their vertices
+pub opened-answers : {b marks : List ℕ} {r : Opened} {m : List ℕ} {a : Counts} → Allowed b marks r m → openedOf r ≡ answered a
+    → {u v : ℕ} {marks' : List ℕ} {r' : Asked} {m' : List ℕ} → u < a .n → v < a .n → a .n ≤ length marks'
+    → ask.Allowed b u v marks' r' m'
+    → (askedOf r' ≡ answered (saidOf (answer (indexIn b) u v))) × (m' ≡ answer (indexIn b) u v .marks ++ drop (a .n) marks')
+opened-answers {b} {marks} X e {u} {v} {marks'} source target room Q =
+    let opens = sym (X .answers) ∙ e in
+    let n = ap (λ (a : Counts). a .n) (opened-counts b (length marks) opens) in (
+      Q .answers ∙ opened-asks b (length marks) opens u v (rw n at source) (rw n at target) (length marks') (rw n at room),
+      Q .leaves
+          ∙ opened-marks b (length marks) opens u v (rw n at source) (rw n at target) marks' (rw n at room)
+          ∙ ap (λ (k : ℕ). answer (indexIn b) u v .marks ++ drop k marks') (sym n),
+    )
 
 -- A question that is answered.
 module _ (b : List ℕ) (u v m : ℕ) {s : Said} (e : askAnswer b u v m ≡ answered s) (Y : Yields (formIn b) b) where

@@ -8,7 +8,7 @@ use Prim.Native.Nat.{ℕ, zero, suc, _<_}
 use native.Mathlib.Nat.{not-suc-le-zero}
 use native.Mathlib.Omega.{arith}
 use lib.ListN.{length, getD}
-use Rattle.lineage.specs.Calls.{Check, check, Outcome, refused, answered, refuse, outcome}
+use Rattle.lineage.specs.Calls.{Check, check, refused, refuse, outcome}
 use Rattle.demands.specs.Calls.{Refuses}
 
 abbrev none : Check

@@ -6,11 +6,10 @@ use mathlib.Core.Path.{_≡_, refl, sym, ap, ap₂, _∙_}
 use mathlib.Core.List.{List, _++_}
 use Prim.Native.Nat.{ℕ, _≤_, _<_}
 use native.Mathlib.Omega.{arith}
-use lib.ListN.{length, take, drop}
+use lib.ListN.{length, drop}
 use Rattle.lineage.specs.Graph.{Graph, Reaches}
 use Rattle.lineage.specs.Index.{Index, indexOf, Made}
-use Rattle.lineage.specs.Stored.{form1, Counts, countsOf, countsFit, encode, countsIn}
-use Rattle.lineage.specs.Sound.{sound}
+use Rattle.lineage.specs.Stored.{form1, Counts, countsOf, countsFit, countsIn}
 use Rattle.lineage.specs.Question.{placeIn, answer}
 use Rattle.lineage.specs.Calls.{answered, Input, orderAt, ordersOf, openAnswer, indexIn, saidOf, askAnswer, askMarks}
 use Rattle.laws.specs.Sound.{Sound}
@@ -21,9 +20,7 @@ use Rattle.laws_answers.proofs.Built.{built-sound, built-long}
 use Rattle.laws_answers.proofs.Demands.{reason-first, marks-are-opened}
 use Rattle.stored.specs.Fits.{Fits}
 use Rattle.stored.proofs.Encoded.{counts-read, index-encode}
-use Rattle.build.specs.declared.Built.{Built}
 use Rattle.build.specs.Admitted.{Admitted}
-use Rattle.build.specs.Answers.{builtOf}
 use Rattle.build.proofs.Theorems as build
 use Rattle.open.specs.Yields.{Yields}
 use Rattle.open.proofs.Fits.{form1-wide, bounds-kept, yielded-fits, fits-opens}
@@ -32,7 +29,7 @@ use Rattle.ask.proofs.Theorems as ask
 use Rattle.drobisten.specs.declared.DrobistenAsked.{DrobistenAsked}
 use Rattle.drobisten.specs.Host.{hostAsked}
 use Rattle.drobisten.proofs.Theorems as host
-use Rattle.demands.specs.Stored.{formIn, Right, Stored}
+use Rattle.demands.specs.Stored.{formIn, Builds, Right, Stored}
 use Rattle.demands.proofs.Grail.{grail}
 use Rattle.demands.proofs.Asked.{opened-asks, opened-marks}
 
@@ -107,19 +104,20 @@ module _ {b : List ℕ} (Y : Yields (formIn b) b) (bounds : countsFit (formIn b)
     host-asks = λ u v marks r m source target room. host-right u v marks source target room;
   }
 
--- what a finished build stores
-pub build-stored : {B : Input} {work out : List ℕ} {r : Built} {work' out' : List ℕ} {total : ℕ} → build.Allowed B work out r work' out' → builtOf r ≡ answered total
-    → Stored (B .graph) (ordersOf B) (take total out')
-build-stored {B} {work} {out} {r} {work'} {out'} {total} X done =
-    let A : Admitted form1 B (length work) = build.input-right B work out r work' out' X total done in
-    let permuted = build.orders-right B work out r work' out' X total done in
+-- what a finished build leaves
+pub build-stored : {G : Graph} {orders : List (List ℕ)} {b : List ℕ} → Builds G orders b → Stored G orders b
+build-stored D =
+    let B : Input = D .input in
+    let A : Admitted form1 B (length (D .work)) = build.input-right B (D .work) (D .out) (D .r) (D .work') (D .out') (D .allowed) (D .total) (D .finished) in
+    let permuted = build.orders-right B (D .work) (D .out) (D .r) (D .work') (D .out') (D .allowed) (D .total) (D .finished) in
     let many = table-long (orderAt (B .graph .n) (B .orders)) (B .d) in
-    stored
+    rw (← D .from-graph, ← D .from-orders, ← D .left)
+    (stored
     (record {
       graph = B .graph;
       ends = A .ends;
       orders = ordersOf B;
       permuted = permuted;
-      bytes = sym (build.build-stores B work out r work' out' X total done);
+      bytes = sym (build.build-stores B (D .work) (D .out) (D .r) (D .work') (D .out') (D .allowed) (D .total) (D .finished));
     })
-    (bounds-kept form1 (B .graph) (A .ends) (ordersOf B) permuted (A .vertices) (A .edges) (omega (arith, A .least)) (omega (arith, A .most)))
+    (bounds-kept form1 (B .graph) (A .ends) (ordersOf B) permuted (A .vertices) (A .edges) (omega (arith, A .least)) (omega (arith, A .most))))

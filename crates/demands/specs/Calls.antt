@@ -27,8 +27,8 @@ use Rattle.drobisten.proofs.drobisten_open as host-open-call
 use Rattle.drobisten.proofs.drobisten_ask as host-ask-call
 use Rattle.drobisten.proofs.Theorems as host
 
--- Of one call, over the contract that it is proved to meet: `asked` is what the contract asks of the arguments a, `learnt` what it says of them, of the answer r
--- and of the arguments e as they are left.
+-- Of one call, over the contract that it is proved to meet, as its callers have it: `asked` is what the contract asks of the arguments a; `learnt` what it says of
+-- them, of the answer r and of the arguments e as they are left; `same` that two calls left the same in every lent buffer.
 pub record Answers {n : ℕ} (ps : List (PK n)) (res : RK n) (meets : Type 1 → Type 2) (asked : In n ps) (learnt allowed : Out n ps res)
     (same : (κs : Lfts n) → AtExit (endedOf n ps res) κs → AtExit (endedOf n ps res) κs → Type 0)
     : Type 2 where
@@ -36,9 +36,9 @@ pub record Answers {n : ℕ} (ps : List (PK n)) (res : RK n) (meets : Type 1 →
   pub met : {M : Type 1} → meets M
   -- the contract asks nothing
   pub nothing-asked : (κs : Lfts n) (a : Dens κs ps) → asked κs a
-  -- it says that what is answered and left is allowed
+  -- what it says is allowed
   pub allows : (κs : Lfts n) (a : Dens κs ps) (r : resT res κs .Denot) (e : AtExit (endedOf n ps res) κs) → learnt κs a r e → allowed κs a r e
-  -- and one answer and one content of each lent buffer are
+  -- and one answer and one content of each lent buffer is
   pub once : (κs : Lfts n) (a : Dens κs ps) (r r' : resT res κs .Denot) (e e' : AtExit (endedOf n ps res) κs)
       → allowed κs a r e
       → allowed κs a r' e'
@@ -51,7 +51,7 @@ pub record Refuses (cs : List Check) (number extra : ℕ) : Type 0 where
   pub none-before : (i : ℕ) → i < at → getD cs i (check false 0 0) .applies ≡ false
   pub here : getD cs at (check false 0 0) ≡ check true number extra
 
--- Of every call. `now x` is what a buffer holds; after the answer r stand the buffers as they are left.
+-- Of every call: its arguments in the order of its parameters, the answer r, and the arguments as they are left; `now` is what a buffer holds.
 pub record EveryCall : Type 2 where
   pub build : Answers build-call.Kinds.ps build-call.Kinds.r build-call.Statement.statement build-call.Reads.Asked build-call.Reads.Learnt
       (λ κs (n, (sources, (targets, (orders, (d, (work, (out, _))))))) r (_, (_, (_, (_, (_, (work', (out', _))))))).
@@ -64,11 +64,14 @@ pub record EveryCall : Type 2 where
       (λ κs (index, (source, (target, (marks, _)))) r (_, (_, (_, (marks', _)))). ask.Allowed (now index) source target (now marks) r (now marks'))
       (λ κs (_, (_, (_, (marks, _)))) (_, (_, (_, (marks', _)))). now marks ≡ now marks')
   pub list : Answers list-call.Kinds.ps list-call.Kinds.r list-call.Statement.statement list-call.Reads.Asked list-call.Reads.Learnt
-      (λ κs (index, (vertex, (marks, (out, _)))) r (_, (_, (marks', (out', _)))). list.Allowed (now index) vertex (now marks) (now out) r (now marks') (now out'))
+      (λ κs (index, (vertex, (marks, (out, _)))) r (_, (_, (marks', (out', _)))).
+      list.Allowed (now index) vertex (now marks) (now out) r (now marks') (now out'))
       (λ κs (_, (_, (marks, (out, _)))) (_, (_, (marks', (out', _)))). (now marks ≡ now marks') × (now out ≡ now out'))
+  -- the text program's run
   pub run : Answers run-call.Kinds.ps run-call.Kinds.r run-call.Statement.statement run-call.Reads.Asked run-call.Reads.Learnt
       (λ κs (text, (out, _)) r (_, (out', _)). run.Allowed (now text) (now out) r (now out'))
       (λ κs (_, (out, _)) (_, (out', _)). now out ≡ now out')
+  -- the C face
   pub host-open : Answers host-open-call.Kinds.ps host-open-call.Kinds.r host-open-call.Statement.statement host-open-call.Reads.Asked host-open-call.Reads.Learnt
       (λ κs (index, (marks, _)) r (_, (marks', _)). host.Opens (now index) (now marks) r (now marks'))
       (λ κs (_, (marks, _)) (_, (marks', _)). now marks ≡ now marks')
@@ -76,7 +79,11 @@ pub record EveryCall : Type 2 where
       (λ κs (index, (marks, (source, (target, _)))) r (_, (marks', _)). host.Asks (now index) source target (now marks) r (now marks'))
       (λ κs (_, (marks, _)) (_, (marks', _)). now marks ≡ now marks')
   -- a refusal is given exactly when its check applies and none above it does
-  pub build-refuses : (F : Form) (B : Input) (work out number extra : ℕ) → (buildAnswer F B work out ≡ refused number extra) ↔ Refuses (buildEarly F B work ++ buildLate F B out) number extra
-  pub open-refuses : (b : List ℕ) (marks number extra : ℕ) → (openAnswer b marks ≡ refused number extra) ↔ Refuses (formChecks b marks ++ (contentsCheck b ∷ [])) number extra
-  pub ask-refuses : (b : List ℕ) (u v marks number extra : ℕ) → (askAnswer b u v marks ≡ refused number extra) ↔ Refuses (askEarly b u v marks ++ (contentsCheck b ∷ [])) number extra
-  pub list-refuses : (b : List ℕ) (u marks out number extra : ℕ) → (listAnswer b u marks out ≡ refused number extra) ↔ Refuses (listEarly b u marks ++ listLate b u out) number extra
+  pub build-refuses : (F : Form) (B : Input) (work out number extra : ℕ)
+      → (buildAnswer F B work out ≡ refused number extra) ↔ Refuses (buildEarly F B work ++ buildLate F B out) number extra
+  pub open-refuses : (b : List ℕ) (marks number extra : ℕ)
+      → (openAnswer b marks ≡ refused number extra) ↔ Refuses (formChecks b marks ++ (contentsCheck b ∷ [])) number extra
+  pub ask-refuses : (b : List ℕ) (u v marks number extra : ℕ)
+      → (askAnswer b u v marks ≡ refused number extra) ↔ Refuses (askEarly b u v marks ++ (contentsCheck b ∷ [])) number extra
+  pub list-refuses : (b : List ℕ) (u marks out number extra : ℕ)
+      → (listAnswer b u marks out ≡ refused number extra) ↔ Refuses (listEarly b u marks ++ listLate b u out) number extra

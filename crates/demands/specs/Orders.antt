@@ -6,21 +6,18 @@ use mathlib.Core.Logic.{_↔_}
 use mathlib.Core.Path.{_≡_}
 use mathlib.Core.List.{List, []}
 use Prim.Native.Nat.{ℕ, _<_, _≤_}
-use lib.ListN.{length, getD, take}
+use lib.ListN.{length, getD}
 use Rattle.lineage.specs.Lists.{Every}
 use Rattle.lineage.specs.Graph.{Graph}
 use Rattle.lineage.specs.Index.{Index, indexOf}
 use Rattle.lineage.specs.Question.{rule3, rule4, placeIn}
-use Rattle.lineage.specs.Calls.{answered, Input, ordersOf, Said}
+use Rattle.lineage.specs.Calls.{answered, Said}
 use Rattle.laws_answers.specs.Answers.{Member}
 use Rattle.laws_answers.specs.Walks.{Through}
-use Rattle.build.specs.declared.Built.{Built}
-use Rattle.build.specs.Answers.{builtOf}
-use Rattle.build.proofs.Theorems as build
 use Rattle.ask.specs.declared.Asked.{Asked}
 use Rattle.ask.specs.Asked.{askedOf}
 use Rattle.ask.proofs.Theorems as ask
-use Rattle.demands.specs.Stored.{Stored}
+use Rattle.demands.specs.Stored.{Builds, Stored}
 
 -- two answers with the marks left: the second says what the first says, opens no group that the first does not open, and counts no more
 pub record Fewer (n : ℕ) (r₁ : Asked) (m₁ : List ℕ) (r₂ : Asked) (m₂ : List ℕ) : Type 0 where
@@ -32,33 +29,26 @@ pub record Fewer (n : ℕ) (r₁ : Asked) (m₁ : List ℕ) (r₂ : Asked) (m₂
   pub marks : (i : ℕ) → i < n → getD m₂ i 0 ≡ 1 → getD m₁ i 0 ≡ 1
   pub count : second .opened ≤ first .opened
 
+-- any question between vertices, on two indexes of one graph, the orders of the first among those of the second
+abbrev pub NeverMore : (Graph → List (List ℕ) → List ℕ → Type 0) → Type 0
+NeverMore IndexOf = (G : Graph) (orders₁ orders₂ : List (List ℕ)) (b₁ b₂ : List ℕ) → IndexOf G orders₁ b₁ → IndexOf G orders₂ b₂
+    → Every (λ o. Member o orders₂) orders₁
+    → (u v : ℕ) (marks₁ marks₂ : List ℕ) (r₁ r₂ : Asked) (m₁ m₂ : List ℕ) → u < G .n → v < G .n → G .n ≤ length marks₁ → G .n ≤ length marks₂
+    → ask.Allowed b₁ u v marks₁ r₁ m₁
+    → ask.Allowed b₂ u v marks₂ r₂ m₂
+    → Fewer (G .n) r₁ m₁ r₂ m₂
+
 -- the marks left are those of the groups that are reached from u's, child by child, through groups that pass the tests towards v's, both ends included
 abbrev pub OpenedThrough : Index → (u v : ℕ) → List ℕ → Type 0
 OpenedThrough I u v m = (p : ℕ) → p < length (I .groups)
-    → (getD m (getD (I .groups) p 0) 0 ≡ 1) ↔ Through (λ q. getD (I .children) q []) (λ q. rule3 I q (placeIn I v) || rule4 I q (placeIn I v)) (placeIn I u) p
+    → (getD m (getD (I .groups) p 0) 0 ≡ 1)
+    ↔ Through (λ q. getD (I .children) q []) (λ q. rule3 I q (placeIn I v) || rule4 I q (placeIn I v)) (placeIn I u) p
 
 pub record MoreOrders : Type 0 where
-  -- two stored indexes of one graph
-  pub fewer : {G : Graph} {orders₁ orders₂ : List (List ℕ)} {b₁ b₂ : List ℕ} → Stored G orders₁ b₁ → Stored G orders₂ b₂ → Every (λ o. Member o orders₂) orders₁
-      → {u v : ℕ} {marks₁ marks₂ : List ℕ} {r₁ r₂ : Asked} {m₁ m₂ : List ℕ} → u < G .n → v < G .n → G .n ≤ length marks₁ → G .n ≤ length marks₂
-      → ask.Allowed b₁ u v marks₁ r₁ m₁
-      → ask.Allowed b₂ u v marks₂ r₂ m₂
-      → Fewer (G .n) r₁ m₁ r₂ m₂
-  -- what two builds from one graph store
-  pub built : {B₁ B₂ : Input} {work₁ out₁ work₂ out₂ : List ℕ} {t₁ t₂ : Built} {work₁' out₁' work₂' out₂' : List ℕ} {total₁ total₂ : ℕ}
-      → build.Allowed B₁ work₁ out₁ t₁ work₁' out₁'
-      → builtOf t₁ ≡ answered total₁
-      → build.Allowed B₂ work₂ out₂ t₂ work₂' out₂'
-      → builtOf t₂ ≡ answered total₂
-      → B₁ .graph ≡ B₂ .graph
-      → Every (λ o. Member o (ordersOf B₂)) (ordersOf B₁)
-      → {u v : ℕ} {marks₁ marks₂ : List ℕ} {r₁ r₂ : Asked} {m₁ m₂ : List ℕ} → u < B₁ .graph .n → v < B₁ .graph .n
-      → B₁ .graph .n ≤ length marks₁
-      → B₁ .graph .n ≤ length marks₂
-      → ask.Allowed (take total₁ out₁') u v marks₁ r₁ m₁
-      → ask.Allowed (take total₂ out₂') u v marks₂ r₂ m₂
-      → Fewer (B₁ .graph .n) r₁ m₁ r₂ m₂
-  -- on a no, of a stored index
+  -- of stored indexes, and of what two finished builds left
+  pub fewer : NeverMore Stored
+  pub built : NeverMore Builds
+  -- on a no
   pub on-a-no : {G : Graph} {orders : List (List ℕ)} {b : List ℕ} → Stored G orders b
       → {u v : ℕ} {marks : List ℕ} {r : Asked} {m : List ℕ} {s : Said} → ask.Allowed b u v marks r m → askedOf r ≡ answered s
       → s .says ≡ false

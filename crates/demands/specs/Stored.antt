@@ -11,7 +11,7 @@ use Rattle.lineage.specs.Lists.{Every}
 use Rattle.lineage.specs.Graph.{Graph, Ends, Reaches}
 use Rattle.lineage.specs.Labels.{Order}
 use Rattle.lineage.specs.Index.{Index, indexOf}
-use Rattle.lineage.specs.Stored.{Form, form1, Counts, countsOf, encode, countsIn}
+use Rattle.lineage.specs.Stored.{Form, form1, Counts, countsOf, countsFit, encode, countsIn}
 use Rattle.lineage.specs.Question.{placeIn, answer}
 use Rattle.lineage.specs.Calls.{answered, Input, ordersOf, indexIn, Said, saidOf}
 use Rattle.laws_answers.specs.Answers.{Holds, Opened, Marked}
@@ -34,7 +34,22 @@ use Rattle.demands.specs.Grail.{Grail}
 abbrev pub formIn : List ℕ → Form
 formIn b = form1
 
--- an answer and the marks left, of a question from u to v on the index I of a graph G
+-- a finished build from a graph under some orders left these bytes, by what its contract allows
+pub record Builds (G : Graph) (orders : List (List ℕ)) (b : List ℕ) : Type 0 where
+  pub input : Input
+  pub work : List ℕ
+  pub out : List ℕ
+  pub r : Built
+  pub work' : List ℕ
+  pub out' : List ℕ
+  pub allowed : build.Allowed input work out r work' out'
+  pub total : ℕ
+  pub finished : builtOf r ≡ answered total
+  pub from-graph : input .graph ≡ G
+  pub from-orders : ordersOf input ≡ orders
+  pub left : take total out' ≡ b
+
+-- a question from u to v on the index I of a graph G: what is answered, and the marks left
 pub record Right (G : Graph) (I : Index) (u v : ℕ) (marks : List ℕ) (r : Asked) (m : List ℕ) : Type 0 where
   -- the answer and the marks of document 01, "A question"
   pub said : askedOf r ≡ answered (saidOf (answer I u v))
@@ -44,7 +59,7 @@ pub record Right (G : Graph) (I : Index) (u v : ℕ) (marks : List ℕ) (r : Ask
   -- the first rule that holds decides
   pub rule : Holds I (placeIn I u) (placeIn I v) (answer I u v .reason)
   pub none-before : (q : ℕ) → q < answer I u v .reason → Holds I (placeIn I u) (placeIn I v) q → ⊥
-  -- the walk's opened groups are counted and marked, each once
+  -- the groups that the walk opens are counted and marked, each once
   pub walk : (o : List ℕ) × Opened I (placeIn I u) (placeIn I v) (answer I u v .reason) o × Marked I o (answer I u v)
 
 -- the bytes are those of the index of a graph under some orders
@@ -56,8 +71,9 @@ pub record Stored (G : Graph) (orders : List (List ℕ)) (b : List ℕ) : Type 0
   -- its groups, levels and labels are GRAIL's
   pub grail : Grail G orders (indexIn b)
   -- it opens
-  pub opens : (marks : List ℕ) (r : OpenAnswer) (m : List ℕ) → G .n ≤ length marks → opening.Allowed b marks r m → openedOf r ≡ answered (countsOf (indexOf G orders))
-  -- every question between vertices is answered, and rightly; for the host too
+  pub opens : (marks : List ℕ) (r : OpenAnswer) (m : List ℕ) → G .n ≤ length marks → opening.Allowed b marks r m
+      → openedOf r ≡ answered (countsOf (indexOf G orders))
+  -- every question between vertices is answered, and rightly; the host's too
   pub asks : (u v : ℕ) (marks : List ℕ) (r : Asked) (m : List ℕ) → u < G .n → v < G .n → G .n ≤ length marks
       → ask.Allowed b u v marks r m
       → Right G (indexOf G orders) u v marks r m
@@ -66,19 +82,23 @@ pub record Stored (G : Graph) (orders : List (List ℕ)) (b : List ℕ) : Type 0
       → (r .refusal ≡ 0) × ((r .yes ≡ 1) ↔ Reaches G u v)
 
 pub record AsGrail : Type 0 where
-  -- what a finished build stores is the index of its edge list under its orders
-  pub built : {B : Input} {work out : List ℕ} {r : Built} {work' out' : List ℕ} {total : ℕ} → build.Allowed B work out r work' out'
-      → builtOf r ≡ answered total
-      → Stored (B .graph) (ordersOf B) (take total out')
-  -- bytes open exactly when they are the index of some graph, of any number of edges, under some orders
+  -- what a finished build leaves is a stored index of its edge list under its orders
+  pub built : {G : Graph} {orders : List (List ℕ)} {b : List ℕ} → Builds G orders b → Stored G orders b
+  -- bytes open exactly when some edge list, of any length, and some orders yield them within the form's bounds
   pub opened : {b marks : List ℕ} {r : OpenAnswer} {m : List ℕ} → Bytes b → countsIn b .n ≤ length marks → opening.Allowed b marks r m
-      → ((a : Counts) × (openedOf r ≡ answered a)) ↔ ((G : Graph) × (orders : List (List ℕ)) × Stored G orders b)
-  -- then of whatever graph and d orders yield them
+      → ((a : Counts) × (openedOf r ≡ answered a))
+      ↔ ((Y : Yields (formIn b) b) × (countsFit (formIn b) (countsOf (indexOf (Y .graph) (Y .orders))) ≡ true))
+  -- bytes that open are a stored index of whatever edge list and d orders yield them
   pub yielded : {b marks : List ℕ} {r : OpenAnswer} {m : List ℕ} {a : Counts} → opening.Allowed b marks r m → openedOf r ≡ answered a
       → (Y : Yields (formIn b) b)
       → length (Y .orders) ≡ a .d
       → Stored (Y .graph) (Y .orders) b
-  -- so whatever graph and orders yield the bytes, an answer is yes exactly when a path of zero or more edges exists in that graph; for the host too
+  -- they answer every question between their vertices, with the marks that the definition gives
+  pub answers : {b marks : List ℕ} {r : OpenAnswer} {m : List ℕ} {a : Counts} → opening.Allowed b marks r m → openedOf r ≡ answered a
+      → {u v : ℕ} {marks' : List ℕ} {r' : Asked} {m' : List ℕ} → u < a .n → v < a .n → a .n ≤ length marks'
+      → ask.Allowed b u v marks' r' m'
+      → (askedOf r' ≡ answered (saidOf (answer (indexIn b) u v))) × (m' ≡ answer (indexIn b) u v .marks ++ drop (a .n) marks')
+  -- an answer is yes exactly when a path of zero or more edges exists, in whatever edge list yields the bytes under whatever orders; the host's too
   pub path : {b : List ℕ} {u v : ℕ} {marks : List ℕ} {r : Asked} {m : List ℕ} {s : Said} → ask.Allowed b u v marks r m → askedOf r ≡ answered s
       → (Y : Yields (formIn b) b)
       → (s .says ≡ true) ↔ Reaches (Y .graph) u v
