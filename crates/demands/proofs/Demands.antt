@@ -1,7 +1,7 @@
 -- The three demands on the calls, proved. specs/ says what each is; what follows is the laws of this crate and of those below, cited.
 use Rattle.lineage.specs.Calls.{buildAnswer, openAnswer, askAnswer, listAnswer}
 use Rattle.build.proofs.build as build-call
-use Rattle.build.proofs.Theorems.{built-once}
+use Rattle.build.proofs.Theorems.{built-once, build-finishes}
 use Rattle.open.proofs.open as open-call
 use Rattle.open.proofs.Theorem.{opened-once}
 use Rattle.ask.proofs.ask as ask-call
@@ -76,6 +76,7 @@ demand-1 = record {
 -- 2. What is built and what opens is a stored index, whatever graph and orders yield it; and what is stored is right.
 pub demand-2 : AsGrail
 demand-2 = record {
+  finishes = build-finishes;
   built = build-stored;
   opened = opened-yields;
   yielded = yielded-stored;

@@ -9,7 +9,7 @@ use native.Mathlib.Omega.{arith}
 use lib.ListN.{length, drop}
 use Rattle.lineage.specs.Graph.{Graph, Reaches}
 use Rattle.lineage.specs.Index.{Index, indexOf, Made}
-use Rattle.lineage.specs.Stored.{form1, Counts, countsOf, countsFit, countsIn}
+use Rattle.lineage.specs.Stored.{Counts, countsOf, countsFit, countsIn}
 use Rattle.lineage.specs.Question.{placeIn, answer}
 use Rattle.lineage.specs.Calls.{answered, Input, orderAt, ordersOf, openAnswer, indexIn, saidOf, askAnswer, askMarks}
 use Rattle.laws.specs.Sound.{Sound}
@@ -29,7 +29,7 @@ use Rattle.ask.proofs.Theorems as ask
 use Rattle.drobisten.specs.declared.DrobistenAsked.{DrobistenAsked}
 use Rattle.drobisten.specs.Host.{hostAsked}
 use Rattle.drobisten.proofs.Theorems as host
-use Rattle.demands.specs.Stored.{formIn, Builds, Right, Stored}
+use Rattle.demands.specs.Stored.{form, formIn, Builds, Right, Stored}
 use Rattle.demands.proofs.Grail.{grail}
 use Rattle.demands.proofs.Asked.{opened-asks, opened-marks}
 
@@ -108,7 +108,7 @@ module _ {b : List ℕ} (Y : Yields (formIn b) b) (bounds : countsFit (formIn b)
 pub build-stored : {G : Graph} {orders : List (List ℕ)} {b : List ℕ} → Builds G orders b → Stored G orders b
 build-stored D =
     let B : Input = D .input in
-    let A : Admitted form1 B (length (D .work)) = build.input-right B (D .work) (D .out) (D .r) (D .work') (D .out') (D .allowed) (D .total) (D .finished) in
+    let A : Admitted form B (length (D .work)) = build.input-right B (D .work) (D .out) (D .r) (D .work') (D .out') (D .allowed) (D .total) (D .finished) in
     let permuted = build.orders-right B (D .work) (D .out) (D .r) (D .work') (D .out') (D .allowed) (D .total) (D .finished) in
     let many = table-long (orderAt (B .graph .n) (B .orders)) (B .d) in
     rw (← D .from-graph, ← D .from-orders, ← D .left)
@@ -120,4 +120,4 @@ build-stored D =
       permuted = permuted;
       bytes = sym (build.build-stores B (D .work) (D .out) (D .r) (D .work') (D .out') (D .allowed) (D .total) (D .finished));
     })
-    (bounds-kept form1 (B .graph) (A .ends) (ordersOf B) permuted (A .vertices) (A .edges) (omega (arith, A .least)) (omega (arith, A .most))))
+    (bounds-kept form (B .graph) (A .ends) (ordersOf B) permuted (A .vertices) (A .edges) (omega (arith, A .least)) (omega (arith, A .most))))

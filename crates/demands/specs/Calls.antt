@@ -27,8 +27,8 @@ use Rattle.drobisten.proofs.drobisten_open as host-open-call
 use Rattle.drobisten.proofs.drobisten_ask as host-ask-call
 use Rattle.drobisten.proofs.Theorems as host
 
--- Of one call, over the contract that it is proved to meet, as its callers have it: `asked` is what the contract asks of the arguments a; `learnt` what it says of
--- them, of the answer r and of the arguments e as they are left; `same` that two calls left the same in every lent buffer.
+-- Of one call. `meets` is its theorem as the checker states it; `asked` and `learnt` are its contract as callers have it: what is asked of the arguments a, and what
+-- is said of them, of the answer r and of the arguments e as they are left. `same`: the lent buffers are left alike. κs are the lifetimes of what is lent.
 pub record Answers {n : ℕ} (ps : List (PK n)) (res : RK n) (meets : Type 1 → Type 2) (asked : In n ps) (learnt allowed : Out n ps res)
     (same : (κs : Lfts n) → AtExit (endedOf n ps res) κs → AtExit (endedOf n ps res) κs → Type 0)
     : Type 2 where

@@ -13,10 +13,11 @@ use Rattle.lineage.specs.Labels.{Order}
 use Rattle.lineage.specs.Index.{Index, indexOf}
 use Rattle.lineage.specs.Stored.{Form, form1, Counts, countsOf, countsFit, encode, countsIn}
 use Rattle.lineage.specs.Question.{placeIn, answer}
-use Rattle.lineage.specs.Calls.{answered, Input, ordersOf, indexIn, Said, saidOf}
+use Rattle.lineage.specs.Calls.{answered, Input, ordersOf, lengthOf, indexIn, Said, saidOf}
 use Rattle.laws_answers.specs.Answers.{Holds, Opened, Marked}
 use Rattle.numbers.proofs.Written.{Bytes}
 use Rattle.build.specs.declared.Built.{Built}
+use Rattle.build.specs.Admitted.{Admitted}
 use Rattle.build.specs.Answers.{builtOf}
 use Rattle.build.proofs.Theorems as build
 use Rattle.open.specs.declared.Opened.{Opened as OpenAnswer}
@@ -30,9 +31,12 @@ use Rattle.drobisten.specs.declared.DrobistenAsked.{DrobistenAsked}
 use Rattle.drobisten.proofs.Theorems as host
 use Rattle.demands.specs.Grail.{Grail}
 
--- the form that bytes are of: the one of the table
+-- the form that is built, and the form that bytes are of: there is one
+abbrev pub form : Form
+form = form1
+
 abbrev pub formIn : List ℕ → Form
-formIn b = form1
+formIn b = form
 
 -- a finished build from a graph under some orders left these bytes, by what its contract allows
 pub record Builds (G : Graph) (orders : List (List ℕ)) (b : List ℕ) : Type 0 where
@@ -82,13 +86,19 @@ pub record Stored (G : Graph) (orders : List (List ℕ)) (b : List ℕ) : Type 0
       → (r .refusal ≡ 0) × ((r .yes ≡ 1) ↔ Reaches G u v)
 
 pub record AsGrail : Type 0 where
+  -- edges between vertices and orders within the form's bounds, with room for work and output, are built
+  pub finishes : {B : Input} {work out : List ℕ} {r : Built} {work' out' : List ℕ} → build.Allowed B work out r work' out'
+      → Admitted form B (length work)
+      → Every (Order (B .graph .n)) (ordersOf B)
+      → lengthOf form (indexOf (B .graph) (ordersOf B)) ≤ length out
+      → builtOf r ≡ answered (lengthOf form (indexOf (B .graph) (ordersOf B)))
   -- what a finished build leaves is a stored index of its edge list under its orders
   pub built : {G : Graph} {orders : List (List ℕ)} {b : List ℕ} → Builds G orders b → Stored G orders b
   -- bytes open exactly when some edge list, of any length, and some orders yield them within the form's bounds
   pub opened : {b marks : List ℕ} {r : OpenAnswer} {m : List ℕ} → Bytes b → countsIn b .n ≤ length marks → opening.Allowed b marks r m
       → ((a : Counts) × (openedOf r ≡ answered a))
       ↔ ((Y : Yields (formIn b) b) × (countsFit (formIn b) (countsOf (indexOf (Y .graph) (Y .orders))) ≡ true))
-  -- bytes that open are a stored index of whatever edge list and d orders yield them
+  -- bytes that open are a stored index of whatever edge list and d orders yield them (without a vertex 2^32 orders more would yield them too)
   pub yielded : {b marks : List ℕ} {r : OpenAnswer} {m : List ℕ} {a : Counts} → opening.Allowed b marks r m → openedOf r ≡ answered a
       → (Y : Yields (formIn b) b)
       → length (Y .orders) ≡ a .d
