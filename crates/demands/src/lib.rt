@@ -1,1 +1,1 @@
-// The demands, stated about the calls, stand in proofs/; there is no code here.
+// The demands on the calls stand in specs/, their proofs in proofs/; there is no code here.
