@@ -9,8 +9,8 @@ ghost use Rattle.stored.specs.Sections.{indexAt};
 ghost use Rattle.sound_places.specs.Lent.{Lent};
 ghost use Rattle.ask_walk.specs.Fit.{groupsIn, Fit};
 ghost use Rattle.ask.specs.Replies.{answerBy};
-use stored_header::Layout;
 use ask_walk::Seen;
+use stored_header::Layout;
 
 // Yes or no, the reason, the number of the labelling that decided (0 where none did), and the number of groups opened.
 pub struct Reply {

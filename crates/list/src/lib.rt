@@ -10,11 +10,11 @@ ghost use Rattle.list.specs.Listed.{listedOf, Allowed, Passes};
 pub mod listing;
 pub mod reach;
 
-use stored_header::Header;
-use stored_header::Layout;
 use numbers::clear_marks;
 use open::contents_sound;
 use stored::parts;
+use stored_header::Header;
+use stored_header::Layout;
 
 // How many vertices are listed, or a refusal with its number and its extra number.
 pub enum Listed {

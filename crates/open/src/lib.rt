@@ -11,11 +11,11 @@ ghost use Rattle.stored_header.specs.Header.{Laid};
 ghost use Rattle.stored.specs.Sections.{indexFrom};
 ghost use Rattle.open.specs.Parts.{Parts};
 ghost use Rattle.open.specs.Opened.{openedOf, lateAnswer, lateMarks};
-use stored_header::Header;
-use stored_header::Layout;
 use numbers::clear_marks;
 use sound_groups::groups_pass;
 use sound_labels::labels_sound;
+use stored_header::Header;
+use stored_header::Layout;
 
 // An index's counts, or a refusal with its number and its extra number.
 pub enum Opened {
