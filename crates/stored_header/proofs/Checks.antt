@@ -1,6 +1,6 @@
 -- The first check that applies decides: its refusal is the outcome, and buffers are altered exactly where it stands behind the checks that alter nothing. A call
 -- makes its checks in order, so each of its returns knows where they stop: the tests that led there say so one by one.
-use mathlib.Core.Bool.{Bool, true, false, _||_}
+use mathlib.Core.Bool.{Bool, true, false}
 use mathlib.Core.Path.{_≡_, refl, sym, _∙_}
 use mathlib.Core.List.{List, [], _∷_, _++_, append-nil}
 use Prim.Native.Nat.{ℕ, zero, suc}
@@ -8,8 +8,9 @@ use native.Mathlib.Omega.{arith}
 use lib.Dec.{ltb, leb·suc-zero, leb·suc-suc}
 use lib.ListN.{length}
 use borrow.Author.Tests.{lt-ltb}
+use Rattle.lineage.specs.Lists.{Every}
 use Rattle.lineage.specs.Calls.{Check, Outcome, refused, answered, refuse, outcome, anyApplies}
-use Rattle.stored_header.specs.Checks.{Stops, Pass, stopped, Comes}
+use Rattle.stored_header.specs.Checks.{Stops, Pass, stopped, Told, Comes}
 
 -- one of the first checks applies exactly where all stop before their end
 pub stops-early : (early late : List Check) (i : ℕ) → Stops (early ++ late) i → anyApplies early ≡ ltb i (length early)
@@ -17,7 +18,7 @@ stops-early [] late i s = sym (leb·suc-zero i)
 stops-early (c ∷ early) late zero s = rw s (sym (lt-ltb 0 (suc (length early)) (omega arith)))
 stops-early (c ∷ early) late (suc i) s = rw (s .0) (stops-early early late i (s .1) ∙ sym (leb·suc-suc (suc i) (length early)))
 
--- of checks one behind the other of which none applies, none of either does
+-- none of some checks and of others behind them applies exactly where none of either does
 pub pass-front : (cs ds : List Check) → Pass (cs ++ ds) → Pass cs
 pass-front [] ds p = tt
 pass-front (c ∷ cs) ds p = (p .0, pass-front cs ds (p .1))
@@ -25,6 +26,10 @@ pass-front (c ∷ cs) ds p = (p .0, pass-front cs ds (p .1))
 pub pass-behind : (cs ds : List Check) → Pass (cs ++ ds) → Pass ds
 pass-behind [] ds p = p
 pass-behind (c ∷ cs) ds p = pass-behind cs ds (p .1)
+
+pub pass-both : (cs ds : List Check) → Pass cs → Pass ds → Pass (cs ++ ds)
+pass-both [] ds p q = q
+pass-both (c ∷ cs) ds p q = (p .0, pass-both cs ds (p .1) q)
 
 module _ {A : Type 0} (a : A) where
   pub stops-outcome : (cs : List Check) (i : ℕ) → Stops cs i → outcome cs a ≡ stopped cs i a
@@ -73,48 +78,11 @@ module _ {A : Type 0} (a : A) where
   rest-comes (c ∷ early) mid late p e =
       let C = rest-comes early mid late (p .1) e in record { says = rw (p .0) (C .says); before = rw (p .0) (C .before); all = rw (p .0) (C .all) }
 
-module _ {A B : Type 0} (ds : List Check) (a : A) (b : B) where
-  pub refused-first : (cs : List Check) (x y : ℕ) → outcome cs a ≡ refused x y → outcome (cs ++ ds) b ≡ refused x y
-  refused-first [] x y h = let z : _≡_ {A = ℕ} 0 1 = cc in absurd (omega arith)
-  refused-first (c ∷ cs) x y h = at (c .applies) h (refused-first cs x y)
+  -- what holds of every refusal and of the answer holds of the outcome
+  pub outcome-told : (R : ℕ → ℕ → Type 0) (P : A → Type 0) (cs : List Check) → Every (λ c. R (c .number) (c .extra)) cs → P a → Told R P (outcome cs a)
+  outcome-told R P [] each own = own
+  outcome-told R P (c ∷ cs) (first, each) own = at (c .applies) (outcome-told R P cs each own)
     where
-      at : (t : Bool)
-          → refuse t (c .number) (c .extra) (outcome cs a) ≡ refused x y
-          → (outcome cs a ≡ refused x y → outcome (cs ++ ds) b ≡ refused x y)
-          → refuse t (c .number) (c .extra) (outcome (cs ++ ds) b) ≡ refused x y
-      at true e ih = cc
-      at false e ih = ih e
-
-  pub passed-first : (cs : List Check) (l : A) → outcome cs a ≡ answered l → outcome (cs ++ ds) b ≡ outcome ds b
-  passed-first [] l h = refl
-  passed-first (c ∷ cs) l h = at (c .applies) h (passed-first cs l)
-    where
-      at : (t : Bool)
-          → refuse t (c .number) (c .extra) (outcome cs a) ≡ answered l
-          → (outcome cs a ≡ answered l → outcome (cs ++ ds) b ≡ outcome ds b)
-          → refuse t (c .number) (c .extra) (outcome (cs ++ ds) b) ≡ outcome ds b
-      at true e ih = let z : _≡_ {A = ℕ} 0 1 = cc in absurd (omega arith)
-      at false e ih = ih e
-
-module _ {A : Type 0} (ds : List Check) (a : A) where
-  pub refused-applies : (cs : List Check) (x y : ℕ) → outcome cs a ≡ refused x y → anyApplies (cs ++ ds) ≡ true
-  refused-applies [] x y h = let z : _≡_ {A = ℕ} 0 1 = cc in absurd (omega arith)
-  refused-applies (c ∷ cs) x y h = at (c .applies) h (refused-applies cs x y)
-    where
-      at : (t : Bool)
-          → refuse t (c .number) (c .extra) (outcome cs a) ≡ refused x y
-          → (outcome cs a ≡ refused x y → anyApplies (cs ++ ds) ≡ true)
-          → (t || anyApplies (cs ++ ds)) ≡ true
-      at true e ih = refl
-      at false e ih = ih e
-
-  pub passed-applies : (cs : List Check) (l : A) → outcome cs a ≡ answered l → anyApplies (cs ++ ds) ≡ anyApplies ds
-  passed-applies [] l h = refl
-  passed-applies (c ∷ cs) l h = at (c .applies) h (passed-applies cs l)
-    where
-      at : (t : Bool)
-          → refuse t (c .number) (c .extra) (outcome cs a) ≡ answered l
-          → (outcome cs a ≡ answered l → anyApplies (cs ++ ds) ≡ anyApplies ds)
-          → (t || anyApplies (cs ++ ds)) ≡ anyApplies ds
-      at true e ih = let z : _≡_ {A = ℕ} 0 1 = cc in absurd (omega arith)
-      at false e ih = ih e
+      at : (t : Bool) → Told R P (outcome cs a) → Told R P (refuse t (c .number) (c .extra) (outcome cs a))
+      at true told = first
+      at false told = told

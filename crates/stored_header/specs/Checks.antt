@@ -24,6 +24,11 @@ module _ {A : Type 0} where
   stopped (c ∷ cs) zero a = refused (c .number) (c .extra)
   stopped (c ∷ cs) (suc i) a = stopped cs i a
 
+  -- a property of a refusal's numbers, and one of an answer
+  abbrev pub Told : (ℕ → ℕ → Type 0) → (A → Type 0) → Outcome A → Type 0
+  Told R P (refused number extra) = R number extra
+  Told R P (answered a) = P a
+
   -- what a call's checks come to, of which the early ones alter nothing: the outcome, whether an early one applies, and whether any does. Every buffer
   -- afterwards is picked by these two
   pub record Comes (early late : List Check) (a : A) (o : Outcome A) (kept stops : Bool) : Type 0 where
