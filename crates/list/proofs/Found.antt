@@ -13,15 +13,17 @@ use Rattle.lineage.specs.Question.{inOwnList, downstream}
 use Rattle.lineage.specs.Calls.{indexIn}
 use Rattle.stored_header.specs.declared.Layout.{Layout}
 use Rattle.stored.specs.Sections.{Section, Six}
-use Rattle.list.specs.Fit.{Names, SoundBytes}
+use Rattle.stored.proofs.Contents.{stretchOf, names-only}
+use Rattle.sound_places.specs.Lent.{SoundBytes}
+use Rattle.reach.specs.Fit.{Names}
+use Rattle.reach.specs.Marks.{reachMarks}
+use Rattle.reach.proofs.Marked.{reach-long, reach-cleared}
+use Rattle.reach.proofs.Fitted.{index-sound, labels-some, names-are, names-count, names-fit}
 use Rattle.list.specs.Listing.{listed, namesAlone}
-use Rattle.list.specs.Marks.{reachMarks}
 use Rattle.list.specs.declared.Listed.the-variants.{Count, Refused}
 use Rattle.list.specs.Listed.{Fills}
-use Rattle.list.proofs.Contents.{stretchOf, names-only}
-use Rattle.list.proofs.Fitted.{index-sound, labels-some, names-are, names-count, names-fit}
 use Rattle.list.proofs.Writing.{listed-few}
-use Rattle.list.proofs.Downstream.{listed-downstream, reach-long, reach-cleared}
+use Rattle.list.proofs.Downstream.{listed-downstream}
 
 -- whether a vertex is in its own list depends on the names alone
 own-by-names : (I : Index) (u : ℕ) → inOwnList (namesAlone (I .names)) u ≡ inOwnList I u
@@ -36,13 +38,13 @@ module _
     P = names-only (O .laid) N
 
     vertex : u < length (indexIn b .names)
-    vertex = omega (arith, names-count O P)
+    vertex = omega (arith, names-count O)
 
     there : length (indexIn b .names) ≤ length before
-    there = omega (arith, names-count O P)
+    there = omega (arith, names-count O)
 
     marks-long : length marks ≡ length before
-    marks-long = ap length reached ∙ reach-long (index-sound O P) (labels-some O P) u vertex before there
+    marks-long = ap length reached ∙ reach-long (index-sound O) (labels-some O) u vertex before there
 
     -- the names are fit for the marks
     pub names-there : Names (l .width) (l .n) names (length marks)
@@ -53,13 +55,13 @@ module _
     marks-again clear e =
         e
         ∙ ap (cleared (l .n)) reached
-        ∙ (rw (names-count O P) at (reach-cleared (index-sound O P) (labels-some O P) u vertex before there))
+        ∙ (rw (names-count O) at (reach-cleared (index-sound O) (labels-some O) u vertex before there))
         ∙ sym clear
 
     -- what is listed is downstream
     module _ {own : Bool} (rule : own ≡ inOwnList (namesAlone (numbers (l .width) names (l .n))) u) where
       found-is : listed (numbers (l .width) names (l .n)) marks u own ≡ downstream (indexIn b) u
-      found-is = rw (rule, names-are O P, own-by-names (indexIn b) u, reached) (listed-downstream (index-sound O P) (labels-some O P) u vertex before there)
+      found-is = rw (rule, names-are O P, own-by-names (indexIn b) u, reached) (listed-downstream (index-sound O) (labels-some O) u vertex before there)
 
       module _ {count : ℕ} (counted : count ≡ length (listed (numbers (l .width) names (l .n)) marks u own)) where
         pub count-few : count ≤ 200000

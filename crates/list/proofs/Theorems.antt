@@ -13,7 +13,7 @@ use borrow.Author.Tests.{leb-false, not-false}
 use Rattle.lineage.specs.Lists.{among}
 use Rattle.lineage.specs.Graph.{Reaches}
 use Rattle.lineage.specs.Index.{indexOf, Made}
-use Rattle.lineage.specs.Stored.{form1, countsOf, countsFit, countsIn, headerAt, formOf, stretch, section, decode}
+use Rattle.lineage.specs.Stored.{form1, countsOf, countsFit, countsIn, headerAt, formOf}
 use Rattle.lineage.specs.Sound.{contentsSound}
 use Rattle.lineage.specs.Question.{downstream}
 use Rattle.lineage.specs.Calls.{Check, check, answered, anyApplies, indexIn, formChecks, listEarly, listLate, listAnswer, listOutput}
@@ -22,11 +22,10 @@ use Rattle.laws.specs.Rising.{Rises}
 use Rattle.laws.proofs.Sound.{made-long, made-paths}
 use Rattle.laws_answers.proofs.Built.{reached-low}
 use Rattle.laws_answers.proofs.Demands.{downstream-rises, downstream-down}
-use Rattle.numbers.proofs.Numbers.{numbers-long}
 use Rattle.stored.specs.Fits.{Fits}
 use Rattle.stored_header.specs.Checks.{Pass}
 use Rattle.stored_header.proofs.Checks.{stops-early, pass-behind, answered-pass, answered-is}
-use Rattle.stored.proofs.Contents.{contents-sound}
+use Rattle.stored.proofs.Contents.{names-many, contents-sound}
 use Rattle.stored.proofs.Encoded.{index-encode}
 use Rattle.open.specs.Yields.{Yields}
 use Rattle.open.proofs.Fits.{form1-wide, yielded-fits}
@@ -75,10 +74,7 @@ module _ (b : List ℕ) (u : ℕ) (marks out : List ℕ) (count : ℕ) (e : list
   listed-rises = rw list-is (downstream-rises (indexIn b) u)
 
   vertex : u < length (indexIn b .names)
-  unfolding decode section
-  vertex =
-      let w : ℕ = formOf (headerAt b 0) .width in
-      omega (arith, leb-false (countsIn b .n) u (behind .0), numbers-long w (stretch w (countsIn b) b 0) (countsIn b .n))
+  vertex = omega (arith, leb-false (countsIn b .n) u (behind .0), names-many b)
 
   index-sound : Sound (indexIn b)
   index-sound = contents-sound (formOf (headerAt b 0) .width) b (not-false (contentsSound (formOf (headerAt b 0) .width) b) (behind .1 .0))

@@ -5,11 +5,10 @@ ghost use lib.ListN.{length};
 ghost use Rattle.lineage.specs.Lists.{cleared};
 ghost use Rattle.lineage.specs.Question.{downstream};
 ghost use Rattle.lineage.specs.Calls.{indexIn, listAnswer, listMarks, listOutput};
-ghost use Rattle.list.specs.Fit.{SoundBytes};
+ghost use Rattle.sound_places.specs.Lent.{SoundBytes};
 ghost use Rattle.list.specs.Listed.{listedOf, Fills};
 
 pub mod listing;
-pub mod reach;
 
 use numbers::clear_marks;
 use open::contents_sound;

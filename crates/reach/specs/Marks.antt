@@ -1,4 +1,4 @@
--- The marks that a downstream list goes by: the sweep over an index, by its first labelling.
+-- The marks of what is reached: groups marked, and the sweep over an index, by its first labelling.
 use mathlib.Core.List.{List, []}
 use Prim.Native.Nat.{ℕ}
 use lib.ListN.{length, getD, set}
@@ -21,12 +21,11 @@ unfoldable pub sweptIn : Index → ℕ → List ℕ → List ℕ
 unfolding swept
 sweptIn I top marks = swept (I .groups) (I .children) (firstLabels (I .labels) .byRank) top marks
 
--- only vertex u's group is marked
-unfoldable pub startMarks : Index → ℕ → List ℕ → List ℕ
-unfolding cleared
-startMarks I u marks = set (cleared (length (I .names)) marks) (getD (I .names) u 0) 1
+-- vertex u's group is marked, beside those that were
+unfoldable pub markIn : Index → ℕ → List ℕ → List ℕ
+markIn I u marks = set marks (getD (I .names) u 0) 1
 
--- the groups that vertex u's group reaches are marked
+-- the groups that vertex u's group reaches are marked, and no others
 unfoldable pub reachMarks : Index → ℕ → List ℕ → List ℕ
-unfolding rankIn sweptIn startMarks
-reachMarks I u marks = sweptIn I (rankIn I u) (startMarks I u marks)
+unfolding rankIn sweptIn markIn cleared
+reachMarks I u marks = sweptIn I (rankIn I u) (markIn I u (cleared (length (I .names)) marks))

@@ -1,11 +1,11 @@
-// The sweep over the sections of stored bytes, by their first labelling, and what it marks from one vertex.
+// What is reached in stored bytes whose contents are sound: a vertex's group is marked, and the sweep, by the first labelling, marks all that marked groups reach.
 ghost use mathlib.Core.Path.{_≡_};
 ghost use Prim.Native.Nat.{_≤_, _<_};
 ghost use lib.ListN.{length};
 ghost use Rattle.lineage.specs.Lists.{cleared};
 ghost use Rattle.lineage.specs.Calls.{indexIn};
-ghost use Rattle.list.specs.Fit.{SoundBytes};
-ghost use Rattle.list.specs.Marks.{rankIn, sweptIn, reachMarks};
+ghost use Rattle.sound_places.specs.Lent.{SoundBytes};
+ghost use Rattle.reach.specs.Marks.{rankIn, markIn, sweptIn, reachMarks};
 use numbers::num;
 use sound_places::place_of;
 use stored::parts;
@@ -27,6 +27,17 @@ fn rank_of(index: &[u8], l: Layout, u: usize) -> usize
     let triples = parts::triples(labels, w, k, d, 0);
     let p = place_of(groups, w, n, k, num(names, w, u));
     num(triples, w, 3 * p + 2)
+}
+
+// Marks the group of vertex u, whatever else is marked.
+pub fn mark_group(index: &[u8], l: Layout, marks: &mut [u8], u: usize)
+    requires { ⌜ SoundBytes (now index) l ⌝ }
+    requires { ⌜ (l .n ≤ length (now marks)) × (u < l .n) ⌝ }
+    ensures { λ _. ⌜ now (marks .exit) ≡ markIn (indexIn (now (index .entry))) u (now (marks .entry)) ⌝ }
+{
+    let names = parts::names(index, l);
+    let name = num(names, l.width, u);
+    marks[name] = 1;
 }
 
 // The sweep from rank `top` down: afterwards a group is marked exactly where it is reached from one marked before.
@@ -54,9 +65,7 @@ pub fn mark_reached(index: &[u8], l: Layout, marks: &mut [u8], u: usize)
     requires { ⌜ now marks ≡ cleared (l .n) (now marks) ⌝ }
     ensures { λ _. ⌜ now (marks .exit) ≡ reachMarks (indexIn (now (index .entry))) u (now (marks .entry)) ⌝ }
 {
-    let names = parts::names(index, l);
-    let name = num(names, l.width, u);
-    marks[name] = 1;
+    mark_group(index, l, marks, u);
     let top = rank_of(index, l, u);
     sweep_down(index, l, marks, top);
 }

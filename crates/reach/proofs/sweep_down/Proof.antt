@@ -1,9 +1,9 @@
--- `list::reach::sweep_down` meets its contract: the sections of sound contents are fit for the sweep, and hold what the index has.
+-- `reach::sweep_down` meets its contract: the sections of sound contents are fit for the sweep, and hold what the index has.
 use borrow.Author.Needs.{needs}
-use Rattle.list.proofs.Contents.{stretchOf, with-rows}
-use Rattle.list.proofs.Fitted.{spots, ranked, swept-is}
-use Rattle.list.proofs.reach.sweep_down.Statement.{statement}
-use Rattle.list.proofs.reach.sweep_down.Tie as tie
+use Rattle.stored.proofs.Contents.{stretchOf, with-rows}
+use Rattle.reach.proofs.Fitted.{spots, ranked, swept-is}
+use Rattle.reach.proofs.sweep_down.Statement.{statement}
+use Rattle.reach.proofs.sweep_down.Tie as tie
 use Rattle.stored.specs.Sections.{Six}
 
 -- what was lent

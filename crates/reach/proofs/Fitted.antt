@@ -11,28 +11,28 @@ use Rattle.lineage.specs.Numbers.{Width, numAt, numbers}
 use Rattle.lineage.specs.Index.{Index}
 use Rattle.lineage.specs.Labels.{Labelling}
 use Rattle.lineage.specs.Question.{placeIn}
+use Rattle.lineage.specs.Stored.{headerAt, formOf}
 use Rattle.lineage.specs.Calls.{indexIn}
 use Rattle.lineage.specs.Sound.{namesPass, rowPasses, levelPasses, groupsPass, sound}
 use Rattle.laws.specs.Sound.{SoundLabelling, SoundGroups, Sound}
 use Rattle.laws.proofs.Tests.{and-left, and-right}
-use Rattle.laws.proofs.Decides.{sound-decides}
-use Rattle.laws.proofs.Grouped.{name-in, group-name, place-low}
-use Rattle.laws.proofs.Inverse.{e-most}
+use Rattle.laws.proofs.Grouped.{name-in, group-name}
 use Rattle.laws.proofs.Lists.{table-at}
 use Rattle.numbers.specs.Regions.{Part}
 use Rattle.numbers.proofs.Numbers.{room, numbers-long, numbers-at}
 use Rattle.stored_header.specs.declared.Layout.{Layout}
+use Rattle.stored_header.proofs.Laid.{width-is, n-is, k-is, d-is}
 use Rattle.stored.specs.Sections.{Six, childrenIn, labellingIn, triplesOf, placesOf, labelsIn, indexFrom, indexAt}
 use Rattle.stored.proofs.Sections.{children-long, e-at, labels-long}
 use Rattle.sound_groups.specs.Fit.{Holds}
-use Rattle.sound_places.specs.Lent.{Lent}
-use Rattle.stored.proofs.Contents.{index-at}
+use Rattle.sound_places.specs.Lent.{SoundBytes, Lent}
+use Rattle.stored.proofs.Contents.{names-many, children-many, labels-many, contents-sound, index-at}
 use Rattle.sound_places.proofs.Lent.{lent}
 use Rattle.reach_sweep.specs.Fit.{Spots, Ranked}
-use Rattle.list.specs.Fit.{Names, SoundBytes}
+use Rattle.reach.specs.Fit.{Names}
 use Rattle.reach_sweep.specs.Sweep.{swept}
-use Rattle.list.specs.Marks.{firstLabels, rankIn, sweptIn, startMarks, reachMarks}
-use Rattle.list.proofs.Downstream.{first-sound}
+use Rattle.reach.specs.Marks.{firstLabels, rankIn, markIn, sweptIn, reachMarks}
+use Rattle.reach.proofs.Marked.{first-sound, rank-most}
 
 -- what the test of an index says of its rows
 rows-tested : (I : Index) → sound I ≡ true → allBelow (length (I .children)) (rowPasses (I .children)) ≡ true
@@ -47,6 +47,31 @@ rows-tested I h =
     (and-right (namesPass (I .names) (I .groups)) (sized && (rows && heights))
     (and-left (groupsPass (I .names) (I .groups) (I .levels) C) _ h)))
 
+-- the index that the bytes hold is sound, and as long as the layout's counts
+module _ {b : List ℕ} {l : Layout} (O : SoundBytes b l) where
+  pub index-sound : Sound (indexIn b)
+  index-sound = contents-sound (formOf (headerAt b 0) .width) b (rw (width-is (O .laid)) at (O .contents))
+
+  pub labels-some : 0 < length (indexIn b .labels)
+  labels-some = omega (arith, labels-many b, d-is (O .laid), O .laid .least)
+
+  pub names-count : length (indexIn b .names) ≡ l .n
+  names-count = names-many b ∙ sym (n-is (O .laid))
+
+  -- vertex u
+  module _ {u : ℕ} (h : u < l .n) where
+    pub rank-low : rankIn (indexIn b) u ≤ l .k
+    rank-low = omega (arith, rank-most index-sound labels-some u (omega (arith, names-count)), children-many b, k-is (O .laid))
+
+    -- the sweep from its group
+    pub reach-is :
+        (before : List ℕ) {top : ℕ} {start after : List ℕ} → before ≡ cleared (l .n) before → start ≡ markIn (indexIn b) u before → top ≡ rankIn (indexIn b) u
+        → after ≡ sweptIn (indexIn b) top start → after ≡ reachMarks (indexIn b) u before
+    unfolding reachMarks
+    reach-is before clear es et e =
+        e ∙ ap₂ (sweptIn (indexIn b)) et (es ∙ ap (markIn (indexIn b) u) (clear ∙ ap (λ (m : ℕ). cleared m before) (sym names-count)))
+
+-- the sections that were read
 module _
     {b : List ℕ} {l : Layout} {names groups levels starts children labels : List ℕ}
     (O : SoundBytes b l) (P : Six b l names groups levels starts children labels)
@@ -76,23 +101,12 @@ module _
     S = lent (O .laid) P (O .contents)
 
     sound-index : Sound I
-    sound-index = sound-decides I .0 (S .index-sound)
-
-    -- the index that the bytes hold is sound, and has a labelling
-    pub index-sound : Sound (indexIn b)
-    index-sound = rw index-is sound-index
-
-    pub labels-some : 0 < length (indexIn b .labels)
-    unfolding indexFrom
-    labels-some = rw index-is (omega (arith, labels-long w labels k d, O .laid .least))
+    sound-index = rw (← index-is) (index-sound O)
 
     -- its names are those of the section
     pub names-are : numbers w names n ≡ indexIn b .names
     unfolding indexFrom
     names-are = rw index-is refl
-
-    pub names-count : length (indexIn b .names) ≡ n
-    names-count = ap length (sym names-are) ∙ numbers-long w names n
 
     sound-groups : SoundGroups (numbers w names n) (numbers w groups k) (numbers w levels k) (childrenIn w starts children k c)
     unfolding indexFrom
@@ -185,28 +199,11 @@ module _
       name-low = λ v h. omega (arith, numbers-at w names n v h, numbers-long w names n, name-in sound-groups v (omega (arith, numbers-long w names n)));
     }
 
-    -- vertex u
-    module _ {u : ℕ} (h : u < n) where
-      vertex : u < length (I .names)
-      unfolding indexFrom
-      vertex = omega (arith, numbers-long w names n)
+    -- the group of vertex u, whose name was read
+    module _ {u name : ℕ} (h : u < n) (named : name ≡ numAt w names u) where
+      pub named-low : name < n
+      named-low = omega (arith, names-fit n (omega arith) .name-low u h)
 
-      pub rank-low : rankIn (indexIn b) u ≤ k
-      unfolding rankIn indexFrom
-      rank-low = rw index-is (omega (arith, children-long w starts children k c, e-most first-labelled (placeIn I u) (place-low sound-groups u vertex)))
-
-      -- its name was read
-      module _ {name : ℕ} (named : name ≡ numAt w names u) where
-        pub named-low : name < n
-        named-low = omega (arith, names-fit n (omega arith) .name-low u h)
-
-        start-is : (marks : List ℕ) → set (cleared n marks) name 1 ≡ startMarks (indexIn b) u marks
-        unfolding startMarks indexFrom
-        start-is marks = rw (index-is, numbers-long w names n, named, ← numbers-at w names n u h)
-
-        -- the sweep from its group
-        pub reach-is :
-            (before : List ℕ) (top : ℕ) {start after : List ℕ} → start ≡ cleared n before → top ≡ rankIn (indexIn b) u
-            → after ≡ sweptIn (indexIn b) top (set start name 1) → after ≡ reachMarks (indexIn b) u before
-        unfolding reachMarks
-        reach-is before top es et e = e ∙ ap₂ (sweptIn (indexIn b)) et (ap (λ (s : List ℕ). set s name 1) es ∙ start-is before)
+      pub mark-is : (marks : List ℕ) → set marks name 1 ≡ markIn (indexIn b) u marks
+      unfolding markIn indexFrom
+      mark-is marks = rw (index-is, named, ← numbers-at w names n u h)

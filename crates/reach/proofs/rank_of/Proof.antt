@@ -1,4 +1,4 @@
--- `list::reach::rank_of` meets its contract: the group's name and place are found, and e stands in the first labelling's triple at that place.
+-- `reach::rank_of` meets its contract: the group's name and place are found, and e stands in the first labelling's triple at that place.
 use Prim.Native.Nat.{_<_}
 use native.Mathlib.Omega.{arith}
 use borrow.Author.Needs.{needs}
@@ -6,10 +6,10 @@ use Rattle.numbers.proofs.Numbers.{room}
 use Rattle.sound_places.proofs.Vertices.{list-rises, list-low, name-listed, vertex-low, vertex-placed}
 use Rattle.stored.specs.Sections.{Six}
 use Rattle.sound_places.proofs.Lent.{lent}
-use Rattle.list.proofs.Contents.{stretchOf, with-names}
-use Rattle.list.proofs.Fitted.{rank-read, rank-is}
-use Rattle.list.proofs.reach.rank_of.Statement.{statement}
-use Rattle.list.proofs.reach.rank_of.Tie as tie
+use Rattle.stored.proofs.Contents.{stretchOf, with-names}
+use Rattle.reach.proofs.Fitted.{rank-read, rank-is}
+use Rattle.reach.proofs.rank_of.Statement.{statement}
+use Rattle.reach.proofs.rank_of.Tie as tie
 
 -- what was lent
 abbrev entry : tie.After-triples → tie.Start
