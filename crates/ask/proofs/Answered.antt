@@ -10,8 +10,8 @@ use Rattle.lineage.specs.Sound.{contentsSound}
 use Rattle.lineage.specs.Question.{answer}
 use Rattle.lineage.specs.Calls.{Check, check, answered, anyApplies, indexIn, formChecks, askEarly, contentsCheck, Said, saidOf, askAnswer}
 use Rattle.laws.specs.Sound.{Sound}
-use Rattle.stored_header.specs.Checks.{Pass}
-use Rattle.stored_header.proofs.Checks.{stops-early, pass-front, pass-behind, answered-pass, answered-is}
+use Rattle.laws.specs.Checks.{Pass}
+use Rattle.laws.proofs.Checks.{stops-early, pass-front, pass-behind, answered-pass, answered-is}
 use Rattle.stored_header.proofs.Laid.{header-laid}
 use Rattle.stored_header.proofs.Admitted.{header-pass}
 use Rattle.stored.proofs.Contents.{contents-sound}

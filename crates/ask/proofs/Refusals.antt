@@ -11,9 +11,9 @@ use Rattle.lineage.specs.Question.{answer}
 use Rattle.lineage.specs.Calls.{Check, check, Outcome, refused, answered, outcome, formChecks, contentsCheck, indexIn, Said, saidOf, askEarly, askAnswer, askMarks}
 use Rattle.numbers.proofs.Cleared.{cleared-past}
 use Rattle.stored_header.specs.declared.Layout.{Layout}
-use Rattle.stored_header.specs.Checks.{Stops, stopped, Comes}
+use Rattle.laws.specs.Checks.{Stops, stopped, Comes}
 use Rattle.stored_header.specs.Header.{layoutIn}
-use Rattle.stored_header.proofs.Checks.{refused-comes, stops-comes}
+use Rattle.laws.proofs.Checks.{refused-comes, stops-comes}
 use Rattle.stored_header.proofs.Laid.{n-is}
 use Rattle.stored_header.proofs.Admitted.{Admits, admitted, admitted-laid}
 use Rattle.ask.specs.declared.question.Reply.{Reply}

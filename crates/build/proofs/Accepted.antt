@@ -15,7 +15,7 @@ use Rattle.laws.proofs.Tests.{clash, is-false}
 use Rattle.laws.proofs.Lists.{in-any, upto-low, table-long, table-at}
 use Rattle.laws.proofs.Every.{every-at}
 use Rattle.laws.proofs.Edges.{sources-below, targets-below}
-use Rattle.stored_header.specs.Checks.{Pass}
+use Rattle.laws.specs.Checks.{Pass}
 use Rattle.build_orders.proofs.Edges.{good-edge}
 use Rattle.build.specs.Admitted.{Admitted}
 

@@ -12,8 +12,8 @@ use Rattle.lineage.specs.Stored.{Form, encode}
 use Rattle.lineage.specs.Calls.{Check, Outcome, refused, answered, outcome, Input, workNeeded, built, lengthOf, buildEarly, buildLate, buildAnswer, buildOutput, buildWork}
 use Rattle.numbers.specs.Regions.{Kept}
 use Rattle.stored_header.specs.declared.Row.{Row}
-use Rattle.stored_header.specs.Checks.{Pass, Comes}
-use Rattle.stored_header.proofs.Checks.{answered-pass, answered-is, refused-comes, rest-comes}
+use Rattle.laws.specs.Checks.{Pass, Comes}
+use Rattle.laws.proofs.Checks.{answered-pass, answered-is, refused-comes, rest-comes}
 use Rattle.build_indexed.specs.Written.{writtenAs}
 use Rattle.build.specs.Input.{boundsOf, formBy, RowFit}
 use Rattle.build.specs.Admitted.{Admitted}

@@ -12,7 +12,7 @@ use Rattle.lineage.specs.Graph.{Graph}
 use Rattle.lineage.specs.Stored.{Form}
 use Rattle.lineage.specs.Calls.{Input, workNeeded, buildEarly}
 use Rattle.laws.proofs.Tests.{or-false-left, or-false-right}
-use Rattle.stored_header.specs.Checks.{Pass}
+use Rattle.laws.specs.Checks.{Pass}
 use Rattle.build_orders.proofs.First.{first-other, any-first}
 use Rattle.build_orders.proofs.Edges.{ends-of}
 use Rattle.build.specs.Admitted.{Admitted}

@@ -22,8 +22,8 @@ use Rattle.laws.proofs.Lists.{table-long}
 use Rattle.laws_answers.proofs.Demands.{answer-right}
 use Rattle.build_orders.proofs.Permutations.{orders-of}
 use Rattle.stored.specs.Fits.{Fits}
-use Rattle.stored_header.specs.Checks.{Pass}
-use Rattle.stored_header.proofs.Checks.{stops-early, pass-front, pass-behind, pass-both, stops-outcome, answered-pass, answered-is}
+use Rattle.laws.specs.Checks.{Pass}
+use Rattle.laws.proofs.Checks.{stops-early, pass-front, pass-behind, pass-both, stops-outcome, answered-pass, answered-is}
 use Rattle.stored.proofs.Encoded.{counts-read, encode-long, index-encode}
 use Rattle.open.proofs.Fits.{form1-wide, bounds-kept, yielded-fits}
 use Rattle.open.proofs.Theorem.{built-opens}

@@ -14,8 +14,8 @@ use Rattle.lineage.specs.Index.{Made}
 use Rattle.lineage.specs.Stored.{Counts, countsIn}
 use Rattle.lineage.specs.Question.{answer}
 use Rattle.lineage.specs.Calls.{Outcome, refused, answered, formChecks, contentsCheck, openAnswer, openMarks, indexIn, askEarly, Said, saidOf, askAnswer, askMarks}
-use Rattle.stored_header.specs.Checks.{Told}
-use Rattle.stored_header.proofs.Checks.{outcome-told}
+use Rattle.laws.specs.Checks.{Told}
+use Rattle.laws.proofs.Checks.{outcome-told}
 use Rattle.ask.proofs.Theorems.{asked-right}
 use Rattle.drobisten.specs.declared.DrobistenOpened.{DrobistenOpened}
 use Rattle.drobisten.specs.declared.DrobistenAsked.{DrobistenAsked}

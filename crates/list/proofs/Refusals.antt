@@ -10,9 +10,9 @@ use Rattle.lineage.specs.Stored.{countsIn}
 use Rattle.lineage.specs.Question.{downstream}
 use Rattle.lineage.specs.Calls.{Check, check, Outcome, refused, outcome, formChecks, contentsCheck, indexIn, listEarly, listLate, listAnswer, listMarks, listOutput}
 use Rattle.stored_header.specs.declared.Layout.{Layout}
-use Rattle.stored_header.specs.Checks.{Stops, Pass, stopped, Comes}
+use Rattle.laws.specs.Checks.{Stops, Pass, stopped, Comes}
 use Rattle.stored_header.specs.Header.{layoutIn}
-use Rattle.stored_header.proofs.Checks.{pass-both, refused-comes, stops-comes, rest-comes}
+use Rattle.laws.proofs.Checks.{pass-both, refused-comes, stops-comes, rest-comes}
 use Rattle.stored_header.proofs.Admitted.{Admits, admitted}
 use Rattle.list.specs.declared.Listed.{Listed}
 use Rattle.list.specs.Listed.{listedOf, roomChecks, Fills}

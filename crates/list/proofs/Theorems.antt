@@ -23,8 +23,8 @@ use Rattle.laws.proofs.Sound.{made-long, made-paths}
 use Rattle.laws_answers.proofs.Built.{reached-low}
 use Rattle.laws_answers.proofs.Demands.{downstream-rises, downstream-down}
 use Rattle.stored.specs.Fits.{Fits}
-use Rattle.stored_header.specs.Checks.{Pass}
-use Rattle.stored_header.proofs.Checks.{stops-early, pass-behind, answered-pass, answered-is}
+use Rattle.laws.specs.Checks.{Pass}
+use Rattle.laws.proofs.Checks.{stops-early, pass-behind, answered-pass, answered-is}
 use Rattle.stored.proofs.Contents.{names-many, contents-sound}
 use Rattle.stored.proofs.Encoded.{index-encode}
 use Rattle.open.specs.Yields.{Yields}

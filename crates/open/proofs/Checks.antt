@@ -12,9 +12,9 @@ use Rattle.lineage.specs.Sound.{contentsSound}
 use Rattle.lineage.specs.Calls.{Check, Outcome, refused, answered, outcome, formChecks, contentsCheck, openAnswer, openMarks}
 use Rattle.laws.proofs.Tests.{neither}
 use Rattle.stored_header.specs.declared.Layout.{Layout}
-use Rattle.stored_header.specs.Checks.{Pass, Comes}
+use Rattle.laws.specs.Checks.{Pass, Comes}
 use Rattle.stored_header.specs.Header.{layoutIn, headerChecks, Laid}
-use Rattle.stored_header.proofs.Checks.{answered-pass, pass-behind, refused-comes, stops-comes}
+use Rattle.laws.proofs.Checks.{answered-pass, pass-behind, refused-comes, stops-comes}
 use Rattle.stored_header.proofs.Checked.{all-right}
 use Rattle.stored_header.proofs.Laid.{width-is, n-is, k-is, c-is, d-is, cleared-in}
 use Rattle.stored_header.proofs.Admitted.{marks-pass, Admits, admitted, admitted-laid}

@@ -24,7 +24,7 @@ use Rattle.stored_header.specs.declared.Layout.{Layout}
 use Rattle.stored_header.proofs.Laid.{width-is, n-is, k-is, d-is}
 use Rattle.stored.specs.Sections.{Six, childrenIn, labellingIn, triplesOf, placesOf, labelsIn, indexFrom, indexAt}
 use Rattle.stored.proofs.Sections.{children-long, e-at, labels-long}
-use Rattle.sound_groups.specs.Fit.{Holds}
+use Rattle.stored.specs.Rows.{Holds}
 use Rattle.sound_places.specs.Lent.{SoundBytes, Lent}
 use Rattle.stored.proofs.Contents.{names-many, children-many, labels-many, contents-sound, index-at}
 use Rattle.sound_places.proofs.Lent.{lent}

@@ -2,7 +2,7 @@
 use mathlib.Core.List.{List}
 use Prim.Native.Nat.{ℕ, _<_}
 use Rattle.lineage.specs.Numbers.{numAt}
-use Rattle.sound_groups.specs.Fit.{Holds}
+use Rattle.stored.specs.Rows.{Holds}
 
 -- the names of n vertices' groups, each with its mark among so many
 pub record Names (w n : ℕ) (names : List ℕ) (marks : ℕ) : Type 0 where

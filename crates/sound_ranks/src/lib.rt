@@ -8,7 +8,7 @@ ghost use Rattle.stored.specs.Sections.{childrenIn, labellingIn};
 ghost use Rattle.sound_ranks.specs.Tests.{triplesAlone, leastBelow};
 ghost use Rattle.sound_ranks.specs.Fit.{Triples, Labels, Labelled};
 use numbers::num;
-use sound_groups::row_span;
+use stored::rows::row_span;
 
 // Where s, m and e stand in a triple.
 pub const S: usize = 0;

@@ -19,7 +19,7 @@ use Rattle.laws.proofs.Starts.{starts-long, rows-read}
 use Rattle.numbers.specs.Put.{put}
 use Rattle.numbers.proofs.Put.{put-start}
 use Rattle.numbers.proofs.Written.{written-long, num-front, written-at, numbers-written}
-use Rattle.stored_header.specs.Checks.{Pass}
+use Rattle.laws.specs.Checks.{Pass}
 use Rattle.stored_header.specs.Header.{layoutIn, offsetsIn, headerChecks, Laid}
 use Rattle.stored.specs.Fits.{Fits}
 use Rattle.stored_header.proofs.Forms.{Within, form-within}

@@ -2,6 +2,8 @@
 pub mod Stretches
 pub mod Held
 pub mod Sections
+pub mod Read
+pub mod Row
 pub mod LabelNumbers
 pub mod Offsets
 pub mod Contents

@@ -7,9 +7,9 @@ use borrow.Author.Tests.{ltb-false, le-ltb}
 use Rattle.lineage.specs.Stored.{countsIn}
 use Rattle.lineage.specs.Calls.{answered, outcome, formChecks}
 use Rattle.stored_header.specs.declared.Layout.{Layout}
-use Rattle.stored_header.specs.Checks.{Pass}
+use Rattle.laws.specs.Checks.{Pass}
 use Rattle.stored_header.specs.Header.{layoutIn, headerChecks, Laid}
-use Rattle.stored_header.proofs.Checks.{answered-pass, answered-is}
+use Rattle.laws.proofs.Checks.{answered-pass, answered-is}
 use Rattle.stored_header.proofs.Laid.{header-laid, n-is}
 
 -- the checks of the header and 13

@@ -13,9 +13,9 @@ use Rattle.lineage.specs.Calls.{Check, refused, answered, outcome, formChecks}
 use Rattle.laws.proofs.Tests.{or-left, or-right}
 use Rattle.stored_header.specs.declared.Row.{Row}
 use Rattle.stored_header.specs.declared.Layout.{Layout}
-use Rattle.stored_header.specs.Checks.{Pass}
+use Rattle.laws.specs.Checks.{Pass}
 use Rattle.stored_header.specs.Header.{rowOf, counts, layoutBy, layoutIn, offsetsAgree, headerChecks}
-use Rattle.stored_header.proofs.Checks.{stops-outcome}
+use Rattle.laws.proofs.Checks.{stops-outcome}
 
 -- the tests of the counts at a form's row
 pub fit-by : (row : Row) (form n k c d : ℕ)

@@ -13,7 +13,7 @@ use Rattle.lineage.specs.Stored.{Form, Counts, headerAt, countsIn, formOf, isFo
 use Rattle.laws.proofs.Tests.{neither, both}
 use Rattle.laws.proofs.Lists.{same-list}
 use Rattle.stored_header.specs.declared.Layout.{Layout}
-use Rattle.stored_header.specs.Checks.{Pass}
+use Rattle.laws.specs.Checks.{Pass}
 use Rattle.stored_header.specs.Header.{layoutIn, offsetsIn, offsetsOf, offsetsAgree, headerChecks, Laid}
 use Rattle.stored_header.proofs.Forms.{Within, form-within}
 

@@ -20,7 +20,7 @@ use Rattle.laws.proofs.Names.{names-long}
 use Rattle.laws.proofs.Sound.{made-sound}
 use Rattle.laws.proofs.Lists.{table-long}
 use Rattle.build_orders.proofs.Permutations.{orders-of}
-use Rattle.stored_header.proofs.Checks.{pass-front, answered-pass, answered-is, rest-comes}
+use Rattle.laws.proofs.Checks.{pass-front, answered-pass, answered-is, rest-comes}
 use Rattle.stored.proofs.Offsets.{total-at-2}
 use Rattle.open.proofs.Small.{groups-few}
 use Rattle.open.proofs.Entries.{entries-few}

@@ -1,16 +1,13 @@
 -- `ask::ask` meets its contract: each return is where its checks stop, or the answer behind them. The check of the contents leaves the marks 0 below n, and the
 -- question is lent those.
 use mathlib.Core.Path.{_≡_, sym, ap, _∙_}
-use mathlib.Core.List.{List}
-use Prim.Native.Nat.{ℕ}
 use native.Mathlib.Omega.{arith}
 use borrow.Author.Needs.{needs}
 use borrow.Author.Tests.{not-false}
-use lib.ListN.{length, take, drop, replicate, length-replicate}
-use lib.Seq.{take-at}
-use Rattle.lineage.specs.Lists.{cleared}
+use lib.ListN.{length, length-replicate}
 use Rattle.lineage.specs.Index.{Index}
 use Rattle.lineage.specs.Question.{answer}
+use Rattle.numbers.proofs.Cleared.{cleared-front}
 use Rattle.stored_header.specs.Header.{headerOutcome}
 use Rattle.stored_header.proofs.Laid.{vertex-out, vertex-in, cleared-in}
 use Rattle.stored_header.proofs.Admitted.{Admits, admitted-laid, admitted-room}
@@ -40,11 +37,6 @@ checked e = e .before .before .before
 
 abbrev passed : tie.Else3 → tie.After-l
 passed e = through (checked e .before .before)
-
--- marks that are cleared begin with n zeros
-front-cleared : (n : ℕ) (marks : List ℕ) {m : List ℕ} → m ≡ cleared n marks → take n m ≡ replicate n 0
-unfolding cleared
-front-cleared n marks e = rw e (take-at (replicate n 0) (drop n marks) n (length-replicate n 0))
 
 -- the six parts are the sections of the bytes
 abbrev sound : tie.After-labels → tie.Else3
@@ -124,7 +116,7 @@ slice-relend-prefix-question c = let e = sound c in omega (arith, admitted-room 
 
 slice-aggregate-question : tie.Need-slice-aggregate-question
 slice-aggregate-question c =
-    sym (ap length (front-cleared _ _ (checked (sound (c .before)) .contents-sound .ensures .1)) ∙ length-replicate _ 0)
+    sym (ap length (cleared-front _ _ (checked (sound (c .before)) .contents-sound .ensures .1)) ∙ length-replicate _ 0)
 
 question-requires : tie.Need-question-requires
 question-requires c κs =
@@ -133,7 +125,7 @@ question-requires c κs =
     let v = s .before .before in
     let A = admits (through v) in (
       lent (admitted-laid A) (six (c .before)) (sym (s .contents-sound .ensures .0) ∙ not-false _ (e .if3 .left)),
-      (v .before .if1 .left, (v .if2 .left, front-cleared _ _ (s .contents-sound .ensures .1))),
+      (v .before .if1 .left, (v .if2 .left, cleared-front _ _ (s .contents-sound .ensures .1))),
     )
 
 same-length-2 : tie.Need-same-length-2

@@ -11,8 +11,8 @@ use borrow.Author.Needs.{needs}
 use borrow.Author.Tests.{lt-ltb, le-ltb, eq-eqb, ne-eqb}
 use Rattle.lineage.specs.Calls.{Check, refused, outcome, Input, badEdge, workNeeded, buildEarly}
 use Rattle.laws.proofs.Tests.{or-left, or-right}
-use Rattle.stored_header.specs.Checks.{Stops, stopped}
-use Rattle.stored_header.proofs.Checks.{stops-outcome}
+use Rattle.laws.specs.Checks.{Stops, stopped}
+use Rattle.laws.proofs.Checks.{stops-outcome}
 use Rattle.build.specs.Input.{inputOf, boundsOf}
 use Rattle.build.proofs.Checks.{any-found, none-found, first-found}
 use Rattle.build.proofs.early.Statement.{statement}

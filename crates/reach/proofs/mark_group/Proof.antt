@@ -3,7 +3,7 @@ use native.Mathlib.Omega.{arith}
 use borrow.Author.Needs.{needs}
 use Rattle.stored.specs.Sections.{Six}
 use Rattle.stored.proofs.Contents.{stretchOf, names-only}
-use Rattle.sound_groups.proofs.Read.{can-read}
+use Rattle.stored.proofs.Read.{can-read}
 use Rattle.reach.proofs.Fitted.{names-fit, named-low, mark-is}
 use Rattle.reach.proofs.mark_group.Statement.{statement}
 use Rattle.reach.proofs.mark_group.Tie as tie

@@ -5,7 +5,7 @@ use Prim.Native.Nat.{ℕ, _+_, _*_, _≤_, _<_}
 use lib.ListN.{length, getD}
 use Rattle.lineage.specs.Numbers.{Width, numAt, numbers}
 use Rattle.numbers.proofs.Numbers.{room, numbers-at}
-use Rattle.sound_groups.specs.Fit.{Holds}
+use Rattle.stored.specs.Rows.{Holds}
 
 module _ {w : ℕ} {s : List ℕ} {count : ℕ} (H : Holds w s count) where
   -- number i can be read

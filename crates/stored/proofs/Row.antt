@@ -1,4 +1,4 @@
--- The children of one group as its row of the children's list.
+-- Where the children of one group stand, and that they are its row of the children's list.
 use mathlib.Core.Bool.{Bool, true, _&&_}
 use mathlib.Core.Path.{_≡_, sym, ap, _∙_}
 use mathlib.Core.List.{List, []}
@@ -12,12 +12,29 @@ use Rattle.lineage.specs.Numbers.{Width, numAt}
 use Rattle.lineage.specs.Sound.{rowPasses}
 use Rattle.laws.proofs.Tests.{and-left, and-right}
 use Rattle.laws.proofs.Lists.{all-below}
 use Rattle.stored.specs.Sections.{childrenIn}
-use Rattle.stored.proofs.Sections.{children-long, row-long, row-at}
-use Rattle.sound_groups.specs.Fit.{Row, Children, Places}
-use Rattle.sound_groups.proofs.Read.{can-read}
-use Rattle.sound_groups.proofs.Starts.{row-rises, row-within}
+use Rattle.stored.specs.Rows.{Rows, Row, Children, Places}
+use Rattle.stored.proofs.Sections.{starts-rise, starts-within, children-long, row-long, row-at}
+use Rattle.stored.proofs.Read.{can-read}
 
+-- child starts that have passed: none falls, and none is above c
+module _ {w k c : ℕ} {starts : List ℕ} (R : Rows w starts k c) where
+  pub row-rises : (p : ℕ) → p < k → numAt w starts p ≤ numAt w starts (p + 1)
+  row-rises = starts-rise w starts k c (R .passed)
+
+  pub row-within : (p : ℕ) → p ≤ k → numAt w starts p ≤ c
+  row-within = starts-within w starts k c (R .passed)
+
+  -- the row between two starts that were read
+  pub row-between : {p a b : ℕ} → p < k → a ≡ numAt w starts p → b ≡ numAt w starts (p + 1) → Row w starts k c p a (b - a)
+  row-between {p} {a} {b} h ea eb = record {
+    low = h;
+    begins = ea;
+    ends = omega (arith, row-rises p h);
+    within = omega (arith, row-rises p h, row-within (p + 1) (omega arith));
+  }
+
+-- one row
 module _ {w k c p from len : ℕ} {starts children : List ℕ} (K : Children w starts children k c) (R : Row w starts k c p from len) where
   -- child i can be read
   pub can-read-child : {i : ℕ} → i < len → Width w × (w * (from + i) + w ≤ length children)

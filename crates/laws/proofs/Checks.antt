@@ -10,7 +10,7 @@ use lib.ListN.{length}
 use borrow.Author.Tests.{lt-ltb}
 use Rattle.lineage.specs.Lists.{Every}
 use Rattle.lineage.specs.Calls.{Check, Outcome, refused, answered, refuse, outcome, anyApplies}
-use Rattle.stored_header.specs.Checks.{Stops, Pass, stopped, Told, Comes}
+use Rattle.laws.specs.Checks.{Stops, Pass, stopped, Told, Comes}
 
 -- one of the first checks applies exactly where all stop before their end
 pub stops-early : (early late : List Check) (i : ℕ) → Stops (early ++ late) i → anyApplies early ≡ ltb i (length early)

@@ -1,9 +1,9 @@
--- `sound_groups::row_span` meets its contract: the row lies between the group's start and the next.
+-- `stored::rows::row_span` meets its contract: the row lies between the group's start and the next.
 use native.Mathlib.Omega.{arith}
-use Rattle.sound_groups.proofs.Read.{can-read}
-use Rattle.sound_groups.proofs.Starts.{row-rises, row-between}
-use Rattle.sound_groups.proofs.row_span.Statement.{statement}
-use Rattle.sound_groups.proofs.row_span.Tie as tie
+use Rattle.stored.proofs.Read.{can-read}
+use Rattle.stored.proofs.Row.{row-rises, row-between}
+use Rattle.stored.proofs.rows.row_span.Statement.{statement}
+use Rattle.stored.proofs.rows.row_span.Tie as tie
 
 num-requires : tie.Need-num-requires
 num-requires c κs = can-read (c .before .pre .0 .starts-held .held) (omega arith)
