@@ -34,7 +34,7 @@ module _ {b : List ℕ} (R : HeaderRight b) (Y : Yields (formIn b) b) where
   S = made-sound (Y .graph) (Y .ends) (Y .orders) (Y .permuted)
 
   L : Laid b (layoutIn b)
-  L = header-laid b (layoutIn b) (right-passes b R)
+  L = header-laid b (right-passes b R)
 
   short : length (encode (formIn b) I) < 2 ^ 31
   short = subst (λ (z : List ℕ). length z < 2 ^ 31) (sym (Y .bytes)) (laid-short L)

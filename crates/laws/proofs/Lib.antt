@@ -43,3 +43,5 @@ pub mod Depends
 -- Rows laid out with their starts.
 pub mod Laid
 pub mod Starts
+-- The checks of a call.
+pub mod Checks

@@ -2,7 +2,7 @@
 use mathlib.Core.List.{List}
 use Prim.Native.Nat.{ℕ, _<_}
 use Rattle.lineage.specs.Numbers.{numAt}
-use Rattle.sound_groups.specs.Fit.{Holds, Places}
+use Rattle.stored.specs.Rows.{Holds, Places}
 
 -- children that are places, and the group list, whose names each have their mark among so many
 pub record Spots (w k c : ℕ) (groups starts children : List ℕ) (marks : ℕ) : Type 0 where

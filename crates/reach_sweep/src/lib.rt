@@ -9,7 +9,7 @@ ghost use Rattle.stored.specs.Sections.{childrenIn};
 ghost use Rattle.reach_sweep.specs.Sweep.{rowMarked, swept};
 ghost use Rattle.reach_sweep.specs.Fit.{Spots, Ranked};
 use numbers::num;
-use sound_groups::row_span;
+use stored::rows::row_span;
 
 // Marks the children of the group at place p.
 fn mark_children(

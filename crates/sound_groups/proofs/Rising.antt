@@ -15,8 +15,8 @@ use Rattle.laws.proofs.Lists.{all-broken}
 use Rattle.laws.proofs.Passed.{Passed, passed-none, passed-next, passed-all}
 use Rattle.stored.specs.Sections.{childrenIn}
 use Rattle.stored.proofs.Sections.{children-long}
-use Rattle.sound_groups.specs.Fit.{Row, Children}
-use Rattle.sound_groups.proofs.Row.{row-has}
+use Rattle.stored.specs.Rows.{Row, Children}
+use Rattle.stored.proofs.Row.{row-has}
 
 -- child i is a place
 abbrev lowAt : ℕ → List ℕ → ℕ → Bool

@@ -8,10 +8,12 @@ ghost use Rattle.lineage.specs.Graph.{groupList};
 ghost use Rattle.lineage.specs.Numbers.{numbers};
 ghost use Rattle.lineage.specs.Sound.{namesPass, startsPass, rowPasses, levelPasses, groupsPass};
 ghost use Rattle.stored.specs.Sections.{childrenIn};
-ghost use Rattle.sound_groups.specs.Fit.{Holds, Starts, Rows, Row, Children, Places, Groups};
+ghost use Rattle.stored.specs.Rows.{Holds, Starts, Children, Places};
+ghost use Rattle.sound_groups.specs.Fit.{Groups};
 ghost use Rattle.sound_groups.specs.Tests.{ownName, levelAbove};
 use numbers::greater;
 use numbers::num;
+use stored::rows::row_span;
 
 // Whether the name of v is not above v and is its own name.
 fn own_name(names: &[u8], w: usize, n: usize, v: usize) -> bool
@@ -92,26 +94,6 @@ fn starts_pass(starts: &[u8], w: usize, k: usize, c: usize) -> bool
         p += 1;
     }
     num(starts, w, k) == c
-}
-
-// Where the children of a group stand: from which position on, and how many they are.
-pub struct Span {
-    pub from: usize,
-    pub len: usize,
-}
-
-// Where the children of group p stand.
-pub fn row_span(starts: &[u8], w: usize, k: usize, c: usize, p: usize) -> Span
-    requires { ⌜ Rows w (now starts) k c ⌝ }
-    requires { ⌜ p < k ⌝ }
-    ensures { λ r. ⌜ Row w (now (starts .entry)) k c p (r .from) (r .len) ⌝ }
-{
-    let from = num(starts, w, p);
-    let to = num(starts, w, p + 1);
-    Span {
-        from,
-        len: to - from,
-    }
 }
 
 // Whether the children of group p are places, strictly rising.

@@ -2,7 +2,7 @@
 use mathlib.Core.List.{List}
 use Prim.Native.Nat.{ℕ, _<_}
 use Rattle.lineage.specs.Numbers.{numAt}
-use Rattle.sound_groups.specs.Fit.{Holds}
+use Rattle.stored.specs.Rows.{Holds}
 
 -- child entries within the marks
 pub record Within (w : ℕ) (children : List ℕ) (c room : ℕ) : Type 0 where

@@ -8,7 +8,7 @@ ghost use Rattle.lineage.specs.Numbers.{numbers};
 ghost use Rattle.lineage.specs.Sound.{labelsPass};
 ghost use Rattle.numbers.specs.Marks.{markAll};
 ghost use Rattle.stored.specs.Sections.{childrenIn, labellingIn, Labellings, labelsIn};
-ghost use Rattle.sound_groups.specs.Fit.{Places};
+ghost use Rattle.stored.specs.Rows.{Places};
 ghost use Rattle.sound_ranks.specs.Fit.{Labels};
 ghost use Rattle.sound_blocks.specs.Marks.{Tells};
 ghost use Rattle.sound_labels.specs.Tests.{labellingPasses};

@@ -1,15 +1,21 @@
--- What a question and a list are lent: the six sections of stored bytes whose contents are sound.
+-- Stored bytes whose contents are sound, and what a question and a list are lent of them: their six sections.
 use mathlib.Core.Bool.{true}
 use mathlib.Core.Path.{_≡_}
 use mathlib.Core.List.{List}
 use Prim.Native.Nat.{ℕ, _+_, _*_, _≤_}
 use lib.ListN.{length}
 use Rattle.lineage.specs.Numbers.{Width, numbers}
-use Rattle.lineage.specs.Sound.{startsPass, sound}
+use Rattle.lineage.specs.Sound.{startsPass, sound, contentsSound}
 use Rattle.lineage.specs.Stored.{mostLabellings}
 use Rattle.numbers.specs.Bounds.{vertexBound}
 use Rattle.stored_header.specs.declared.Layout.{Layout}
+use Rattle.stored_header.specs.Header.{Laid}
 use Rattle.stored.specs.Sections.{indexAt}
+
+-- bytes of this layout, whose contents are sound
+pub record SoundBytes (b : List ℕ) (l : Layout) : Type 0 where
+  pub laid : Laid b l
+  pub contents : contentsSound (l .width) b ≡ true
 
 -- each section is as long as the layout says, the counts are within the bounds of every form, and the contents are sound
 pub record Lent (l : Layout) (names groups levels starts children labels : List ℕ) : Type 0 where

@@ -9,8 +9,8 @@ use Rattle.lineage.specs.Lists.{allBelow}
 use Rattle.lineage.specs.Numbers.{numAt}
 use Rattle.lineage.specs.Sound.{fallPasses}
 use Rattle.stored.specs.Sections.{childrenIn}
-use Rattle.sound_groups.specs.Fit.{Row}
-use Rattle.sound_groups.proofs.Row.{row-has, child-was, child-low}
+use Rattle.stored.specs.Rows.{Row}
+use Rattle.stored.proofs.Row.{row-has, child-was, child-low}
 use Rattle.sound_ranks.specs.Fit.{LabelledRows}
 use Rattle.sound_ranks.specs.Tests.{triplesAlone, fallsTo}
 use Rattle.sound_ranks.proofs.Read.{e-was}

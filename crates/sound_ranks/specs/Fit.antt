@@ -1,7 +1,7 @@
 -- What is asked of the stretches of one labelling before they are tested.
 use mathlib.Core.List.{List}
 use Prim.Native.Nat.{ℕ, _*_}
-use Rattle.sound_groups.specs.Fit.{Holds, Places}
+use Rattle.stored.specs.Rows.{Holds, Places}
 
 -- a stretch holds the triples s, m, e of k groups
 pub record Triples (w : ℕ) (triples : List ℕ) (k : ℕ) : Type 0 where

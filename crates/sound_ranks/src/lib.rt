@@ -9,10 +9,10 @@ ghost use Rattle.sound_ranks.specs.Tests.{triplesAlone, leastBelow};
 ghost use Rattle.sound_ranks.specs.Fit.{Triples, Labels, LabelledRows};
 use numbers::lesser;
 use numbers::num;
-use sound_groups::row_span;
 use stored::parts::E;
 use stored::parts::M;
 use stored::parts::S;
+use stored::rows::row_span;
 
 // Number j of the triple of group p.
 pub fn label(triples: &[u8], w: usize, k: usize, p: usize, j: usize) -> usize

@@ -1,5 +1,5 @@
--- The laws of the header, its checks and its table of forms.
-pub mod Checks
+-- The laws of the header, of the checks 10 to 13 and of the table of forms.
 pub mod Forms
 pub mod Checked
 pub mod Laid
+pub mod Admitted

@@ -5,8 +5,8 @@ use native.Mathlib.Omega.{arith}
 use lib.ListN.{getD}
 use Rattle.lineage.specs.Numbers.{numbers}
 use Rattle.stored.specs.Sections.{childrenIn}
-use Rattle.sound_groups.proofs.Read.{can-read, was-read}
-use Rattle.sound_groups.proofs.Row.{can-read-child, row-has, child-was, child-low}
+use Rattle.stored.proofs.Read.{can-read, was-read}
+use Rattle.stored.proofs.Row.{can-read-child, row-has, child-was, child-low}
 use Rattle.numbers.proofs.Marks.{marking-none}
 use Rattle.reach_sweep.proofs.Marking.{RowMarking, row-more, row-all}
 use Rattle.reach_sweep.proofs.mark_children.Statement.{statement}

@@ -3,7 +3,7 @@ use Prim.Native.Nat.{_+_, _-_, _≤_, _<_}
 use native.Mathlib.Omega.{arith}
 use Rattle.lineage.specs.Numbers.{numbers}
 use Rattle.stored.specs.Sections.{childrenIn}
-use Rattle.sound_groups.proofs.Read.{can-read, was-read}
+use Rattle.stored.proofs.Read.{can-read, was-read}
 use Rattle.reach_sweep.proofs.Sweeping.{Sweeping, sweeping-none, sweeping-marked, sweeping-passed, sweeping-all}
 use Rattle.reach_sweep.proofs.sweep.Statement.{statement}
 use Rattle.reach_sweep.proofs.sweep.Tie as tie

@@ -5,7 +5,7 @@ use native.Mathlib.Omega.{arith}
 use Rattle.lineage.specs.Sound.{childOf}
 use Rattle.laws.proofs.Tests.{told-true, told-false}
 use Rattle.stored.specs.Sections.{childrenIn, labellingIn}
-use Rattle.sound_groups.proofs.Read.{can-read}
+use Rattle.stored.proofs.Read.{can-read}
 use Rattle.sound_ranks.proofs.Read.{m-was, place-was}
 use Rattle.sound_blocks.proofs.Walk.{Walks, walks-none, walks-end, walks-stop, walks-less, walks-left}
 use Rattle.sound_blocks.proofs.Ranked.{place-low, m-some, e-some, e-most, goes-left}

@@ -7,8 +7,8 @@ use native.Mathlib.Numerals.{add-one}
 use lib.ListN.{getD}
 use Rattle.lineage.specs.Numbers.{numbers}
 use Rattle.stored.specs.Sections.{childrenIn}
-use Rattle.sound_groups.proofs.Read.{can-read, was-read}
-use Rattle.sound_groups.proofs.Row.{can-read-child, row-has, child-was, child-low}
+use Rattle.stored.proofs.Read.{can-read, was-read}
+use Rattle.stored.proofs.Row.{can-read-child, row-has, child-was, child-low}
 use Rattle.sound_groups.proofs.Greatest.{Greatest, greatest-none, greatest-more, greatest-all}
 use Rattle.sound_groups.proofs.level_above.Statement.{statement}
 use Rattle.sound_groups.proofs.level_above.Tie as tie

@@ -5,7 +5,7 @@ use native.Mathlib.Omega.{arith}
 use Rattle.lineage.specs.Numbers.{numbers}
 use Rattle.laws.proofs.Lists.{all-broken}
 use Rattle.laws.proofs.Passed.{Passed, passed-none, passed-next, passed-all}
-use Rattle.sound_groups.proofs.Read.{can-read}
+use Rattle.stored.proofs.Read.{can-read}
 use Rattle.sound_groups.proofs.Starts.{notFalling, start-keeps, start-falls, starts-wrong, starts-fall, starts-end}
 use Rattle.sound_groups.proofs.starts_pass.Statement.{statement}
 use Rattle.sound_groups.proofs.starts_pass.Tie as tie

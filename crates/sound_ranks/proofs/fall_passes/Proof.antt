@@ -5,7 +5,7 @@ use native.Mathlib.Omega.{arith}
 use Rattle.laws.proofs.Lists.{all-broken}
 use Rattle.laws.proofs.Passed.{Passed, passed-none, passed-next, passed-all}
 use Rattle.stored.specs.Sections.{childrenIn}
-use Rattle.sound_groups.proofs.Row.{can-read-child, child-low}
+use Rattle.stored.proofs.Row.{can-read-child, child-low}
 use Rattle.sound_ranks.specs.Tests.{triplesAlone, fallsTo}
 use Rattle.sound_ranks.proofs.Falls.{fall-is, falls, falls-not}
 use Rattle.sound_ranks.proofs.fall_passes.Statement.{statement}

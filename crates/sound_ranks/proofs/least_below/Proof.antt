@@ -4,7 +4,7 @@ use Prim.Native.Nat.{_-_}
 use native.Mathlib.Omega.{arith}
 use lib.ListN.{getD}
 use Rattle.stored.specs.Sections.{childrenIn}
-use Rattle.sound_groups.proofs.Row.{can-read-child, row-has, child-was, child-low}
+use Rattle.stored.proofs.Row.{can-read-child, row-has, child-was, child-low}
 use Rattle.sound_ranks.specs.Tests.{triplesAlone}
 use Rattle.sound_ranks.proofs.Read.{s-was, e-was}
 use Rattle.sound_ranks.proofs.Least.{Least, least-none, least-more, least-all}
