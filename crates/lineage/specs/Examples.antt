@@ -1,5 +1,5 @@
 -- The reckoned examples of document 01, P1 to P10, the sample text's five answers and the slips that need an example of their own: one table,
--- a single claim, by computation. Questions are asked of the stored bytes, through every check.
+-- a single claim, by computation. Questions are asked of the stored bytes, through every check. A second table has refusals of every kind.
 use mathlib.Core.Path.{_≡_, refl}
 use mathlib.Core.Bool.{Bool, true, false}
 use mathlib.Core.List.{List, [], _∷_, _++_, map}
@@ -169,7 +169,7 @@ unfolding condense indexOf answer encode openAnswer askAnswer askMarks listAnswe
 claim =
     ((refl, refl), (refl, (refl, (refl, ((refl, refl, refl), ((refl, refl, refl), ((refl, refl, refl), ((refl, refl, refl), (refl, (refl, (refl, ((λ u v. rw leb·zero), ((refl, (refl, (refl, (refl, (refl, tt))))), ((refl, (refl, tt)), ((refl, refl), (refl, (refl, ((refl, refl, refl), (refl, (refl, (refl, tt)))))))))))))))))))))
 
--- Refusals of every kind, with their extra numbers. The check after the one that refuses applies too, so that their order shows.
+-- Refusals of every kind, with their extra numbers: in each row the next check applies too, so that their order shows.
 abbrev refusals : List Example
 refusals =
     -- a build: 1 to 9
