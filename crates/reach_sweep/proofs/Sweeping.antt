@@ -6,7 +6,7 @@ use native.Mathlib.Omega.{arith}
 use lib.ListN.{length, getD}
 use borrow.Author.Tests.{eq-eqb, ne-eqb}
 use Rattle.lineage.specs.Numbers.{numAt, numbers}
-use Rattle.sound_groups.proofs.Read.{was-read}
+use Rattle.stored.proofs.Read.{was-read}
 use Rattle.reach_sweep.specs.Fit.{Ranked}
 use Rattle.reach_sweep.specs.Sweep.{rowMarked, turn, swept}
 use Rattle.reach_sweep.proofs.Turn.{turn-marked, turn-passed}
