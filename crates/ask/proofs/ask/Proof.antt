@@ -1,6 +1,6 @@
 -- `ask::ask` meets its contract: each return is where its checks stop, or the answer behind them. The check of the contents leaves the marks 0 below n, and the
 -- question is lent those.
-use mathlib.Core.Path.{_≡_, sym, ap, _∙_}
+use mathlib.Core.Path.{sym, ap, _∙_}
 use native.Mathlib.Omega.{arith}
 use borrow.Author.Needs.{needs}
 use borrow.Author.Tests.{not-false}
