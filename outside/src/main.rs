@@ -1,6 +1,6 @@
 //! The long run: random graphs, questions and damaged images without end but a count, beside the independent program.
-//! `outside QUESTIONS IMAGES [SEED]` compares that many of each, with a line of progress every few seconds, and ends with their numbers: the graphs by
-//! size, the questions by reason, the images by refusal, of which 0 is none.
+//! `outside QUESTIONS IMAGES [SEED]` compares that many of each, with a line of progress every few seconds, and ends with tables of their numbers: the graphs by
+//! size, the questions by reason, the images by refusal.
 
 use independent::chance::Chance;
 use independent::stored::encode;
@@ -72,6 +72,22 @@ fn main() {
             eprintln!("{graphs} graphs, {asked} questions, {opened} images, {} s", begun.elapsed().as_secs());
         }
     }
-    println!("graphs by most vertices {sizes:?}, questions by reason {reasons:?}, images by refusal {refusals:?}");
-    println!("{graphs} graphs, {asked} questions and {opened} damaged images agree, in {} s", begun.elapsed().as_secs());
+    let seconds = begun.elapsed().as_secs();
+    table(&format!("{} graphs, in {} s, by most vertices", grouped(graphs), grouped(seconds)), &sizes, |size| grouped(size as u64));
+    table(&format!("{} questions, by reason", grouped(asked)), &reasons, |reason| reason.to_string());
+    table(&format!("{} damaged images, by refusal", grouped(opened)), &refusals, |refusal| if refusal == 0 { "none".to_string() } else { refusal.to_string() });
+}
+
+/// A number with a comma before every three digits.
+fn grouped(number: u64) -> String {
+    let digits = number.to_string();
+    let comma = |i: usize| i > 0 && (digits.len() - i) % 3 == 0;
+    digits.char_indices().map(|(i, digit)| if comma(i) { format!(",{digit}") } else { digit.to_string() }).collect()
+}
+
+/// Counts by kind, as a table of two lines.
+fn table<K: Copy>(title: &str, counts: &BTreeMap<K, u64>, name: impl Fn(K) -> String) {
+    println!("| {title} | {} |", counts.keys().map(|&kind| name(kind)).collect::<Vec<_>>().join(" | "));
+    println!("|---{}|", "|---:".repeat(counts.len()));
+    println!("| | {} |\n", counts.values().map(|&count| grouped(count)).collect::<Vec<_>>().join(" | "));
 }

@@ -12,14 +12,15 @@ use Rattle.lineage.specs.Question.{between, placeIn, walk, answer}
 use Rattle.laws.specs.Sound.{SoundGroups}
 use Rattle.laws.proofs.Lists.{in-getD}
 use Rattle.laws.proofs.Grouped.{group-name, levels-fall}
+use Rattle.numbers.specs.Bounds.{vertexBound}
 use Rattle.numbers.proofs.Numbers.{numbers-long, numbers-at}
-use Rattle.header.specs.declared.Layout.{Layout}
+use Rattle.stored_header.specs.declared.Layout.{Layout}
 use Rattle.stored.specs.Sections.{childrenIn, indexFrom, indexAt}
 use Rattle.stored.proofs.Sections.{children-long, starts-rise, starts-within, row-long, row-at}
-use Rattle.walk.specs.Fit.{count, groupsIn, Fit}
-use Rattle.places.specs.Lent.{Lent}
-use Rattle.places.proofs.Vertices.{lent-sound}
-use Rattle.walk.proofs.Rows.{count-is}
+use Rattle.ask_walk.specs.Fit.{count, groupsIn, Fit}
+use Rattle.sound_places.specs.Lent.{Lent}
+use Rattle.sound_places.proofs.Vertices.{lent-sound}
+use Rattle.ask_walk.proofs.Rows.{count-is}
 
 module _ {l : Layout} {names groups levels starts children labels : List ℕ} (S : Lent l names groups levels starts children labels) where
   abbrev w : ℕ
@@ -109,7 +110,7 @@ module _ {l : Layout} {names groups levels starts children labels : List ℕ} (S
     marks-long : length m ≡ n
     marks-long = ap length cleared ∙ length-replicate n 0
 
-    pub marks-few : length m ≤ 200000
+    pub marks-few : length m ≤ vertexBound
     marks-few = omega (arith, marks-long, S .vertices-few)
 
     pub fit-marks : (t : ℕ) → t < k → Fit w k (l .d) t groups levels starts children labels (length m)

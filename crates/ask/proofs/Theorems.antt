@@ -5,7 +5,7 @@ use mathlib.Core.Bool.{Bool, true, false}
 use mathlib.Core.Logic.{_↔_, Iff·symm, Iff·trans}
 use mathlib.Core.Path.{_≡_, refl, sym, ap, subst, _∙_}
 use mathlib.Core.List.{List, _++_}
-use Prim.Native.Nat.{ℕ, _+_, _≤_, _<_}
+use Prim.Native.Nat.{ℕ, _≤_, _<_}
 use native.Mathlib.Omega.{arith}
 use lib.ListN.{length, getD, take, drop, length-map, List·getD-append}
 use lib.Seq.{take-at, drop-at}
@@ -13,7 +13,7 @@ use Rattle.lineage.specs.Lists.{Every, ones}
 use Rattle.lineage.specs.Graph.{Graph, Ends, Reaches}
 use Rattle.lineage.specs.Labels.{Order}
 use Rattle.lineage.specs.Index.{Index, indexOf, Made}
-use Rattle.lineage.specs.Stored.{countsIn, headerAt, formOf, stretch, section, decode}
+use Rattle.lineage.specs.Stored.{countsIn}
 use Rattle.lineage.specs.Question.{placeIn, netOf, answer}
 use Rattle.lineage.specs.Calls.{answered, indexIn, Said, askAnswer, askMarks}
 use Rattle.laws.specs.Rising.{Distinct}
@@ -23,22 +23,13 @@ use Rattle.laws.proofs.Lists.{table-long}
 use Rattle.laws_answers.specs.Answers.{Member, Opened, marksOf, NoMore}
 use Rattle.laws_answers.specs.Walks.{Through}
 use Rattle.laws_answers.proofs.Demands.{answer-right, marks-are-opened, opened-on-a-no, more-orders}
-use Rattle.numbers.proofs.Numbers.{numbers-long}
+use Rattle.stored.proofs.Contents.{names-many, labels-many}
 use Rattle.ask.specs.declared.Asked.{Asked}
 use Rattle.ask.specs.declared.Asked.the-variants.{Answer, Refused}
 use Rattle.ask.specs.Asked.{askedOf}
 use Rattle.ask.proofs.Answered.{Answered, answered-only, none-applies}
 
--- the index that bytes hold has n names and d labellings
-names-long : (b : List ℕ) → length (indexIn b .names) ≡ countsIn b .n
-unfolding decode section
-names-long b = let w : ℕ = formOf (headerAt b 0) .width in numbers-long w (stretch w (countsIn b) b 0) (countsIn b .n)
-
-labels-long : (b : List ℕ) → length (indexIn b .labels) ≡ countsIn b .d
-unfolding decode
-labels-long b = table-long _ (countsIn b .d)
-
-orders-long : (G : Graph) (orders : List (List ℕ)) → length (indexOf G orders .labels) ≡ length orders
+pub orders-long : (G : Graph) (orders : List (List ℕ)) → length (indexOf G orders .labels) ≡ length orders
 unfolding indexOf
 orders-long G orders = length-map orders _
 
@@ -63,13 +54,13 @@ module _ (b : List ℕ) (u v : ℕ) (marks : List ℕ) (s : Said) (e : askAnswer
   I = indexIn b
 
   source : u < length (I .names)
-  source = omega (arith, names-long b, A .source-low)
+  source = omega (arith, names-many b, A .source-low)
 
   target : v < length (I .names)
-  target = omega (arith, names-long b, A .target-low)
+  target = omega (arith, names-many b, A .target-low)
 
   some : 0 < length (I .labels)
-  some = omega (arith, labels-long b, A .some)
+  some = omega (arith, labels-many b, A .some)
 
   -- the answer is yes exactly where u reaches v, in whatever graph yields the bytes
   pub asked-right : (M : Made (indexIn b)) → (s .says ≡ true) ↔ Reaches (M .graph) u v
@@ -85,12 +76,12 @@ module _ (b : List ℕ) (u v : ℕ) (marks : List ℕ) (s : Said) (e : askAnswer
   asked-same M M' = Iff·trans (Iff·symm (asked-right M)) (asked-right M')
 
   -- the marks after it: the answer's, and behind them those from n on as they were
-  marks-are : askMarks b u v marks ≡ answer I u v .marks ++ drop (countsIn b .n) marks
+  pub marks-are : askMarks b u v marks ≡ answer I u v .marks ++ drop (countsIn b .n) marks
   unfolding askMarks
   marks-are = rw (none-applies b u v (length marks) s e) refl
 
   answer-long : length (answer I u v .marks) ≡ countsIn b .n
-  answer-long = let (o, O, K) = marks-are-opened I (A .sound) u v source in ap length (K .marks) ∙ table-long _ (length (I .names)) ∙ names-long b
+  answer-long = let (o, O, K) = marks-are-opened I (A .sound) u v source in ap length (K .marks) ∙ table-long _ (length (I .names)) ∙ names-many b
 
   own : take (countsIn b .n) (askMarks b u v marks) ≡ answer I u v .marks
   own = rw marks-are (take-at (answer I u v .marks) (drop (countsIn b .n) marks) (countsIn b .n) answer-long)
@@ -119,7 +110,7 @@ module _ (b : List ℕ) (u v : ℕ) (marks : List ℕ) (s : Said) (e : askAnswer
       s .says ≡ false → (p : ℕ) → p < length (I .children)
       → (getD (askMarks b u v marks) (getD (I .groups) p 0) 0 ≡ 1) ↔ Through (netOf I (placeIn I v) .children) (netOf I (placeIn I v) .no) (placeIn I u) p
   asked-no says p h =
-      let named : getD (I .groups) p 0 < countsIn b .n = omega (arith, group-name (A .sound .condensed) p h .0, names-long b) in
+      let named : getD (I .groups) p 0 < countsIn b .n = omega (arith, group-name (A .sound .condensed) p h .0, names-many b) in
       subst
       (λ (z : ℕ). (z ≡ 1) ↔ Through (netOf I (placeIn I v) .children) (netOf I (placeIn I v) .no) (placeIn I u) p)
       (sym (mark-at (getD (I .groups) p 0) named))
@@ -136,11 +127,11 @@ module _ (G : Graph) (ends : Ends G) (orders₁ orders₂ : List (List ℕ)) (up
       let A₁ : Answered b₁ u v s₁ = answered-only b₁ u v (length marks₁) s₁ e₁ in
       let A₂ : Answered b₂ u v s₂ = answered-only b₂ u v (length marks₂) s₂ e₂ in
       let sized₂ : countsIn b₂ .n ≡ G .n =
-      sym (names-long b₂) ∙ made-long (record { graph = G; ends = ends; orders = orders₂; permuted = permuted; yields = y₂ }) in
+      sym (names-many b₂) ∙ made-long (record { graph = G; ends = ends; orders = orders₂; permuted = permuted; yields = y₂ }) in
       let sized₁ : countsIn b₁ .n ≡ G .n =
-      sym (names-long b₁) ∙ ap (λ (J : Index). length (J .names)) (sym y₁) ∙ names-same G orders₁ orders₂
-      ∙ ap (λ (J : Index). length (J .names)) y₂ ∙ names-long b₂ ∙ sized₂ in
-      let ordered : 0 < length orders₁ = omega (arith, orders-long G orders₁, ap (λ (J : Index). length (J .labels)) y₁, labels-long b₁, A₁ .some) in
+      sym (names-many b₁) ∙ ap (λ (J : Index). length (J .names)) (sym y₁) ∙ names-same G orders₁ orders₂
+      ∙ ap (λ (J : Index). length (J .names)) y₂ ∙ names-many b₂ ∙ sized₂ in
+      let ordered : 0 < length orders₁ = omega (arith, orders-long G orders₁, ap (λ (J : Index). length (J .labels)) y₁, labels-many b₁, A₁ .some) in
       let D : NoMore (answer (indexIn b₁) u v) (answer (indexIn b₂) u v) =
       rw (y₁, y₂) at
       (more-orders G ends orders₁ orders₂ up permuted ordered u v (omega (arith, sized₁, A₁ .source-low)) (omega (arith, sized₁, A₁ .target-low))) in (

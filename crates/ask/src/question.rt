@@ -5,12 +5,14 @@ ghost use Prim.Native.Nat.{_≤_, _<_};
 ghost use lib.ListN.{length, getD, replicate};
 ghost use Rattle.lineage.specs.Numbers.{numAt};
 ghost use Rattle.lineage.specs.Question.{between, answer};
+ghost use Rattle.lineage.specs.Stored.{mostLabellings};
+ghost use Rattle.numbers.specs.Bounds.{vertexBound};
 ghost use Rattle.stored.specs.Sections.{indexAt};
-ghost use Rattle.places.specs.Lent.{Lent};
-ghost use Rattle.walk.specs.Fit.{groupsIn, Fit};
+ghost use Rattle.sound_places.specs.Lent.{Lent};
+ghost use Rattle.ask_walk.specs.Fit.{groupsIn, Fit};
 ghost use Rattle.ask.specs.Replies.{answerBy};
-use header::Layout;
-use walk::Seen;
+use ask_walk::Seen;
+use stored_header::Layout;
 
 // Yes or no, the reason, the number of the labelling that decided (0 where none did), and the number of groups opened.
 pub struct Reply {
@@ -22,7 +24,7 @@ pub struct Reply {
 
 // A reply under reasons 1 to 4: no group is opened.
 fn plain(says: bool, reason: u32, deciding: usize) -> Reply
-    requires { ⌜ deciding ≤ 5 ⌝ }
+    requires { ⌜ deciding ≤ mostLabellings ⌝ }
     ensures { λ r. ⌜ r ≡ record { says = says; reason = reason; deciding = deciding; opened = 0 } ⌝ }
 {
     Reply {
@@ -35,7 +37,7 @@ fn plain(says: bool, reason: u32, deciding: usize) -> Reply
 
 // A reply by the walk: reason 5 where it found the target, otherwise 6.
 fn by_walk(a: Seen) -> Reply
-    requires { ⌜ (a .deciding ≤ 5) × (a .opened ≤ 200000) ⌝ }
+    requires { ⌜ (a .deciding ≤ mostLabellings) × (a .opened ≤ vertexBound) ⌝ }
     ensures { λ r. ⌜ r ≡ record { says = a .found; reason = cond (a .found) 5 6; deciding = a .deciding; opened = a .opened } ⌝ }
 {
     let deciding = a.deciding as u32;
@@ -71,13 +73,13 @@ pub fn decide(
     marks: &mut [u8],
 ) -> Reply
     requires { ⌜ Fit w k d t (now groups) (now levels) (now starts) (now children) (now labels) (length (now marks)) ⌝ }
-    requires { ⌜ (x < k) × ((getD (now marks) (numAt w (now groups) x) 0 ≡ 1 → ⊥) × (length (now marks) ≤ 200000)) ⌝ }
+    requires { ⌜ (x < k) × ((getD (now marks) (numAt w (now groups) x) 0 ≡ 1 → ⊥) × (length (now marks) ≤ vertexBound)) ⌝ }
     ensures { λ r. ⌜ answerBy r (now (marks .exit)) ≡ between (groupsIn w k d (now (groups .entry)) (now (levels .entry)) (now (starts .entry)) (now (children .entry)) (now (labels .entry))) x t (now (marks .entry)) ⌝ }
 {
     if x == t {
         return plain(true, 1, 0);
     }
-    let inner = intervals::inner_by(labels, w, k, d, x, t);
+    let inner = ask_intervals::inner_by(labels, w, k, d, x, t);
     if 0 < inner {
         return plain(true, 2, inner);
     }
@@ -85,11 +87,11 @@ pub fn decide(
     if level <= numbers::num(levels, w, t) {
         return plain(false, 3, 0);
     }
-    let outer = intervals::outer_by(labels, w, k, d, x, t);
+    let outer = ask_intervals::outer_by(labels, w, k, d, x, t);
     if 0 < outer {
         return plain(false, 4, outer);
     }
-    let a = walk::open_group(
+    let a = ask_walk::open_group(
         groups,
         levels,
         starts,
@@ -126,8 +128,8 @@ pub fn question(
     let w = l.width;
     let n = l.n;
     let k = l.k;
-    let x = places::place_of(groups, w, n, k, numbers::num(names, w, u));
-    let t = places::place_of(groups, w, n, k, numbers::num(names, w, v));
+    let x = sound_places::place_of(groups, w, n, k, numbers::num(names, w, u));
+    let t = sound_places::place_of(groups, w, n, k, numbers::num(names, w, v));
     decide(
         groups,
         levels,

@@ -5,9 +5,9 @@ use Prim.Native.Nat.{ℕ}
 use native.Mathlib.Omega.{arith}
 use Rattle.lineage.specs.Stored.{Form, form1}
 use Rattle.lineage.specs.Calls.{Outcome, Input}
-use Rattle.header.specs.declared.Row.{Row}
-use Rattle.header.specs.Header.{rowOf}
-use Rattle.header.proofs.Forms.{form-within}
+use Rattle.stored_header.specs.declared.Row.{Row}
+use Rattle.stored_header.specs.Header.{rowOf}
+use Rattle.stored_header.proofs.Forms.{form-within}
 use Rattle.build.specs.Input.{formBy, RowFit}
 use Rattle.build.proofs.Answered.{Answers}
 

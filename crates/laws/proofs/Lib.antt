@@ -1,6 +1,7 @@
 -- Tests and lists.
 pub mod Tests
 pub mod Lists
+pub mod Passed
 pub mod Every
 pub mod Parts
 pub mod Joined
@@ -42,3 +43,5 @@ pub mod Depends
 -- Rows laid out with their starts.
 pub mod Laid
 pub mod Starts
+-- The checks of a call.
+pub mod Checks

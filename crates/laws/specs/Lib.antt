@@ -5,3 +5,4 @@ pub mod Visits
 pub mod Passes
 pub mod Sound
 pub mod Laid
+pub mod Checks

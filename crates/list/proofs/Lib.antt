@@ -1,8 +1,6 @@
 -- The vertices that are listed.
 pub mod Downstream
--- The stored bytes: their sections, their refusals, their list.
-pub mod Contents
-pub mod Fitted
+-- The stored bytes: their refusals, their list.
 pub mod Refusals
 pub mod Found
 pub mod Theorems

@@ -1,5 +1,3 @@
--- What the contracts inside this crate say of marks, vertices and the lent sections.
+-- What the contracts of this crate say of listed vertices, and of what is answered.
 pub mod Listing
-pub mod Marks
-pub mod Fit
 pub mod Listed

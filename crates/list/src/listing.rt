@@ -5,9 +5,9 @@ ghost use Prim.Native.Nat.{_≤_, _<_};
 ghost use lib.ListN.{length, drop};
 ghost use Rattle.lineage.specs.Numbers.{numbers};
 ghost use Rattle.lineage.specs.Question.{inOwnList};
-ghost use Rattle.sound_groups.specs.Fit.{Holds};
+ghost use Rattle.stored.specs.Rows.{Holds};
+ghost use Rattle.reach.specs.Fit.{Names};
 ghost use Rattle.list.specs.Listing.{isListed, listed, namesAlone};
-ghost use Rattle.list.specs.Fit.{Names};
 use numbers::num;
 
 // Whether vertex u is in its own list: u itself is included.

@@ -3,8 +3,8 @@ use mathlib.Core.Path.{_≡_, sym, ap, ap₂, _∙_}
 use mathlib.Core.List.{List, _++_}
 use Prim.Native.Nat.{ℕ, _+_, _-_, _≤_, _<_}
 use native.Mathlib.Omega.{arith}
-use lib.ListN.{length, getD, drop, take-append-drop, set, replicate, length-append, length-drop, length-replicate, getD-replicate, List·getD-append}
-use lib.Seq.{drop-at, take-all}
+use lib.ListN.{length, getD, take, drop, take-append-drop, set, replicate, length-append, length-drop, length-replicate, getD-replicate, List·getD-append}
+use lib.Seq.{take-at, drop-at, take-all}
 use borrow.Author.Fill.{fill-none, fill-more}
 use Rattle.lineage.specs.Lists.{part, cleared}
 use Rattle.numbers.specs.Regions.{Kept}
@@ -29,6 +29,10 @@ module _ (n : ℕ) (s : List ℕ) where
   pub cleared-at : (i : ℕ) → i < n → getD (cleared n s) i 0 ≡ 0
   unfolding cleared
   cleared-at i h = List·getD-append (replicate n 0) (drop n s) 0 i (omega (arith, length-replicate {A = ℕ} n 0)) ∙ getD-replicate n i 0 0 h
+
+  pub cleared-front : {t : List ℕ} → t ≡ cleared n s → take n t ≡ replicate n 0
+  unfolding cleared
+  cleared-front e = rw e (take-at (replicate n 0) (drop n s) n (length-replicate n 0))
 
   pub cleared-past : drop n (cleared n s) ≡ drop n s
   unfolding cleared

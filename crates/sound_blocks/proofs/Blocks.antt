@@ -6,7 +6,7 @@ use Rattle.lineage.specs.Numbers.{numAt}
 use Rattle.lineage.specs.Sound.{childOf, walkEnds, blockPasses}
 use Rattle.stored.specs.Sections.{childrenIn, labellingIn}
 use Rattle.stored.proofs.Sections.{children-long}
-use Rattle.sound_groups.specs.Fit.{Places}
+use Rattle.stored.specs.Rows.{Places}
 use Rattle.sound_ranks.proofs.Read.{m-was, e-was}
 use Rattle.sound_blocks.specs.Fit.{Ranked}
 

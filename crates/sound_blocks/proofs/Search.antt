@@ -18,8 +18,8 @@ use Rattle.numbers.specs.Regions.{Part}
 use Rattle.numbers.proofs.Numbers.{numbers-long, numbers-at, numbers-part}
 use Rattle.stored.specs.Sections.{childrenIn}
 use Rattle.stored.proofs.Sections.{row-is}
-use Rattle.sound_groups.specs.Fit.{Row, Places}
-use Rattle.sound_groups.proofs.Row.{row-up}
+use Rattle.stored.specs.Rows.{Row, Places}
+use Rattle.stored.proofs.Row.{row-up}
 
 module _ {w k c p from len : ℕ} {starts children : List ℕ} (P : Places w starts children k c) (R : Row w starts k c p from len) where
   abbrev row : List ℕ

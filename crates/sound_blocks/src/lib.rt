@@ -6,16 +6,16 @@ ghost use lib.ListN.{length};
 ghost use Rattle.lineage.specs.Lists.{allBelow};
 ghost use Rattle.lineage.specs.Sound.{childOf, walkEnds, blockPasses};
 ghost use Rattle.stored.specs.Sections.{childrenIn, labellingIn};
-ghost use Rattle.sound_groups.specs.Fit.{Places};
+ghost use Rattle.stored.specs.Rows.{Places};
 ghost use Rattle.sound_blocks.specs.Marks.{unmarked};
 ghost use Rattle.sound_blocks.specs.Fit.{Ranked};
 use numbers::count_below;
 use numbers::num;
 use numbers::numbers_from;
-use sound_groups::row_span;
-use sound_ranks::E;
-use sound_ranks::M;
 use sound_ranks::label;
+use stored::parts::E;
+use stored::parts::M;
+use stored::rows::row_span;
 
 // Whether q is a child of group p: it is looked for in the row, which rises, by halves.
 fn child_in(

@@ -11,7 +11,8 @@ use Rattle.laws.proofs.Tests.{and-left, and-right}
 use Rattle.numbers.proofs.Numbers.{numbers-long}
 use Rattle.stored.specs.Sections.{childrenIn}
 use Rattle.stored.proofs.Sections.{children-long}
-use Rattle.sound_groups.specs.Fit.{Children, Places, Groups}
+use Rattle.stored.specs.Rows.{Children, Places}
+use Rattle.sound_groups.specs.Fit.{Groups}
 
 pub groups-is : (w n k c : ℕ) (names groups levels starts children : List ℕ)
     → (namesPass (numbers w names n) (numbers w groups k) && (allBelow k (rowPasses (childrenIn w starts children k c)) && allBelow k (levelPasses (childrenIn w starts children k c) (numbers w levels k))))

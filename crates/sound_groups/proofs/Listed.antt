@@ -16,8 +16,8 @@ use Rattle.lineage.specs.Graph.{groupList}
 use Rattle.lineage.specs.Numbers.{numAt, numbers}
 use Rattle.laws.proofs.Lists.{length-upto, getD-upto, those-yes, those-no}
 use Rattle.numbers.proofs.Numbers.{numbers-long}
-use Rattle.sound_groups.specs.Fit.{Holds}
-use Rattle.sound_groups.proofs.Read.{was-read}
+use Rattle.stored.specs.Rows.{Holds}
+use Rattle.stored.proofs.Read.{was-read}
 
 -- the vertex is its own group's name
 abbrev own : List ℕ → ℕ → Bool

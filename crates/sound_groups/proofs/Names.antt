@@ -11,9 +11,9 @@ use Rattle.lineage.specs.Graph.{groupList}
 use Rattle.lineage.specs.Sound.{namesPass}
 use Rattle.lineage.specs.Numbers.{numAt, numbers}
 use Rattle.numbers.proofs.Numbers.{numbers-long}
-use Rattle.sound_groups.specs.Fit.{Holds}
+use Rattle.stored.specs.Rows.{Holds}
 use Rattle.sound_groups.specs.Tests.{ownName}
-use Rattle.sound_groups.proofs.Read.{was-read}
+use Rattle.stored.proofs.Read.{was-read}
 
 module _ {w n : ℕ} {names : List ℕ} (H : Holds w names n) {v x : ℕ} (low : v < n) (read : x ≡ numAt w names v) where
   pub name-above : v < x → false ≡ ownName (numbers w names n) v

@@ -2,7 +2,7 @@
 use mathlib.Core.Bool.{Bool, true, false}
 use mathlib.Core.Path.{_≡_, _∙_}
 use mathlib.Core.List.{List}
-use Prim.Native.Nat.{ℕ, suc, _+_, _-_, _≤_, _<_}
+use Prim.Native.Nat.{ℕ, suc, _+_, _≤_, _<_}
 use native.Mathlib.Omega.{arith}
 use native.Mathlib.Numerals.{add-one}
 use lib.Dec.{eqb, leb}
@@ -11,9 +11,8 @@ use borrow.Author.Tests.{le-leb, lt-leb, eq-eqb, ne-eqb}
 use Rattle.lineage.specs.Lists.{allBelow}
 use Rattle.lineage.specs.Numbers.{numAt, numbers}
 use Rattle.lineage.specs.Sound.{startsPass}
-use Rattle.stored.proofs.Sections.{starts-rise, starts-within}
-use Rattle.sound_groups.specs.Fit.{Starts, Rows, Row}
-use Rattle.sound_groups.proofs.Read.{was-read}
+use Rattle.stored.specs.Rows.{Starts}
+use Rattle.stored.proofs.Read.{was-read}
 
 -- the start of p is not above the next
 abbrev pub notFalling : List ℕ → ℕ → Bool
@@ -42,20 +41,3 @@ module _ {w k : ℕ} {starts : List ℕ} (S : Starts w starts k) where
 
     pub starts-end : {b : ℕ} → a ≡ 0 → allBelow k (notFalling (numbers w starts (k + 1))) ≡ true → b ≡ numAt w starts k → eqb b c ≡ startsPass (numbers w starts (k + 1)) k c
     starts-end z t e = rw (← zeroth, eq-eqb a 0 z, t, ← (was-read (S .held) {i = k} (omega arith) e))
-
--- Starts that have passed: none falls, and none is above c.
-module _ {w k c : ℕ} {starts : List ℕ} (R : Rows w starts k c) where
-  pub row-rises : (p : ℕ) → p < k → numAt w starts p ≤ numAt w starts (p + 1)
-  row-rises = starts-rise w starts k c (R .passed)
-
-  pub row-within : (p : ℕ) → p ≤ k → numAt w starts p ≤ c
-  row-within = starts-within w starts k c (R .passed)
-
-  -- the row between two starts that were read
-  pub row-between : {p a b : ℕ} → p < k → a ≡ numAt w starts p → b ≡ numAt w starts (p + 1) → Row w starts k c p a (b - a)
-  row-between {p} {a} {b} h ea eb = record {
-    low = h;
-    begins = ea;
-    ends = omega (arith, row-rises p h);
-    within = omega (arith, row-rises p h, row-within (p + 1) (omega arith));
-  }

@@ -2,15 +2,18 @@
 // vertices, the groups or the child entries.
 ghost use mathlib.Core.Bool.{_&&_};
 ghost use mathlib.Core.Path.{_≡_};
-ghost use Prim.Native.Nat.{_+_, _<_, max};
+ghost use Prim.Native.Nat.{_+_, _<_};
 ghost use Rattle.lineage.specs.Lists.{allBelow, sameList};
 ghost use Rattle.lineage.specs.Graph.{groupList};
 ghost use Rattle.lineage.specs.Numbers.{numbers};
 ghost use Rattle.lineage.specs.Sound.{namesPass, startsPass, rowPasses, levelPasses, groupsPass};
 ghost use Rattle.stored.specs.Sections.{childrenIn};
-ghost use Rattle.sound_groups.specs.Fit.{Holds, Starts, Rows, Row, Children, Places, Groups};
+ghost use Rattle.stored.specs.Rows.{Holds, Starts, Children, Places};
+ghost use Rattle.sound_groups.specs.Fit.{Groups};
 ghost use Rattle.sound_groups.specs.Tests.{ownName, levelAbove};
+use numbers::greater;
 use numbers::num;
+use stored::rows::row_span;
 
 // Whether the name of v is not above v and is its own name.
 fn own_name(names: &[u8], w: usize, n: usize, v: usize) -> bool
@@ -93,26 +96,6 @@ fn starts_pass(starts: &[u8], w: usize, k: usize, c: usize) -> bool
     num(starts, w, k) == c
 }
 
-// Where the children of a group stand: from which position on, and how many they are.
-pub struct Span {
-    pub from: usize,
-    pub len: usize,
-}
-
-// Where the children of group p stand.
-pub fn row_span(starts: &[u8], w: usize, k: usize, c: usize, p: usize) -> Span
-    requires { ⌜ Rows w (now starts) k c ⌝ }
-    requires { ⌜ p < k ⌝ }
-    ensures { λ r. ⌜ Row w (now (starts .entry)) k c p (r .from) (r .len) ⌝ }
-{
-    let from = num(starts, w, p);
-    let to = num(starts, w, p + 1);
-    Span {
-        from,
-        len: to - from,
-    }
-}
-
 // Whether the children of group p are places, strictly rising.
 fn row_passes(starts: &[u8], children: &[u8], w: usize, k: usize, c: usize, p: usize) -> bool
     requires { ⌜ Children w (now starts) (now children) k c ⌝ }
@@ -153,12 +136,6 @@ fn rows_pass(starts: &[u8], children: &[u8], w: usize, k: usize, c: usize) -> bo
     true
 }
 
-fn larger(a: usize, b: usize) -> usize
-    ensures { λ r. ⌜ r ≡ max a b ⌝ }
-{
-    if a < b { b } else { a }
-}
-
 // 0 without children, otherwise one more than the greatest level among the children of group p.
 fn level_above(
     starts: &[u8],
@@ -181,7 +158,7 @@ fn level_above(
     let mut level = 0;
     while i < len {
         let q = num(children, w, from + i);
-        level = larger(level, num(levels, w, q) + 1);
+        level = greater(level, num(levels, w, q) + 1);
         i += 1;
     }
     level

@@ -19,8 +19,8 @@ use Rattle.numbers.proofs.Cleared.{cleared-long, cleared-at}
 use Rattle.numbers.proofs.Numbers.{numbers-long, numbers-at}
 use Rattle.stored.specs.Sections.{childrenIn}
 use Rattle.stored.proofs.Sections.{children-long}
-use Rattle.sound_groups.specs.Fit.{Places}
-use Rattle.sound_groups.proofs.Row.{row-low}
+use Rattle.stored.specs.Rows.{Places}
+use Rattle.stored.proofs.Row.{row-low}
 use Rattle.sound_blocks.specs.Marks.{unmarked, Tells}
 use Rattle.sound_labels.proofs.Marks.{marked-at, marked-cleared}
 

@@ -19,8 +19,8 @@ use Rattle.laws.proofs.Parts.{part-whole, part-length}
 use Rattle.laws.proofs.Starts.{pass-laid, rows-joined, starts-again}
 use Rattle.numbers.proofs.Numbers.{numbers-long, numbers-part}
 use Rattle.numbers.proofs.Written.{Bytes, bytes-part, written-numbers}
-use Rattle.header.specs.declared.Layout.{Layout}
-use Rattle.header.specs.Header.{layoutIn, Laid}
+use Rattle.stored_header.specs.declared.Layout.{Layout}
+use Rattle.stored_header.specs.Header.{layoutIn, Laid}
 use Rattle.stored.proofs.LabelNumbers.{labels-written}
 use Rattle.stored.proofs.Offsets.{cut, cut-joined, offsets-within}
 

@@ -2,7 +2,10 @@
 pub mod Stretches
 pub mod Held
 pub mod Sections
+pub mod Read
+pub mod Row
 pub mod LabelNumbers
 pub mod Offsets
+pub mod Contents
 pub mod Encoded
 pub mod Decoded

@@ -11,10 +11,10 @@ use lib.ListN.{length, take, drop, length-drop, length-map}
 use lib.Seq.{drop-drop}
 use borrow.Author.Tests.{eqb-true}
 use Rattle.lineage.specs.Lists.{allOf, sameList}
-use Rattle.lines.specs.declared.Line.{Line as LineRead}
-use Rattle.lines.specs.declared.Line.the-variants.{Good as GoodLine, Bad as BadLine}
-use Rattle.lines.specs.Lines.{space, lf, keep, firstPiece, begin, otherPieces, pieces, Line, linesOf, isDecimal, mostDigits, value, lineIs, numbersIn}
-use Rattle.lines.specs.Reader.{Found, found, none, after, foundIf, isMore, wordsIn, lineIn, Into}
+use Rattle.text_lines.specs.declared.Line.{Line as LineRead}
+use Rattle.text_lines.specs.declared.Line.the-variants.{Good as GoodLine, Bad as BadLine}
+use Rattle.text_lines.specs.Lines.{space, lf, keep, firstPiece, begin, otherPieces, pieces, Line, linesOf, isDecimal, mostDigits, value, lineIs, numbersIn}
+use Rattle.text_lines.specs.Reader.{Found, found, none, after, foundIf, isMore, wordsIn, lineIn, Into}
 use Rattle.text.specs.Text.{Block, stop, block}
 
 -- how many bytes pieces take with the separators in front of them

@@ -10,8 +10,8 @@ use lib.Dec.{eqb, leb}
 use lib.ListN.{length, drop, length-append, length-drop}
 use borrow.Author.Tests.{leb-true}
 use Rattle.lineage.specs.Stored.{mostLabellings}
-use Rattle.lines.specs.Lines.{bytes, Line, linesOf, lineIs}
-use Rattle.lines.specs.Reader.{Found, found, none, lineIn}
+use Rattle.text_lines.specs.Lines.{bytes, Line, linesOf, lineIs}
+use Rattle.text_lines.specs.Reader.{Found, found, none, lineIn}
 use Rattle.text.specs.Text.{mostBytes, mostEdges, mostVertices, Block, stop, goOn, block, Text, says, ofPairs, isEnd, vertices, isFirst, textOf, judged, reading}
 use Rattle.text.specs.Blocks.{mostQuestions}
 use Rattle.text.proofs.Whole.{reading-is}

@@ -10,7 +10,7 @@ use lib.Seq.{drop-cons, getD-take}
 use borrow.Author.Tests.{ne-eqb, le-leb, lt-leb}
 use Rattle.lineage.specs.Lists.{joined}
 use Rattle.lineage.specs.Stored.{mostLabellings}
-use Rattle.lines.specs.Lines.{bytes, space, lf, keep, firstPiece, begin, otherPieces, pieces, Line, linesOf, lineIs}
+use Rattle.text_lines.specs.Lines.{bytes, space, lf, keep, firstPiece, begin, otherPieces, pieces, Line, linesOf, lineIs}
 use Rattle.text.specs.Blocks.{BlockInto, mostQuestions, readingOf}
 use Rattle.text.specs.declared.Reading.the-variants.{Says}
 use Rattle.text.specs.Text.{mostBytes, Block, withLine, goOn, block, mostEdges, mostVertices, Text, badLine, ofPairs, isEnd, vertices, judged, saying, reading}

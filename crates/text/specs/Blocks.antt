@@ -6,7 +6,7 @@ use lib.ListN.{length, take, drop}
 use Rattle.lineage.specs.Stored.{mostLabellings}
 use Rattle.text.specs.declared.Reading.{Reading as ReadingRead}
 use Rattle.text.specs.declared.Reading.the-variants.{Says, BadLine}
-use Rattle.lines.specs.Lines.{linesOf}
+use Rattle.text_lines.specs.Lines.{linesOf}
 use Rattle.text.specs.Text.{Block, block, mostVertices, mostEdges, Reading, says, badLine, reading}
 
 -- `count` lines up to `next`, whose numbers are the first of the list, and the lines behind them; a line takes two bytes for each number and two more

@@ -5,7 +5,7 @@ use Prim.Native.Nat.{ℕ}
 use Prim.Native.String.{String}
 use lib.ListN.{replicate}
 use Rattle.lineage.specs.Lists.{Every}
-use Rattle.lines.specs.Lines.{bytes, lf}
+use Rattle.text_lines.specs.Lines.{bytes, lf}
 use Rattle.text.specs.Output.{output}
 
 -- a text, or so many LF, and all that the program prints on it

@@ -7,7 +7,7 @@ use lib.Dec.{ltb}
 use lib.ListN.{length}
 use Rattle.lineage.specs.Stored.{form1, mostLabellings, encode}
 use Rattle.lineage.specs.Calls.{Input, Outcome, refused, answered, Said, built, buildAnswer, askAnswer}
-use Rattle.lines.specs.Lines.{bytes}
+use Rattle.text_lines.specs.Lines.{bytes}
 use Rattle.text.specs.Text.{Text, Reading, says, badLine, reading, mostBytes, mostVertices, mostEdges}
 
 -- a number below 10 is one digit; any other is the digits of its tenth part, then the last digit

@@ -6,7 +6,7 @@ use lib.Dec.{eqb, leb}
 use lib.ListN.{length, getD}
 use Rattle.lineage.specs.Lists.{joined}
 use Rattle.lineage.specs.Stored.{mostLabellings}
-use Rattle.lines.specs.Lines.{bytes, Line, linesOf, lineIs, numbersIn}
+use Rattle.text_lines.specs.Lines.{bytes, Line, linesOf, lineIs, numbersIn}
 
 -- at most 32,768 bytes
 abbrev pub mostBytes : ℕ

@@ -3,11 +3,11 @@ ghost use mathlib.Core.Path.{_≡_};
 ghost use mathlib.Core.Bool.{true};
 ghost use Prim.Native.Nat.{_*_, _≤_, _<_};
 ghost use lib.ListN.{length, take};
-ghost use Rattle.lines.specs.Reader.{isLetter};
+ghost use Rattle.text_lines.specs.Reader.{isLetter};
 ghost use Rattle.text.specs.Text.{mostBytes, ofPairs};
 ghost use Rattle.text.specs.Blocks.{BlockInto, Lent, TextInto};
-use lines::Line;
-use lines::read_line;
+use text_lines::Line;
+use text_lines::read_line;
 
 // The program's bounds, and the most questions that fit a text: a line of one takes 6 bytes at least.
 pub const MOST_BYTES: usize = 32768;

@@ -2,7 +2,7 @@
 // here; what is compared outside is the call itself.
 use build::Built;
 use list::Listed;
-use run::MOST_OUTPUT;
+use text_run::MOST_OUTPUT;
 
 // A count, or a refusal with its number and its extra number.
 #[repr(C)]
@@ -10,11 +10,6 @@ pub struct Counted {
     pub refusal: u32,
     pub extra: u32,
     pub count: u32,
-}
-
-// The lowest 32 bits.
-fn low(x: usize) -> u32 {
-    (x % 4294967296) as u32
 }
 
 #[no_mangle]
@@ -28,11 +23,11 @@ pub extern "C" fn trial_list(
         Listed::Count(count) => Counted {
             refusal: 0,
             extra: 0,
-            count: low(count),
+            count,
         },
         Listed::Refused { number, extra } => Counted {
-            refusal: low(number),
-            extra: low(extra),
+            refusal: number,
+            extra,
             count: 0,
         },
     }
@@ -64,5 +59,5 @@ pub extern "C" fn trial_build(
 
 #[no_mangle]
 pub extern "C" fn trial_run(text: &[u8], out: &mut [u8; MOST_OUTPUT]) -> usize {
-    run::run(text, out)
+    text_run::run(text, out)
 }

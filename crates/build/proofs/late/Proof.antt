@@ -4,7 +4,7 @@ use mathlib.Core.Path.{_∙_}
 use Prim.Native.Nat.{_^_, _<_}
 use native.Mathlib.Omega.{arith}
 use borrow.Author.Needs.{needs}
-use Rattle.indexed.specs.Written.{writtenAs}
+use Rattle.build_indexed.specs.Written.{writtenAs}
 use Rattle.build.proofs.Outcomes.{order-refused, condensed-fit, layout-ready, total-small, short-refused, finished}
 use Rattle.build.proofs.late.Statement.{statement}
 use Rattle.build.proofs.late.Tie as tie

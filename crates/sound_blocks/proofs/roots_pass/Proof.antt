@@ -2,7 +2,7 @@
 use mathlib.Core.Path.{sym, _∙_}
 use native.Mathlib.Omega.{arith}
 use borrow.Author.Tests.{eq-eqb, ne-eqb}
-use Rattle.sound_groups.proofs.Read.{can-read}
+use Rattle.stored.proofs.Read.{can-read}
 use Rattle.sound_ranks.proofs.Read.{m-was, place-was}
 use Rattle.sound_blocks.specs.Marks.{unmarked}
 use Rattle.sound_blocks.proofs.Walk.{Walks, walks-none, walks-end, walks-stop, walks-less, walks-left}

@@ -1,5 +1,5 @@
 -- `sound_groups::level_passes` meets its contract: the level read stands beside the level that the children give.
-use Rattle.sound_groups.proofs.Read.{can-read, was-read}
+use Rattle.stored.proofs.Read.{can-read, was-read}
 use Rattle.sound_groups.proofs.level_passes.Statement.{statement}
 use Rattle.sound_groups.proofs.level_passes.Tie as tie
 

@@ -4,7 +4,7 @@ use Prim.Native.Nat.{_-_}
 use native.Mathlib.Omega.{arith}
 use mathlib.Core.Logic.{⊎-elim}
 use Rattle.lineage.specs.Numbers.{numbers}
-use Rattle.sound_groups.proofs.Read.{can-read}
+use Rattle.stored.proofs.Read.{can-read}
 use Rattle.sound_groups.proofs.Listed.{Listed, listed-none, listed-skip, listed-over, listed-next, listed-other, listed-all}
 use Rattle.sound_groups.proofs.lists_names.Statement.{statement}
 use Rattle.sound_groups.proofs.lists_names.Tie as tie

@@ -1,6 +1,6 @@
 -- `sound_groups::own_name` meets its contract: the two numbers read are the vertex's name and that name's name.
 use native.Mathlib.Omega.{arith}
-use Rattle.sound_groups.proofs.Read.{can-read}
+use Rattle.stored.proofs.Read.{can-read}
 use Rattle.sound_groups.proofs.Names.{name-above, name-below}
 use Rattle.sound_groups.proofs.own_name.Statement.{statement}
 use Rattle.sound_groups.proofs.own_name.Tie as tie

@@ -4,7 +4,7 @@ use mathlib.Core.List.{[]}
 use Prim.Native.Nat.{_-_}
 use native.Mathlib.Omega.{arith}
 use lib.ListN.{getD}
-use Rattle.sound_groups.proofs.Row.{can-read-child, child-was}
+use Rattle.stored.proofs.Row.{can-read-child, child-was}
 use Rattle.sound_groups.proofs.Rising.{Rising, rising-none, rising-more, rising-high, rising-back, rising-all, row-passes-is}
 use Rattle.sound_groups.proofs.row_passes.Statement.{statement}
 use Rattle.sound_groups.proofs.row_passes.Tie as tie

@@ -3,7 +3,7 @@ use Prim.Native.Nat.{_-_}
 use native.Mathlib.Omega.{arith}
 use Rattle.lineage.specs.Numbers.{numbers}
 use Rattle.numbers.proofs.Numbers.{numbers-long}
-use Rattle.sound_groups.proofs.Read.{can-read, was-read}
+use Rattle.stored.proofs.Read.{can-read, was-read}
 use Rattle.numbers.proofs.Marks.{Marking, marking-none, marking-more, marking-all}
 use Rattle.sound_labels.proofs.mark_children.Statement.{statement}
 use Rattle.sound_labels.proofs.mark_children.Tie as tie

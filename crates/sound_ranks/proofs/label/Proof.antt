@@ -1,6 +1,6 @@
 -- `sound_ranks::label` meets its contract: the triples of k groups hold it.
 use native.Mathlib.Omega.{arith}
-use Rattle.sound_groups.proofs.Read.{can-read}
+use Rattle.stored.proofs.Read.{can-read}
 use borrow.Author.Needs.{needs}
 use Rattle.sound_ranks.proofs.label.Statement.{statement}
 use Rattle.sound_ranks.proofs.label.Tie as tie

@@ -1,6 +1,6 @@
 -- `sound_ranks::rank_passes` meets its contract: what was read is the place at the rank, and that place's e.
 use native.Mathlib.Omega.{arith}
-use Rattle.sound_groups.proofs.Read.{can-read}
+use Rattle.stored.proofs.Read.{can-read}
 use Rattle.sound_ranks.proofs.Ranks.{rank-beyond, rank-is}
 use Rattle.sound_ranks.proofs.rank_passes.Statement.{statement}
 use Rattle.sound_ranks.proofs.rank_passes.Tie as tie

@@ -3,7 +3,7 @@ use native.Mathlib.Omega.{arith}
 use mathlib.Core.Path.{_∙_}
 use borrow.Author.Needs.{needs}
 use Rattle.numbers.proofs.Numbers.{room}
-use Rattle.places.proofs.Vertices.{list-rises, list-low, name-listed, vertex-low, vertex-placed}
+use Rattle.sound_places.proofs.Vertices.{list-rises, list-low, name-listed, vertex-low, vertex-placed}
 use Rattle.ask.proofs.Soundness.{fit-marks, none-marked, marks-few, question-is}
 use Rattle.ask.proofs.question.question.Statement.{statement}
 use Rattle.ask.proofs.question.question.Tie as tie

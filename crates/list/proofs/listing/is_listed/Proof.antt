@@ -1,6 +1,6 @@
 -- `list::listing::is_listed` meets its contract: the two are one vertex, or the mark at the name that was read tells.
 use native.Mathlib.Omega.{arith}
-use Rattle.sound_groups.proofs.Read.{can-read, was-read}
+use Rattle.stored.proofs.Read.{can-read, was-read}
 use Rattle.list.proofs.Writing.{own-listed, mark-listed}
 use Rattle.list.proofs.listing.is_listed.Statement.{statement}
 use Rattle.list.proofs.listing.is_listed.Tie as tie

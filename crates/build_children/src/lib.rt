@@ -1,0 +1,30 @@
+// The children of every group, and its parents, laid out in work memory.
+ghost use Rattle.build_children.specs.Window.{ChildrenFit, ChildrenFound};
+
+// Lays out the children and the parents of each of k groups, told by their places, and returns how many children there are in all. The edges laid out by
+// target give for each group the places that its edges come from; turned, the places that its edges lead to, rising, repeats side by side; stripped, its
+// children; and turned again, its parents.
+pub fn children(
+    sources: &[u32],
+    targets: &[u32],
+    work: &mut [u32],
+    place: usize,
+    n: usize,
+    k: usize,
+    base: usize,
+) -> usize
+    requires { ⌜ ChildrenFit (record { n = n; sources = now sources; targets = now targets }) (now work) place k base ⌝ }
+    ensures { λ c. ⌜ ChildrenFound (record { n = n; sources = now (sources .entry); targets = now (targets .entry) }) (now (work .entry)) (now (work .exit)) place k base c ⌝ }
+{
+    let e = sources.len();
+    let parents = base + k + 1;
+    let sequence = parents + e;
+    let starts = sequence + k;
+    let children = starts + k + 1;
+    build_rows::count_up(work, sequence, k);
+    build_rows::rows(targets, sources, work, place, n, k, starts);
+    build_turning::turn(work, starts, children, e, k, sequence, base);
+    let c = build_stripping::strip(work, base, parents, e, k, starts);
+    build_turning::turn(work, starts, children, c, k, sequence, base);
+    c
+}
