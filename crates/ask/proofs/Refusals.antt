@@ -144,7 +144,7 @@ module _ {b : List ℕ} {l : Layout} (L : Laid b l) (u v : ℕ) (marks : List �
         -- and replies q, with marks m'
         pub late-answer :
             t ≡ true → (q : Reply) (m' : List ℕ) → answerBy q m' ≡ answer (indexIn b) u v
-            → Late b u v marks (answered (record { says = q .says; reason = q .reason; opened = q .opened })) (m' ++ drop (l .n) m)
+            → Late b u v marks (answered (record { says = q .says; reason = q .reason; opened = q .opened; deciding = q .deciding })) (m' ++ drop (l .n) m)
         late-answer h q m' e =
             rw behind
             (rw (← e) at (late-is (by-none (le-ltb _ _ long) (lt-leb _ _ source) (lt-leb _ _ target) (ap not (sym told ∙ h)))))

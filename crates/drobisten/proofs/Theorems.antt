@@ -33,13 +33,14 @@ opened-back : (o : Outcome Counts) → Told Some Any o → openedBy (hostOpened 
 opened-back (refused number extra) some = rw (ne-eqb number 0 (λ e. omega arith)) refl
 opened-back (answered a) some = refl
 
-yes-back : (says : Bool) (reason opened : ℕ) → askedBy (hostAsked (answered (record { says = says; reason = reason; opened = opened }))) ≡ answered (record { says = says; reason = reason; opened = opened })
-yes-back true reason opened = refl
-yes-back false reason opened = refl
+yes-back : (says : Bool) (reason opened deciding : ℕ) → let s : Said = record { says = says; reason = reason; opened = opened; deciding = deciding } in
+    askedBy (hostAsked (answered s)) ≡ answered s
+yes-back true reason opened deciding = refl
+yes-back false reason opened deciding = refl
 
 asked-back : (o : Outcome Said) → Told Some Any o → askedBy (hostAsked o) ≡ o
 asked-back (refused number extra) some = rw (ne-eqb number 0 (λ e. omega arith)) refl
-asked-back (answered s) some = yes-back (s .says) (s .reason) (s .opened)
+asked-back (answered s) some = yes-back (s .says) (s .reason) (s .opened) (s .deciding)
 
 -- so are the outcomes that the calls give
 pub opened-read : (b : List ℕ) (m : ℕ) → openedBy (hostOpened (openAnswer b m)) ≡ openAnswer b m
@@ -76,7 +77,7 @@ pub host-right :
     {b : List ℕ} {u v : ℕ} {marks : List ℕ} {r : DrobistenAsked} {m : List ℕ} → Asks b u v marks r m → r .refusal ≡ 0 → (M : Made (indexIn b))
     → (r .yes ≡ 1) ↔ Reaches (M .graph) u v
 host-right {b} {u} {v} {marks} {r} A none M =
-    let s : Said = record { says = eqb (r .yes) 1; reason = r .reason; opened = r .opened } in
+    let s : Said = record { says = eqb (r .yes) 1; reason = r .reason; opened = r .opened; deciding = r .labelling } in
     let e : askAnswer b u v (length marks) ≡ answered s =
     sym (asked-read b u v (length marks)) ∙ ap askedBy (sym (A .returns)) ∙ ap (λ (x : ℕ). cond (eqb x 0) (answered s) (refused x (r .extra))) none in
     Iff·trans (eq-eqb (r .yes) 1, eqb-true (r .yes) 1) (asked-right b u v marks s e M)

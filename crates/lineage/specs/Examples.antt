@@ -128,6 +128,8 @@ table =
     ∷ question 2 0 (answered (said false 3 0 0))
     ∷ question 4 0 (refused 14 0)
     ∷ [])
+    -- of two labellings that both rule the target out, the first is named
+    ∷ answerIs G (A ∷ B ∷ []) 0 5 (said false 4 0 1) (0 ∷ 0 ∷ 0 ∷ 0 ∷ 0 ∷ 0 ∷ [])
     -- a vertex of n or more, source first
     ∷ questionsAre H (rising ∷ []) (question 0 4 (refused 14 1) ∷ question 9 4 (refused 14 0) ∷ [])
     -- names do not move with the sequence of the edges
@@ -145,4 +147,4 @@ table =
 claim : Every Right table
 unfolding condense indexOf encode openAnswer askAnswer askMarks listAnswer listOutput buildAnswer
 claim =
-    ((refl, refl), (refl, (refl, (refl, ((refl, refl), ((refl, refl), ((refl, refl), ((refl, refl), (refl, (refl, (refl, ((λ u v. rw leb·zero), ((refl, (refl, (refl, (refl, (refl, tt))))), ((refl, (refl, tt)), ((refl, refl), (refl, (refl, ((refl, refl, refl), (refl, (refl, (refl, tt)))))))))))))))))))))
+    ((refl, refl), (refl, (refl, (refl, ((refl, refl), ((refl, refl), ((refl, refl), ((refl, refl), (refl, (refl, (refl, ((λ u v. rw leb·zero), ((refl, (refl, (refl, (refl, (refl, tt))))), ((refl, refl), ((refl, (refl, tt)), ((refl, refl), (refl, (refl, ((refl, refl, refl), (refl, (refl, (refl, tt))))))))))))))))))))))

@@ -5,9 +5,9 @@ use Prim.Native.Nat.{ℕ, _+_, _*_}
 use lib.ListN.{length, take, drop}
 use Rattle.text.specs.Blocks.{mostQuestions}
 
--- a buffer for the longest output: 54 bytes for the line of each question
+-- a buffer for the longest output: 62 bytes for the line of each question, 31 for each of its two vertices
 abbrev pub mostOutput : ℕ
-mostOutput = 54 * mostQuestions
+mostOutput = 62 * mostQuestions
 
 -- the buffer with these bytes from a position on
 unfoldable pub placed : List ℕ → ℕ → List ℕ → List ℕ

@@ -19,10 +19,11 @@ bytes o i = omega (arith, o .before .before .before .shared-slice-known .given i
 
 -- an answer: the cast makes 1 of yes and 0 of no
 answer-is :
-    (says : Bool) (reason opened : ℕ)
-    → record { refusal = 0; extra = 0; yes = boolByte says; reason = reason; opened = opened } ≡ hostAsked (answered (record { says = says; reason = reason; opened = opened }))
-answer-is true reason opened = refl
-answer-is false reason opened = refl
+    (says : Bool) (reason opened deciding : ℕ)
+    → record { refusal = 0; extra = 0; yes = boolByte says; reason = reason; opened = opened; labelling = deciding }
+    ≡ hostAsked (answered (record { says = says; reason = reason; opened = opened; deciding = deciding }))
+answer-is true reason opened deciding = refl
+answer-is false reason opened deciding = refl
 
 -- a refusal
 refusal : (c : tie.After-known-told2) → let g = c .before .number .given .0 in Words (g .0) (g .1 .0)
@@ -54,7 +55,7 @@ same-length c = search needs
 returns : tie.Need-returns
 returns c =
     let o = c .before .before .before .before .before in
-    (answer-is (c .before .says .given .0 .0) _ _ ∙ ap hostAsked (ap askedOf (sym (c .before .says .given .1)) ∙ o .ask .ensures .0), o .ask .ensures .1)
+    (answer-is (c .before .says .given .0 .0) _ _ _ ∙ ap hostAsked (ap askedOf (sym (c .before .says .given .1)) ∙ o .ask .ensures .0), o .ask .ensures .1)
 
 same-length-2 : tie.Need-same-length-2
 same-length-2 c = search needs
