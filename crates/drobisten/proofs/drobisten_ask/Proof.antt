@@ -37,17 +37,17 @@ ask-requires c κs = search needs
 enum-known-says : tie.Need-enum-known-says
 enum-known-says c = search needs
 
-cast-t14 : tie.Need-cast-t14
-cast-t14 c = search needs
+cast-t15 : tie.Need-cast-t15
+cast-t15 c = search needs
 
 enum-known-number : tie.Need-enum-known-number
 enum-known-number c = search needs
 
-cast-t15 : tie.Need-cast-t15
-cast-t15 c = omega (arith, refusal c .0)
-
 cast-t16 : tie.Need-cast-t16
-cast-t16 c = omega (arith, refusal c .1)
+cast-t16 c = omega (arith, refusal c .0)
+
+cast-t17 : tie.Need-cast-t17
+cast-t17 c = omega (arith, refusal c .1)
 
 same-length : tie.Need-same-length
 same-length c = search needs
@@ -71,10 +71,10 @@ drobisten-ask-spec =
     (tie.spec
     ask-requires
     enum-known-says
-    cast-t14
-    enum-known-number
     cast-t15
+    enum-known-number
     cast-t16
+    cast-t17
     same-length
     returns
     same-length-2
