@@ -16,8 +16,8 @@
  *
  *     gcc -Iinclude examples/host.c target/staticlib/libdrobisten.a -o host
  *
- * A host is compiled with the header of its archive: a call writes its whole struct, 24 bytes for each of the two, to where the host expects one. An object
- * file from a header whose struct is shorter has what stands behind it written over.
+ * A host is compiled with the header of its archive. Either call writes a struct of 24 bytes where the host has made room for its own; an object file that was
+ * compiled with a header whose struct is shorter has the bytes behind it written over.
  *
  * THREADS. Calls share nothing. Any number may run at the same time on the same index, each with marks of its own, as long as nobody writes to the index.
  *
