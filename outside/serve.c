@@ -3,6 +3,7 @@
  * element past its length ends this process, and with it the test. The library is x86-64 code; the program that asks may run on any machine. */
 #define _DEFAULT_SOURCE
 #include <drobisten.h>
+#include <pthread.h>
 #include <stdio.h>
 #include <stdlib.h>
 #include <string.h>
@@ -23,7 +24,7 @@ __attribute__((weak)) size_t trial_run(const uint8_t *text, size_t text_len, uin
 _Static_assert(sizeof(drobisten_opened) == 24, "drobisten_opened is 24 bytes");
 _Static_assert(sizeof(drobisten_asked) == 24 && offsetof(drobisten_asked, labelling) == 20, "drobisten_asked is 24 bytes, labelling its last four");
 
-enum { OPEN = 1, ASK = 2, LIST = 3, BUILD = 4, ASK_ALL = 5, RUN = 6 };
+enum { OPEN = 1, ASK = 2, LIST = 3, BUILD = 4, ASK_ALL = 5, RUN = 6, BUILD_SMALL = 26, ASK_SMALL = 27 };
 
 /* the bytes that a run is lent for its output, and what they hold before it */
 enum { MOST_OUTPUT = 338582, PATTERN = 0xa5 };
@@ -70,6 +71,25 @@ static void give_back(lent b) {
     done(b);
 }
 
+/* does a job on a thread whose stack is 16 KB, the least that pthreads allow, and lies above a page that nothing may touch: a job that takes more ends this process */
+enum { SMALL_STACK = 16384 };
+
+static void on_small_stack(void *(*work)(void *), void *job) {
+    size_t page = (size_t)sysconf(_SC_PAGESIZE);
+    uint8_t *room = mmap(NULL, page + SMALL_STACK, PROT_READ | PROT_WRITE, MAP_PRIVATE | MAP_ANONYMOUS, -1, 0);
+    pthread_attr_t small;
+    pthread_t thread;
+    if (room == MAP_FAILED || mprotect(room, page, PROT_NONE)) exit(3);
+    if (pthread_attr_init(&small) || pthread_attr_setstack(&small, room + page, SMALL_STACK)) exit(3);
+    if (pthread_create(&thread, &small, work, job) || pthread_join(thread, NULL)) exit(3);
+    munmap(room, page + SMALL_STACK);
+}
+
+static void on_own_stack(void *(*work)(void *), void *job) { work(job); }
+
+/* where a call is made */
+typedef void place(void *(*work)(void *), void *job);
+
 static void serve_open(void) {
     lent index = buffer(1), marks = buffer(1);
     drobisten_opened r = drobisten_open(index.at, index.length, marks.at, marks.length);
@@ -78,13 +98,24 @@ static void serve_open(void) {
     give_back(marks);
 }
 
-static void serve_ask(void) {
-    uint32_t source = number(), target = number();
-    lent index = buffer(1), marks = buffer(1);
-    drobisten_asked r = drobisten_ask(index.at, index.length, marks.at, marks.length, source, target);
-    give(&r, sizeof r);
-    done(index);
-    give_back(marks);
+typedef struct { uint32_t source, target; lent index, marks; drobisten_asked r; } asking;
+
+static void *ask(void *job) {
+    asking *a = job;
+    a->r = drobisten_ask(a->index.at, a->index.length, a->marks.at, a->marks.length, a->source, a->target);
+    return NULL;
+}
+
+static void serve_ask(place where) {
+    asking a;
+    a.source = number();
+    a.target = number();
+    a.index = buffer(1);
+    a.marks = buffer(1);
+    where(ask, &a);
+    give(&a.r, sizeof a.r);
+    done(a.index);
+    give_back(a.marks);
 }
 
 /* one index, many questions, the same marks before each: answers, then each question's marks */
@@ -115,17 +146,31 @@ static void serve_list(void) {
     give_back(out);
 }
 
-static void serve_build(void) {
-    uint32_t n = number(), d = number();
-    lent sources = buffer(4), targets = buffer(4), orders = buffer(4), work = buffer(4), out = buffer(1);
-    counted r = trial_build((uint32_t *)sources.at, sources.length, (uint32_t *)targets.at, targets.length, (uint32_t *)orders.at, orders.length,
-                            (uint32_t *)work.at, work.length, out.at, out.length, n, d);
-    give(&r, sizeof r);
-    done(sources);
-    done(targets);
-    done(orders);
-    give_back(work);
-    give_back(out);
+typedef struct { uint32_t n, d; lent sources, targets, orders, work, out; counted r; } building;
+
+static void *build(void *job) {
+    building *b = job;
+    b->r = trial_build((uint32_t *)b->sources.at, b->sources.length, (uint32_t *)b->targets.at, b->targets.length, (uint32_t *)b->orders.at, b->orders.length,
+                       (uint32_t *)b->work.at, b->work.length, b->out.at, b->out.length, b->n, b->d);
+    return NULL;
+}
+
+static void serve_build(place where) {
+    building b;
+    b.n = number();
+    b.d = number();
+    b.sources = buffer(4);
+    b.targets = buffer(4);
+    b.orders = buffer(4);
+    b.work = buffer(4);
+    b.out = buffer(1);
+    where(build, &b);
+    give(&b.r, sizeof b.r);
+    done(b.sources);
+    done(b.targets);
+    done(b.orders);
+    give_back(b.work);
+    give_back(b.out);
 }
 
 /* how many bytes are printed, how many behind them are not as they were, and the bytes printed */
@@ -145,11 +190,13 @@ int main(void) {
     while (fread(&call, 4, 1, stdin) == 1) {
         switch (call) {
         case OPEN: serve_open(); break;
-        case ASK: serve_ask(); break;
+        case ASK: serve_ask(on_own_stack); break;
         case LIST: if (!trial_list) return 5; serve_list(); break;
-        case BUILD: if (!trial_build) return 5; serve_build(); break;
+        case BUILD: if (!trial_build) return 5; serve_build(on_own_stack); break;
         case ASK_ALL: serve_ask_all(); break;
         case RUN: if (!trial_run) return 5; serve_run(); break;
+        case BUILD_SMALL: if (!trial_build) return 5; serve_build(on_small_stack); break;
+        case ASK_SMALL: serve_ask(on_small_stack); break;
         default: return 4;
         }
         if (fflush(stdout)) return 2;

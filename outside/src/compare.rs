@@ -1,7 +1,7 @@
 //! One call made twice, of the library and of the independent program, on the same input and equal buffers: outcomes and buffers must be equal. Buffers
 //! are lent with a pattern in them and a few elements behind what the call may touch.
 
-use crate::Library;
+use crate::{Library, Outcome};
 use independent::chance::Chance;
 use independent::graph::flat;
 use independent::{Answer, Graph, Index};
@@ -121,10 +121,15 @@ impl Input {
 
 /// A build into memory of these sizes.
 pub fn build(library: &mut Library, input: &Input, work: usize, out: usize) {
+    build_by(Library::build, library, input, work, out);
+}
+
+/// The same by a call of the library that builds in some way of its own.
+pub fn build_by(call: fn(&mut Library, &Input, &mut [u32], &mut [u8]) -> Outcome<u32>, library: &mut Library, input: &Input, work: usize, out: usize) {
     let (mut our_work, mut their_work) = (vec![0x5a5a_5a5a; work], vec![0x5a5a_5a5a; work]);
     let (mut our_out, mut their_out) = (vec![PATTERN; out], vec![PATTERN; out]);
     let Input { n, sources, targets, orders, d } = input;
-    let got = library.build(*n, sources, targets, orders, *d, &mut our_work, &mut our_out);
+    let got = call(library, input, &mut our_work, &mut our_out);
     let expected = independent::build(*n, sources, targets, orders, *d, &mut their_work, &mut their_out);
     assert_eq!(got, expected, "build of {n} vertices, {} edges, d = {d}, work {work}, out {out}", sources.len());
     assert!(our_out == their_out, "the output of a build of {n} vertices, {} edges, d = {d}: {expected:?}", sources.len());

@@ -4,8 +4,10 @@
 pub mod compare;
 pub mod texts;
 
+use compare::Input;
 use independent::{Answer, Counts, Refusal};
 use std::io::{BufReader, BufWriter, Read, Write};
+use std::os::unix::process::ExitStatusExt;
 use std::process::{Child, ChildStdin, ChildStdout, Command, Stdio};
 
 /// The process that holds the library.
@@ -24,6 +26,14 @@ const LIST: u32 = 3;
 const BUILD: u32 = 4;
 const ASK_ALL: u32 = 5;
 const RUN: u32 = 6;
+const BUILD_SMALL: u32 = 26;
+const ASK_SMALL: u32 = 27;
+
+/// The signal of a touch that is forbidden.
+const SIGSEGV: i32 = 11;
+
+/// What a server that has ended leaves to say.
+const UNANSWERED: &str = "the library answers, and touches nothing but what it was lent";
 
 /// The server that `outside/make` made, unless the environment names another.
 fn server() -> String {
@@ -58,12 +68,17 @@ impl Library {
         }
     }
 
-    /// Numbers of a reply. A server that has ended has touched what was not lent.
-    fn reply<const N: usize>(&mut self) -> [u32; N] {
+    /// Numbers of a reply; none where the server has ended.
+    fn reply_if_any<const N: usize>(&mut self) -> Option<[u32; N]> {
         self.to.flush().unwrap();
         let mut bytes = vec![0u8; 4 * N];
-        self.from.read_exact(&mut bytes).expect("the library answers, and touches nothing but what it was lent");
-        std::array::from_fn(|i| u32::from_le_bytes(bytes[4 * i..4 * i + 4].try_into().unwrap()))
+        self.from.read_exact(&mut bytes).ok()?;
+        Some(std::array::from_fn(|i| u32::from_le_bytes(bytes[4 * i..4 * i + 4].try_into().unwrap())))
+    }
+
+    /// Numbers of a reply. A server that has ended has touched what was not lent.
+    fn reply<const N: usize>(&mut self) -> [u32; N] {
+        self.reply_if_any().expect(UNANSWERED)
     }
 
     fn bytes_back(&mut self, b: &mut [u8]) {
@@ -95,14 +110,27 @@ impl Library {
     }
 
     pub fn ask(&mut self, index: &[u8], source: u32, target: u32, marks: &mut [u8]) -> Outcome<Answer> {
-        self.number(ASK);
+        self.ask_by(ASK, index, source, target, marks).expect(UNANSWERED)
+    }
+
+    /// The same on a thread with a stack of 16 KB; none where the question has touched the forbidden page below it, which ends the server.
+    pub fn ask_small(&mut self, index: &[u8], source: u32, target: u32, marks: &mut [u8]) -> Option<Outcome<Answer>> {
+        let said = self.ask_by(ASK_SMALL, index, source, target, marks);
+        if said.is_none() {
+            assert_eq!(self.child.wait().expect("the server has ended").signal(), Some(SIGSEGV));
+        }
+        said
+    }
+
+    fn ask_by(&mut self, call: u32, index: &[u8], source: u32, target: u32, marks: &mut [u8]) -> Option<Outcome<Answer>> {
+        self.number(call);
         self.number(source);
         self.number(target);
         self.bytes(index);
         self.bytes(marks);
-        let reply = self.reply();
+        let reply = self.reply_if_any()?;
         self.bytes_back(marks);
-        Self::answer(reply)
+        Some(Self::answer(reply))
     }
 
     /// Many questions of one index, each with the same marks lent; each answer with the marks after it.
@@ -134,14 +162,22 @@ impl Library {
         outcome(refusal, extra, count == 0, count)
     }
 
-    #[allow(clippy::too_many_arguments)]
-    pub fn build(&mut self, n: u32, sources: &[u32], targets: &[u32], orders: &[u32], d: u32, work: &mut [u32], out: &mut [u8]) -> Outcome<u32> {
-        self.number(BUILD);
-        self.number(n);
-        self.number(d);
-        self.words(sources);
-        self.words(targets);
-        self.words(orders);
+    pub fn build(&mut self, input: &Input, work: &mut [u32], out: &mut [u8]) -> Outcome<u32> {
+        self.build_by(BUILD, input, work, out)
+    }
+
+    /// The same on a thread with a stack of 16 KB.
+    pub fn build_small(&mut self, input: &Input, work: &mut [u32], out: &mut [u8]) -> Outcome<u32> {
+        self.build_by(BUILD_SMALL, input, work, out)
+    }
+
+    fn build_by(&mut self, call: u32, input: &Input, work: &mut [u32], out: &mut [u8]) -> Outcome<u32> {
+        self.number(call);
+        self.number(input.n);
+        self.number(input.d);
+        self.words(&input.sources);
+        self.words(&input.targets);
+        self.words(&input.orders);
         self.words(work);
         self.bytes(out);
         let [refusal, extra, total] = self.reply();
