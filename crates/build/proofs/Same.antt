@@ -6,7 +6,7 @@ use Prim.Native.Nat.{ℕ}
 use lib.ListN.{length, take}
 use Rattle.lineage.specs.Lists.{upto}
 use Rattle.lineage.specs.Graph.{Edge, Ends}
-use Rattle.lineage.specs.Index.{indexOf}
+use Rattle.lineage.specs.Index.{Index, indexOf}
 use Rattle.lineage.specs.Stored.{form1, encode}
 use Rattle.lineage.specs.Calls.{answered, Input, orderAt, ordersOf, built}
 use Rattle.laws_same.specs.Same.{SameLineage, SameEdges, Shuffled, OneMore}
@@ -32,18 +32,17 @@ pub record Finished (B : Input) : Type 0 where
 abbrev pub SameBytes : {B B′ : Input} → Finished B → Finished B′ → Type 0
 SameBytes D D′ = (D .total ≡ D′ .total) × (take (D .total) (D .out') ≡ take (D′ .total) (D′ .out'))
 
--- what a build is to store
-abbrev bytesOf : Input → List ℕ
-bytesOf B = encode form1 (built B)
+abbrev bytesOf : Index → List ℕ
+bytesOf I = encode form1 I
 
 module _ {B : Input} (D : Finished B) where
   ends-right : Ends (B .graph)
   ends-right = input-right B (D .work) (D .out) (D .result) (D .work') (D .out') (D .allowed) (D .total) (D .done) .ends
 
-  total-is : length (bytesOf B) ≡ D .total
+  total-is : length (bytesOf (built B)) ≡ D .total
   total-is = total-right B (D .work) (D .out) (D .result) (D .work') (D .out') (D .allowed) (D .total) (D .done)
 
-  bytes-are : take (D .total) (D .out') ≡ bytesOf B
+  bytes-are : take (D .total) (D .out') ≡ bytesOf (built B)
   bytes-are = build-stores B (D .work) (D .out) (D .result) (D .work') (D .out') (D .allowed) (D .total) (D .done)
 
 module _
@@ -57,7 +56,7 @@ module _
     pub builds-same : SameLineage (B .graph) (B′ .graph) → SameBytes D D′
     builds-same same =
         let index = lineage-same (B .graph) (B′ .graph) (ends-right D) (ends-right D′) size same (ordersOf B) ∙ ap (indexOf (B′ .graph)) orders-same in
-        let bytes : bytesOf B ≡ bytesOf B′ = ap (encode form1) index in
+        let bytes : bytesOf (built B) ≡ bytesOf (built B′) = ap bytesOf index in
         (sym (total-is D) ∙ ap length bytes ∙ total-is D′, bytes-are D ∙ bytes ∙ sym (bytes-are D′))
 
     -- so wherever the same edges lead between different vertices, each any number of times and in any order

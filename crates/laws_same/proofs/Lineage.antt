@@ -79,9 +79,7 @@ module _ (G H : Graph) (ends-G : Ends G) (ends-H : Ends H) (size : G .n ≡ H .n
   children-same : childrenOf G names gs ≡ childrenOf H names gs
   unfolding childrenOf
   children-same =
-      map-same (λ a. those (λ q. isChild G names a (getD gs q 0)) (upto (length gs))) (λ a. those (λ q. isChild H names a (getD gs q 0)) (upto (length gs))) gs
-      (λ a i. those-same (λ q. isChild G names a (getD gs q 0)) (λ q. isChild H names a (getD gs q 0)) (upto (length gs))
-      (λ q j. child-same a (getD gs q 0) i (in-getD gs q (upto-low (length gs) q j))))
+      map-same _ _ gs (λ a i. those-same _ _ (upto (length gs)) (λ q j. child-same a (getD gs q 0) i (in-getD gs q (upto-low (length gs) q j))))
 
   -- the same index, under the same orders
   pub lineage-same : (orders : List (List ℕ)) → indexOf G orders ≡ indexOf H orders
