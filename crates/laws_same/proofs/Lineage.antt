@@ -7,7 +7,7 @@ use mathlib.Core.List.{List}
 use Prim.Native.Nat.{ℕ, _<_}
 use native.Mathlib.Omega.{arith}
 use lib.ListN.{length, getD}
-use Rattle.lineage.specs.Lists.{upto, among, those}
+use Rattle.lineage.specs.Lists.{upto, among}
 use Rattle.lineage.specs.Graph.{Graph, Ends, namesOf, groupList, isChild, childrenOf, condense}
 use Rattle.lineage.specs.Index.{indexOf}
 use Rattle.laws.specs.Leads.{OneGroup}

@@ -1,6 +1,5 @@
 -- Shuffling the edges, repeating one, or adding a self-loop leaves the edges between different vertices as they were. An edge is a position of the two lists: a
 -- permutation of the positions keeps each of them, and the edge put in is there already or leads from a vertex to itself.
-use mathlib.Core.Bool.{true}
 use mathlib.Core.Logic.{_≢_}
 use mathlib.Core.Path.{_≡_, refl, sym, _∙_}
 use mathlib.Core.List.{List, map}
@@ -8,7 +7,6 @@ use Prim.Native.Nat.{ℕ, _<_}
 use native.Mathlib.Decide.{decLt}
 use native.Mathlib.Omega.{arith}
 use lib.ListN.{length, getD, List·getD-eq-default}
-use Rattle.lineage.specs.Lists.{among}
 use Rattle.lineage.specs.Graph.{Graph, Edge, first, later}
 use Rattle.laws.proofs.Edges.{edge-at, edge-position, edge-map, map-edge}
 use Rattle.laws_same.specs.Same.{SameEdges, Shuffled, Inserted, here, behind, OneMore}
