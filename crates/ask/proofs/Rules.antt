@@ -99,3 +99,11 @@ module _ {w k d t : ℕ} {groups levels starts children labels : List ℕ} {mark
       let G : Gains m (walked f l n m') =
       rw e (open-gains (netIn w k d t groups levels starts children labels) (net-within F) L x m long h (rw (← net-spot F x h) (ne-eqb _ _ free))) in
       omega (arith, G .gain, G .long, ones-low m')
+
+-- and it opens x
+pub walk-opens :
+    {w k d t : ℕ} {groups levels starts children labels : List ℕ} {marks : ℕ} (F : Fit w k d t groups levels starts children labels marks)
+    (L x : ℕ) (m : List ℕ) (f : Bool) (l n : ℕ) (m' : List ℕ)
+    → walked f l n m' ≡ openAt (netIn w k d t groups levels starts children labels) (L + 1) x m → 1 ≤ n
+unfolding openAt
+walk-opens F L x m f l n m' e = omega (arith, ap (λ (a : Walked). a .opened) (rw add-one at e))

@@ -65,6 +65,7 @@ fn ask_laid(index: &[u8], l: Layout, source: usize, target: usize, marks: &mut [
         source,
         target,
         &mut marks[..n],
+        1,
     );
     Asked::Answer {
         says: r.says,

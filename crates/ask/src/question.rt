@@ -7,10 +7,11 @@ ghost use Rattle.lineage.specs.Numbers.{numAt};
 ghost use Rattle.lineage.specs.Question.{between, answer};
 ghost use Rattle.stored.specs.Sections.{indexAt};
 ghost use Rattle.sound_places.specs.Lent.{Lent};
-ghost use Rattle.ask_walk.specs.Fit.{groupsIn, Fit};
+ghost use Rattle.ask_walk.specs.Fit.{groupsIn, netIn, Fit, Safe};
+ghost use Rattle.ask_walk.specs.Stamps.{seenAs, AtMost};
 ghost use Rattle.ask.specs.Replies.{answerBy};
-use stored_header::Layout;
 use ask_walk::Seen;
+use stored_header::Layout;
 
 // Yes or no, the reason, the number of the labelling that decided (0 where none did), and the number of groups opened.
 pub struct Reply {
@@ -69,10 +70,13 @@ pub fn decide(
     x: usize,
     t: usize,
     marks: &mut [u8],
+    stamp: u8,
 ) -> Reply
     requires { ⌜ Fit w k d t (now groups) (now levels) (now starts) (now children) (now labels) (length (now marks)) ⌝ }
-    requires { ⌜ (x < k) × ((getD (now marks) (numAt w (now groups) x) 0 ≡ 1 → ⊥) × (length (now marks) ≤ 200000)) ⌝ }
-    ensures { λ r. ⌜ answerBy r (now (marks .exit)) ≡ between (groupsIn w k d (now (groups .entry)) (now (levels .entry)) (now (starts .entry)) (now (children .entry)) (now (labels .entry))) x t (now (marks .entry)) ⌝ }
+    requires { ⌜ (x < k) × ((getD (now marks) (numAt w (now groups) x) 0 ≡ stamp → ⊥) × ((length (now marks) ≤ 200000) × (AtMost stamp (now marks) × Safe (netIn w k d t (now groups) (now levels) (now starts) (now children) (now labels)) k (seenAs stamp (now marks))))) ⌝ }
+    ensures { λ r. ⌜ answerBy r (seenAs stamp (now (marks .exit))) ≡ between (groupsIn w k d (now (groups .entry)) (now (levels .entry)) (now (starts .entry)) (now (children .entry)) (now (labels .entry))) x t (seenAs stamp (now (marks .entry))) ⌝ }
+    ensures { λ _. ⌜ AtMost stamp (now (marks .exit)) ⌝ }
+    ensures { λ r. ⌜ (r .opened ≡ 0 → now (marks .exit) ≡ now (marks .entry)) ⌝ }
 {
     if x == t {
         return plain(true, 1, 0);
@@ -102,11 +106,13 @@ pub fn decide(
         marks,
         level,
         x,
+        stamp,
     );
     by_walk(a)
 }
 
-// The answer between two vertices; the marks, one for each vertex, are all 0 before.
+// The answer between two vertices; of the marks, one for each vertex, none bears the stamp before, and none a higher one. Where no group is opened, the marks
+// stay as they were.
 pub fn question(
     names: &[u8],
     groups: &[u8],
@@ -118,10 +124,13 @@ pub fn question(
     u: usize,
     v: usize,
     marks: &mut [u8],
+    stamp: u8,
 ) -> Reply
     requires { ⌜ Lent l (now names) (now groups) (now levels) (now starts) (now children) (now labels) ⌝ }
-    requires { ⌜ (u < l .n) × ((v < l .n) × (now marks ≡ replicate (l .n) 0)) ⌝ }
-    ensures { λ r. ⌜ answerBy r (now (marks .exit)) ≡ answer (indexAt l (now (names .entry)) (now (groups .entry)) (now (levels .entry)) (now (starts .entry)) (now (children .entry)) (now (labels .entry))) u v ⌝ }
+    requires { ⌜ (u < l .n) × ((v < l .n) × ((seenAs stamp (now marks) ≡ replicate (l .n) 0) × AtMost stamp (now marks))) ⌝ }
+    ensures { λ r. ⌜ answerBy r (seenAs stamp (now (marks .exit))) ≡ answer (indexAt l (now (names .entry)) (now (groups .entry)) (now (levels .entry)) (now (starts .entry)) (now (children .entry)) (now (labels .entry))) u v ⌝ }
+    ensures { λ _. ⌜ AtMost stamp (now (marks .exit)) ⌝ }
+    ensures { λ r. ⌜ (r .opened ≡ 0 → now (marks .exit) ≡ now (marks .entry)) ⌝ }
 {
     let w = l.width;
     let n = l.n;
@@ -140,5 +149,6 @@ pub fn question(
         x,
         t,
         marks,
+        stamp,
     )
 }

@@ -2,21 +2,24 @@
 -- intervals; and the number of the first labelling that passes a test is found by going through them.
 use mathlib.Core.Path.{_≡_, refl, sym, ap, _∙_}
 use mathlib.Core.Bool.{Bool, true, false, not, _&&_, cond, and-false}
-use mathlib.Core.List.{List, _∷_}
+use mathlib.Core.Logic.{_≢_}
+use mathlib.Core.List.{List, [], _∷_}
 use Prim.Native.Nat.{ℕ, zero, suc, _+_, _*_, _≤_, _<_}
 use native.Mathlib.Omega.{arith}
 use native.Mathlib.Numerals.{add-one}
 use native.Mathlib.Nat.{mul-le-mul-left}
 use borrow.Author.Count.{below-more}
+use borrow.Author.Tests.{not-true, not-false}
 use lib.ListN.{length, drop, drop-of-length-le}
 use lib.Seq.{drop-cons}
 use Rattle.lineage.specs.Labels.{Labelling}
 use Rattle.lineage.specs.Question.{inside, outside, firstFrom, firstLabelling}
+use Rattle.laws.proofs.Tests.{and-both}
 use Rattle.laws.proofs.Lists.{table-at}
 use Rattle.numbers.specs.Regions.{Part}
 use Rattle.stored.specs.Sections.{labellingIn, triplesOf, placesOf, labelsIn}
 use Rattle.stored.proofs.Sections.{s-at, m-at, e-at, labels-long}
-use Rattle.ask_intervals.specs.Intervals.{innerBound, outerBound}
+use Rattle.ask_intervals.specs.Intervals.{innerBound, outerBound, freeBound, Told}
 
 -- number i of the triple of x lies within l bytes
 pub in-triple : (w x i l : ℕ) → (i < 3) × (w * (3 * x + 3) ≤ l) → w * (3 * x + i) + w ≤ l
@@ -38,6 +41,17 @@ one-fails p (suc (suc b)) h e = absurd (omega arith)
 -- one bound more holds
 pub one-more : (p : ℕ → Bool) (b : ℕ) (r : Bool) → ((j : ℕ) → j < b → p j ≡ true) → r ≡ p b → r ≡ true → (j : ℕ) → j < b + 1 → p j ≡ true
 one-more p b r below e h = below-more (λ j. p j ≡ true) b below (cc)
+
+-- a number that is given is not below that of the first labelling looked at
+first-late : (p : Labelling → Bool) (n : ℕ) (ls : List Labelling) → firstFrom (suc n) p ls ≢ 0 → n < firstFrom (suc n) p ls
+first-late p n [] z = absurd (z refl)
+first-late p n (l ∷ ls) z = at (p l) z (first-late p (suc n) ls)
+  where
+    at :
+        (b : Bool) → cond b (suc n) (firstFrom (suc (suc n)) p ls) ≢ 0 → (firstFrom (suc (suc n)) p ls ≢ 0 → suc n < firstFrom (suc (suc n)) p ls)
+        → n < cond b (suc n) (firstFrom (suc (suc n)) p ls)
+    at true z ih = omega arith
+    at false z ih = omega (arith, ih z)
 
 module _ (w k : ℕ) (labels : List ℕ) where
   -- labelling l of the labels
@@ -66,6 +80,34 @@ module _ (w k : ℕ) (labels : List ℕ) where
 
     pub not-outside : ((b : ℕ) → b < 2 → outerBound w triples x t b ≡ true) → outside x t (own l) ≡ false
     not-outside h = outside-is ∙ ap not (both-hold (outerBound w triples x t) h)
+
+    -- the bounds in the order in which they decide: where 1 is the first that fails, the inner test passes; where 0 or 2 fails, the outer test rules out; where
+    -- none fails, neither test decides
+    pub free-inside : (b : ℕ) (r : Bool) → ((j : ℕ) → j < b → freeBound w triples x t j ≡ true) → b ≡ 1 → r ≡ freeBound w triples x t b → r ≡ false → inside x t (own l) ≡ true
+    free-inside b r below one i f =
+        let fails : freeBound w triples x t 1 ≡ false = ap (freeBound w triples x t) (sym one) ∙ sym i ∙ f in
+        inside-is ∙ and-both (not-false (innerBound w triples x t 0) fails) (below 0 (omega (arith, one)))
+
+    pub free-outside : (b : ℕ) (r : Bool) → b < 3 → b ≢ 1 → r ≡ freeBound w triples x t b → r ≡ false → outside x t (own l) ≡ true
+    free-outside zero r h n i f = is-outside 1 r (omega arith) i f
+    free-outside (suc zero) r h n i f = absurd (n refl)
+    free-outside (suc (suc zero)) r h n i f = is-outside 0 r (omega arith) i f
+    free-outside (suc (suc (suc b))) r h n i f = absurd (omega arith)
+
+    pub free-not-inside :
+        (b : ℕ) (r : Bool) → ((j : ℕ) → j < b → freeBound w triples x t j ≡ true) → b < 3 → b ≢ 1 → r ≡ freeBound w triples x t b → r ≡ false
+        → inside x t (own l) ≡ false
+    free-not-inside zero r below h n i f = not-inside 1 r (omega arith) i f
+    free-not-inside (suc zero) r below h n i f = absurd (n refl)
+    free-not-inside (suc (suc zero)) r below h n i f =
+        not-inside 0 (innerBound w triples x t 0) (omega arith) refl (not-true (innerBound w triples x t 0) (below 1 (omega arith)))
+    free-not-inside (suc (suc (suc b))) r below h n i f = absurd (omega arith)
+
+    pub free-neither : ((j : ℕ) → j < 3 → freeBound w triples x t j ≡ true) → (inside x t (own l) ≡ false) × (outside x t (own l) ≡ false)
+    free-neither h = (
+      not-inside 0 (innerBound w triples x t 0) (omega arith) refl (not-true (innerBound w triples x t 0) (h 1 (omega arith))),
+      outside-is ∙ ap not (and-both (h 2 (omega arith)) (h 0 (omega arith))),
+    )
 
   -- none of the first l labellings of d passes the test
   pub record Passed (p : Labelling → Bool) (d l : ℕ) : Type 0 where
@@ -97,3 +139,30 @@ module _ (w k : ℕ) (labels : List ℕ) where
       passed-all h =
           let high : length (labelsIn w labels k d) ≤ l = omega (arith, labels-long w labels k d) in
           ap (firstFrom (l + 1) p) (sym (drop-of-length-le (labelsIn w labels k d) high)) ∙ P .left
+
+      pub passed-late : firstLabelling p (labelsIn w labels k d) ≢ 0 → l < firstLabelling p (labelsIn w labels k d)
+      passed-late z =
+          let e : firstFrom (suc l) p (drop l (labelsIn w labels k d)) ≡ firstLabelling p (labelsIn w labels k d) = rw add-one at (P .left) in
+          omega (arith, e, first-late p l (drop l (labelsIn w labels k d)) (λ y. z (sym e ∙ y)))
+
+-- what is told is determined
+pub told-once :
+    {x t : ℕ} {ls : List Labelling} (i i' : ℕ) (o o' : Bool) → Told x t ls i o → Told x t ls i' o' → (i ≡ i') × (o ≡ o')
+told-once (suc i) (suc i') o o' T U =
+    let a = T .hit (omega arith) in
+    let b = U .hit (omega arith) in
+    (a .0 ∙ sym (b .0), a .1 .0 ∙ sym (b .1 .0))
+told-once (suc i) zero o true T U =
+    let a = T .hit (omega arith) in
+    let b = U .cut refl in
+    absurd (omega (arith, a .0, a .1 .1 (λ z. omega (arith, z, b .1 .0)), b .1 .1 (λ z. omega (arith, z, a .0))))
+told-once (suc i) zero o false T U = absurd (omega (arith, T .hit (omega arith) .0, U .none refl refl .0))
+told-once zero (suc i') true o' T U =
+    let a = U .hit (omega arith) in
+    let b = T .cut refl in
+    absurd (omega (arith, a .0, a .1 .1 (λ z. omega (arith, z, b .1 .0)), b .1 .1 (λ z. omega (arith, z, a .0))))
+told-once zero (suc i') false o' T U = absurd (omega (arith, U .hit (omega arith) .0, T .none refl refl .0))
+told-once zero zero true true T U = (refl, refl)
+told-once zero zero true false T U = absurd (omega (arith, T .cut refl .1 .0, U .none refl refl .1))
+told-once zero zero false true T U = absurd (omega (arith, U .cut refl .1 .0, T .none refl refl .1))
+told-once zero zero false false T U = (refl, refl)

@@ -7,7 +7,7 @@ ghost use lib.ListN.{length};
 ghost use Rattle.lineage.specs.Numbers.{Width, numAt};
 ghost use Rattle.lineage.specs.Question.{inside, outside, firstLabelling};
 ghost use Rattle.stored.specs.Sections.{labelsIn};
-ghost use Rattle.ask_intervals.specs.Intervals.{Labelled, innerBound, outerBound};
+ghost use Rattle.ask_intervals.specs.Intervals.{Labelled, innerBound, outerBound, freeBound, Told};
 
 // The numbers of a triple: s, m, e.
 const S: usize = 0;
@@ -96,4 +96,54 @@ pub fn outer_by(labels: &[u8], w: usize, k: usize, d: usize, x: usize, t: usize)
         l += 1;
     }
     answer
+}
+
+// What the labellings tell of x by the first that decides: the number, from 1, of one whose inner test passes, or that one's outer test fails x, or neither.
+pub struct Judged {
+    pub inside: usize,
+    pub outside: bool,
+}
+
+// Bound b of x's intervals against t's, in the order in which they decide: 0 the upper, which both share; 1, that the inner interval's lower bound leaves t's e
+// outside; 2, the outer interval's lower bound. Where 0 or 2 fails, x's outer interval does not contain t's; where 1 fails behind 0, x's inner one contains t's e.
+fn free_bound(triples: &[u8], w: usize, x: usize, t: usize, b: usize) -> bool
+    requires { ⌜ Width w ⌝ }
+    requires { ⌜ (w * (3 * x + 3) ≤ length (now triples)) × (w * (3 * t + 3) ≤ length (now triples)) ⌝ }
+    ensures { λ r. ⌜ r ≡ freeBound w (now (triples .entry)) x t b ⌝ }
+{
+    if b == 0 {
+        return not_above(triples, w, t, E, x, E);
+    }
+    if b == 1 {
+        return !not_above(triples, w, x, M, t, E);
+    }
+    not_above(triples, w, x, S, t, S)
+}
+
+// Both interval tests of x at once: one loop over labellings and bounds, left when a labelling decides either way.
+pub fn judge(labels: &[u8], w: usize, k: usize, d: usize, x: usize, t: usize) -> Judged
+    requires { ⌜ Labelled w k d (now labels) ⌝ }
+    requires { ⌜ (x < k) × (t < k) ⌝ }
+    ensures { λ r. ⌜ Told x t (labelsIn w (now (labels .entry)) k d) (r .inside) (r .outside) ⌝ }
+{
+    let mut l = 0;
+    let mut inside = 0;
+    let mut outside = false;
+    'labellings: while l < d {
+        let triples = stored::parts::triples(labels, w, k, d, l);
+        let mut b = 0;
+        while b < 3 {
+            if !free_bound(triples, w, x, t, b) {
+                if b == 1 {
+                    inside = l + 1;
+                    break 'labellings;
+                }
+                outside = true;
+                break 'labellings;
+            }
+            b += 1;
+        }
+        l += 1;
+    }
+    Judged { inside, outside }
 }

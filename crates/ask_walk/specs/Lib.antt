@@ -1,2 +1,3 @@
 -- What the contracts of this crate say of the stored sections.
 pub mod Fit
+pub mod Stamps

@@ -44,6 +44,7 @@ module _ {b : List ℕ} {l : Layout} {names groups levels starts children labels
         width = L .width;
         vertices-few = L .vertices;
         groups-few = L .groups;
+        labellings-some = L .least;
         labellings-few = L .most;
         names-long = S .names-in .long;
         groups-long = S .groups-in .long;

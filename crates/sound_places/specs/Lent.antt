@@ -14,6 +14,7 @@ pub record Lent (l : Layout) (names groups levels starts children labels : List 
   pub width : Width (l .width)
   pub vertices-few : l .n ≤ 200000
   pub groups-few : l .k ≤ l .n
+  pub labellings-some : 1 ≤ l .d
   pub labellings-few : l .d ≤ 5
   pub names-long : length names ≡ l .width * l .n
   pub groups-long : length groups ≡ l .width * l .k

@@ -7,6 +7,9 @@ use Rattle.lineage.specs.Index.{Index}
 use Rattle.lineage.specs.Question.{answer}
 use Rattle.sound_places.proofs.Lent.{Six, index-at, lent}
 use Rattle.ask.proofs.Refusals.{late-marks, late-source, late-target, late-contents, front-cleared, front-long, late-answer}
+use Rattle.ask_walk.proofs.Stamped.{seen-own}
+use Rattle.ask.specs.Replies.{answerBy}
+use Rattle.ask.proofs.Soundness.{cleared-low, cleared-unseen}
 use Rattle.ask.proofs.ask_laid.Statement.{statement}
 use Rattle.ask.proofs.ask_laid.Tie as tie
 
@@ -96,7 +99,7 @@ question-requires c κs =
     let sound = t .contents-sound .ensures .0 in
     let front =
     front-cleared L _ _ _ (f .before .before .if1 .left) (f .before .if2 .left) (f .if3 .left) sound (t .contents-sound .ensures .1) in
-    (lent L (six c) (sym sound ∙ not-false _ (c .before .before .before .before .before .before .before .if4 .left)), (f .before .if2 .left, (f .if3 .left, front)))
+    (lent L (six c) (sym sound ∙ not-false _ (c .before .before .before .before .before .before .before .if4 .left)), (f .before .if2 .left, (f .if3 .left, (cleared-unseen (s .args .l .n) _ front, cleared-low (s .args .l .n) _ front))))
 
 same-length-2 : tie.Need-same-length-2
 same-length-2 c = search needs
@@ -112,7 +115,7 @@ returns-5 c =
     let e =
     late-answer L _ _ _ (f .before .before .if1 .left) (f .before .if2 .left) (f .if3 .left) (t .contents-sound .ensures .0) (t .contents-sound .ensures .1)
     (not-false _ (a .before .before .before .before .before .before .before .if4 .left)) (q .result) _
-    (q .ensures ∙ ap (λ (I : Index). answer I (s .args .source) (s .args .target)) (index-at L (six a))) in
+    (ap (answerBy (q .result)) (sym (seen-own _ (q .ensures .1 .0))) ∙ q .ensures .0 ∙ ap (λ (I : Index). answer I (s .args .source) (s .args .target)) (index-at L (six a))) in
     (e .answers, e .leaves)
 
 pub ask-laid-spec : {M : Type 1} → statement M

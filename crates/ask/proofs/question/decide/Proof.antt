@@ -1,10 +1,14 @@
 -- `ask::question::decide` meets its contract: each return is the first rule that holds, and what the code has read by then says so.
 use native.Mathlib.Omega.{arith}
-use mathlib.Core.Path.{refl}
+use mathlib.Core.Path.{refl, ap}
+use Rattle.ask.specs.declared.question.Reply.{Reply}
 use borrow.Author.Needs.{needs}
 use Rattle.lineage.specs.Question.{inside, outside}
 use Rattle.numbers.proofs.Numbers.{room}
-use Rattle.ask.proofs.Rules.{first-low, rule-1, rule-2, rule-3, rule-4, rule-5-6, walk-deciding, walk-opened}
+use Rattle.ask_walk.specs.Stamps.{seenAs}
+use Rattle.ask_walk.proofs.Stamped.{seen-long, seen-other}
+use Rattle.ask_walk.proofs.Nets.{net-not-yes}
+use Rattle.ask.proofs.Rules.{first-low, walk-opens, rule-1, rule-2, rule-3, rule-4, rule-5-6, walk-deciding, walk-opened}
 use Rattle.ask.proofs.question.decide.Statement.{statement}
 use Rattle.ask.proofs.question.decide.Tie as tie
 
@@ -16,8 +20,10 @@ plain-requires c κs = search needs
 
 returns : tie.Need-returns
 returns c =
-    let s = entry (c .before .before) in
-    rule-1 (s .pre .0) (s .args .x) (s .args .marks .now) (c .plain .result) (c .plain .ensures) (c .before .if1 .taken)
+    let s = entry (c .before .before) in (
+      rule-1 (s .pre .0) (s .args .x) (seenAs (s .args .stamp) (s .args .marks .now)) (c .plain .result) (c .plain .ensures) (c .before .if1 .taken),
+      (s .pre .1 .1 .1 .1 .0, λ e. refl),
+    )
 
 inner-by-requires : tie.Need-inner-by-requires
 inner-by-requires c κs = search needs
@@ -35,9 +41,11 @@ plain-requires-2 c κs =
 returns-2 : tie.Need-returns-2
 returns-2 c =
     let i = c .before .before in
-    let s = entry (i .before .before) in
-    rule-2 (s .pre .0) (s .args .x) (s .args .marks .now) (c .plain2 .result) (i .before .if1 .left) (i .inner-by .result) (i .inner-by .ensures)
-    (c .plain2 .ensures) (c .before .if2 .taken)
+    let s = entry (i .before .before) in (
+      rule-2 (s .pre .0) (s .args .x) (seenAs (s .args .stamp) (s .args .marks .now)) (c .plain2 .result) (i .before .if1 .left) (i .inner-by .result) (i .inner-by .ensures)
+          (c .plain2 .ensures) (c .before .if2 .taken),
+      (s .pre .1 .1 .1 .1 .0, λ e. refl),
+    )
 
 num-requires : tie.Need-num-requires
 num-requires c κs =
@@ -56,9 +64,11 @@ returns-3 : tie.Need-returns-3
 returns-3 c =
     let n = c .before .before in
     let i = n .before .before .before in
-    let s = entry (i .before .before) in
-    rule-3 (s .pre .0) (s .args .x) (s .args .marks .now) (c .plain3 .result) (i .before .if1 .left) (i .inner-by .result) (i .inner-by .ensures)
-    (n .before .before .if2 .left) (s .pre .1 .0) (n .before .num .result) (n .num2 .result) (n .before .num .ensures .0) (n .num2 .ensures .0) (c .plain3 .ensures) (c .before .if3 .taken)
+    let s = entry (i .before .before) in (
+      rule-3 (s .pre .0) (s .args .x) (seenAs (s .args .stamp) (s .args .marks .now)) (c .plain3 .result) (i .before .if1 .left) (i .inner-by .result) (i .inner-by .ensures)
+          (n .before .before .if2 .left) (s .pre .1 .0) (n .before .num .result) (n .num2 .result) (n .before .num .ensures .0) (n .num2 .ensures .0) (c .plain3 .ensures) (c .before .if3 .taken),
+      (s .pre .1 .1 .1 .1 .0, λ e. refl),
+    )
 
 outer-by-requires : tie.Need-outer-by-requires
 outer-by-requires c κs = search needs
@@ -78,16 +88,21 @@ returns-4 c =
     let o = c .before .before in
     let n = o .before .before in
     let i = n .before .before .before in
-    let s = entry (i .before .before) in
-    rule-4 (s .pre .0) (s .args .x) (s .args .marks .now) (c .plain4 .result) (i .before .if1 .left) (i .inner-by .result) (i .inner-by .ensures)
-    (n .before .before .if2 .left) (s .pre .1 .0) (n .before .num .result) (n .num2 .result) (n .before .num .ensures .0) (n .num2 .ensures .0)
-    (o .before .if3 .left) (o .outer-by .result) (o .outer-by .ensures) (c .plain4 .ensures) (omega arith)
+    let s = entry (i .before .before) in (
+      rule-4 (s .pre .0) (s .args .x) (seenAs (s .args .stamp) (s .args .marks .now)) (c .plain4 .result) (i .before .if1 .left) (i .inner-by .result) (i .inner-by .ensures)
+          (n .before .before .if2 .left) (s .pre .1 .0) (n .before .num .result) (n .num2 .result) (n .before .num .ensures .0) (n .num2 .ensures .0)
+          (o .before .if3 .left) (o .outer-by .result) (o .outer-by .ensures) (c .plain4 .ensures) (omega arith),
+      (s .pre .1 .1 .1 .1 .0, λ e. refl),
+    )
 
 open-group-requires : tie.Need-open-group-requires
 open-group-requires c κs =
     let n = c .before .before .before .before in
-    let s = entry (n .before .before .before .before .before) in
-    (s .pre .0, (s .pre .1 .0, (omega (arith, n .before .num .ensures .0), s .pre .1 .1 .0)))
+    let i = n .before .before .before in
+    let s = entry (i .before .before) in
+    let missed = net-not-yes (s .pre .0) (s .args .x) (i .inner-by .result) (i .inner-by .ensures) (n .before .before .if2 .left) in
+    let marks = s .pre .1 .1 .1 .1 in
+    (s .pre .0, (s .pre .1 .0, (omega (arith, n .before .num .ensures .0), (s .pre .1 .1 .0, (marks .0, (marks .1, missed))))))
 
 by-walk-requires : tie.Need-by-walk-requires
 by-walk-requires c κs =
@@ -95,12 +110,12 @@ by-walk-requires c κs =
     let n = a .before .before .before .before .before in
     let s = entry (n .before .before .before .before .before) in
     let r = a .open-group in (
-      walk-deciding (s .pre .0) _ _ (s .args .marks .now) (r .result .found) (r .result .deciding) (r .result .opened) _ (r .ensures),
+      walk-deciding (s .pre .0) _ _ (seenAs (s .args .stamp) (s .args .marks .now)) (r .result .found) (r .result .deciding) (r .result .opened) _ (r .ensures .0),
       omega (
         arith,
-        walk-opened (s .pre .0) _ (s .args .x) (s .args .marks .now) (r .result .found) (r .result .deciding) (r .result .opened) _ (r .ensures)
-            (s .pre .1 .0) refl (s .pre .1 .1 .0),
-        s .pre .1 .1 .1,
+        walk-opened (s .pre .0) _ (s .args .x) (seenAs (s .args .stamp) (s .args .marks .now)) (r .result .found) (r .result .deciding) (r .result .opened) _ (r .ensures .0)
+            (s .pre .1 .0) (seen-long _ (s .args .marks .now)) (seen-other _ _ _ (s .pre .0 .name-low (s .args .x) (s .pre .1 .0)) (s .pre .1 .1 .0)),
+        s .pre .1 .1 .1 .0,
       ),
     )
 
@@ -114,10 +129,14 @@ returns-5 c =
     let n = o .before .before in
     let i = n .before .before .before in
     let s = entry (i .before .before) in
-    rule-5-6 (s .pre .0) (s .args .x) (s .args .marks .now) (c .by-walk .result) (i .before .if1 .left) (i .inner-by .result) (i .inner-by .ensures)
-    (n .before .before .if2 .left) (s .pre .1 .0) (n .before .num .result) (n .num2 .result) (n .before .num .ensures .0) (n .num2 .ensures .0)
-    (o .before .if3 .left) (o .outer-by .result) (o .outer-by .ensures) (omega (arith, a .before .before .if4 .left))
-    _ _ _ _ (a .open-group .ensures) (c .by-walk .ensures)
+    let w = a .open-group in
+    let opens = walk-opens (s .pre .0) _ (s .args .x) (seenAs (s .args .stamp) (s .args .marks .now)) (w .result .found) (w .result .deciding) (w .result .opened) _ (w .ensures .0) in (
+      rule-5-6 (s .pre .0) (s .args .x) (seenAs (s .args .stamp) (s .args .marks .now)) (c .by-walk .result) (i .before .if1 .left) (i .inner-by .result) (i .inner-by .ensures)
+          (n .before .before .if2 .left) (s .pre .1 .0) (n .before .num .result) (n .num2 .result) (n .before .num .ensures .0) (n .num2 .ensures .0)
+          (o .before .if3 .left) (o .outer-by .result) (o .outer-by .ensures) (omega (arith, a .before .before .if4 .left))
+          _ _ _ _ (w .ensures .0) (c .by-walk .ensures),
+      (w .ensures .1, λ e. absurd (omega (arith, opens, e, ap (λ (q : Reply). q .opened) (c .by-walk .ensures)))),
+    )
 
 pub decide-spec : {M : Type 1} → statement M
 decide-spec =
