@@ -20,7 +20,7 @@
  *
  * TIME. Every call checks the bytes anew, unless the header, the marks' length or a vertex refuses it. It goes a fixed number of times through the n names, and
  * for each of the d labellings through the k groups and the c child entries; it also looks up each group once, by halving, among the children of another.
- * A question then takes at most k openings and c tries of a child, with at most 2d interval tests a try.
+ * A question then takes at most k openings and c tries of a child, with at most d labellings read a try.
  *
  * STACK. The walk of a question nests once for each level of the index that it goes down, 336 bytes each time: 1.4 MB for an index that is one line of 4,096
  * groups, and a few hundred bytes for a flat one. Everything else is loops.

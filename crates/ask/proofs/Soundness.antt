@@ -3,16 +3,15 @@ use mathlib.Core.Bool.{true, false, _||_}
 use mathlib.Core.Logic.{_≢_}
 use mathlib.Core.Path.{_≡_, refl, sym, ap, _∙_}
 use mathlib.Core.List.{List, []}
-use Prim.Native.Nat.{ℕ, zero, suc, _+_, _-_, _≤_, _<_}
+use Prim.Native.Nat.{ℕ, _+_, _-_, _≤_, _<_}
 use native.Mathlib.Decide.{ℕ-discrete}
 use native.Mathlib.Omega.{arith}
-use lib.ListN.{length, getD, replicate, length-replicate, getD-replicate}
-use borrow.Author.Tests.{ne-eqb, le-leb}
+use lib.ListN.{length, getD, replicate}
+use borrow.Author.Tests.{le-leb}
 use Rattle.lineage.specs.Numbers.{numAt, numbers}
 use Rattle.lineage.specs.Sound.{childOf}
 use Rattle.lineage.specs.Labels.{Labelling}
 use Rattle.lineage.specs.Index.{Index}
-use Rattle.lineage.specs.Walk.{Net}
 use Rattle.lineage.specs.Question.{outside, rule2, rule3, rule4, netOf, between, placeIn, walk, answer}
 use Rattle.laws.specs.Sound.{SoundGroups}
 use Rattle.laws.proofs.Lists.{in-getD}
@@ -26,13 +25,10 @@ use Rattle.numbers.proofs.Numbers.{numbers-long, numbers-at}
 use Rattle.stored_header.specs.declared.Layout.{Layout}
 use Rattle.stored.specs.Sections.{childrenIn, labelsIn, indexFrom, indexAt}
 use Rattle.stored.proofs.Sections.{children-long, labels-long, starts-rise, starts-within, row-long, row-at}
-use Rattle.ask_walk.specs.Fit.{count, groupsIn, netIn, Fit, Sure, Safe}
-use Rattle.ask_walk.specs.Stamps.{seenAs, AtMost}
-use Rattle.ask_walk.proofs.Stamped.{seen-long, seen-same, seen-own}
+use Rattle.ask_walk.specs.Fit.{count, groupsIn, Fit, Sure}
 use Rattle.sound_places.specs.Lent.{Lent}
 use Rattle.sound_places.proofs.Vertices.{lent-sound}
 use Rattle.ask_walk.proofs.Rows.{count-is}
-use Rattle.ask_walk.proofs.Nets.{net-spot}
 
 module _ {l : Layout} {names groups levels starts children labels : List ℕ} (S : Lent l names groups levels starts children labels) where
   abbrev w : ℕ
@@ -150,32 +146,13 @@ module _ {l : Layout} {names groups levels starts children labels : List ℕ} (S
         sure = sure-at t h;
       }
 
-  -- marks of which none bears the stamp, one for each vertex
-  module _ (stamp : ℕ) (m : List ℕ) (cleared : seenAs stamp m ≡ replicate n 0) where
-    marks-long : length m ≡ n
-    marks-long = sym (seen-long stamp m) ∙ ap length cleared ∙ length-replicate n 0
-
+  -- with one mark for each vertex
+  module _ (m : List ℕ) (long : length m ≡ n) where
     pub marks-few : length m ≤ 200000
-    marks-few = omega (arith, marks-long, S .vertices-few)
+    marks-few = omega (arith, long, S .vertices-few)
 
     pub fit-marks : (t : ℕ) → t < k → Fit w k (l .d) t groups levels starts children labels (length m)
-    fit-marks t h = rw marks-long (fit t h)
-
-    pub none-marked : (p : ℕ) → p < k → getD m (numAt w groups p) 0 ≢ stamp
-    none-marked p h z =
-        let unset : _≡_ {A = ℕ} (getD (replicate n 0) (numAt w groups p) 0) 0 = getD-replicate n (numAt w groups p) 0 0 (fit p h .name-low p h) in
-        let set : getD (seenAs stamp m) (numAt w groups p) 0 ≡ 1 = seen-same stamp m (numAt w groups p) (omega (arith, marks-long, fit p h .name-low p h)) z in
-        omega (arith, set, ap (λ (q : List ℕ). getD q (numAt w groups p) 0) cleared)
-
-    pub none-safe : (t : ℕ) → t < k → Safe (netIn w k (l .d) t groups levels starts children labels) k (seenAs stamp m)
-    none-safe t h =
-        let N : Net = netIn w k (l .d) t groups levels starts children labels in
-        record {
-          each = λ p b y.
-              let spot : N .spot p < n = rw (← net-spot (fit t h) p b) (fit t h .name-low p b) in
-              let unset : _≡_ {A = ℕ} (getD (replicate n 0) (N .spot p) 0) 0 = getD-replicate n (N .spot p) 0 0 spot in
-              ne-eqb (getD (seenAs stamp m) (N .spot p) 0) 1 (λ z. omega (arith, z, unset, ap (λ (q : List ℕ). getD q (N .spot p) 0) cleared));
-        }
+    fit-marks t h = rw long (fit t h)
 
   -- the answer between the places of u and v is the answer to the question
   pub question-is : (u v x t : ℕ) (m : List ℕ)
@@ -187,16 +164,3 @@ module _ {l : Layout} {names groups levels starts children labels : List ℕ} (S
   question-is u v x t m ex et em =
       let all : count w children ≡ c = count-is w c children (S .width) (S .children-long) in
       rw (all, ex, et, em, numbers-long w names n) refl
-
--- marks that are all 0 bear no stamp of 1
-zero-low : (n i : ℕ) → getD (replicate n 0) i 0 ≤ 1
-zero-low zero i = omega arith
-zero-low (suc n) zero = omega arith
-zero-low (suc n) (suc i) = zero-low n i
-
-module _ (n : ℕ) (m : List ℕ) (e : m ≡ replicate n 0) where
-  pub cleared-low : AtMost 1 m
-  cleared-low = rw e (record { each = zero-low n })
-
-  pub cleared-unseen : seenAs 1 m ≡ replicate n 0
-  cleared-unseen = seen-own m cleared-low ∙ e

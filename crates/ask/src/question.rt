@@ -1,14 +1,13 @@
 // A question over the sections of a sound index: the six rules, of which the first that holds decides.
 ghost use mathlib.Core.Bool.{cond};
 ghost use mathlib.Core.Path.{_≡_};
-ghost use Prim.Native.Nat.{_≤_, _<_};
-ghost use lib.ListN.{length, getD, replicate};
-ghost use Rattle.lineage.specs.Numbers.{numAt};
+ghost use Prim.Native.Nat.{_+_, _≤_, _<_};
+ghost use lib.ListN.{length};
 ghost use Rattle.lineage.specs.Question.{between, answer};
 ghost use Rattle.stored.specs.Sections.{indexAt};
 ghost use Rattle.sound_places.specs.Lent.{Lent};
-ghost use Rattle.ask_walk.specs.Fit.{groupsIn, netIn, Fit, Safe};
-ghost use Rattle.ask_walk.specs.Stamps.{seenAs, AtMost};
+ghost use Rattle.ask_walk.specs.Fit.{groupsIn, Fit};
+ghost use Rattle.ask_walk.specs.Stamps.{seenAs, Under};
 ghost use Rattle.ask.specs.Replies.{answerBy};
 use ask_walk::Seen;
 use stored_header::Layout;
@@ -73,25 +72,24 @@ pub fn decide(
     stamp: u8,
 ) -> Reply
     requires { ⌜ Fit w k d t (now groups) (now levels) (now starts) (now children) (now labels) (length (now marks)) ⌝ }
-    requires { ⌜ (x < k) × ((getD (now marks) (numAt w (now groups) x) 0 ≡ stamp → ⊥) × ((length (now marks) ≤ 200000) × (AtMost stamp (now marks) × Safe (netIn w k d t (now groups) (now levels) (now starts) (now children) (now labels)) k (seenAs stamp (now marks))))) ⌝ }
+    requires { ⌜ (x < k) × ((length (now marks) ≤ 200000) × Under stamp (now marks)) ⌝ }
     ensures { λ r. ⌜ answerBy r (seenAs stamp (now (marks .exit))) ≡ between (groupsIn w k d (now (groups .entry)) (now (levels .entry)) (now (starts .entry)) (now (children .entry)) (now (labels .entry))) x t (seenAs stamp (now (marks .entry))) ⌝ }
-    ensures { λ _. ⌜ AtMost stamp (now (marks .exit)) ⌝ }
+    ensures { λ _. ⌜ Under (stamp + 1) (now (marks .exit)) ⌝ }
     ensures { λ r. ⌜ (r .opened ≡ 0 → now (marks .exit) ≡ now (marks .entry)) ⌝ }
 {
     if x == t {
         return plain(true, 1, 0);
     }
-    let inner = ask_intervals::inner_by(labels, w, k, d, x, t);
-    if 0 < inner {
-        return plain(true, 2, inner);
-    }
     let level = numbers::num(levels, w, x);
     if level <= numbers::num(levels, w, t) {
         return plain(false, 3, 0);
     }
-    let outer = ask_intervals::outer_by(labels, w, k, d, x, t);
-    if 0 < outer {
-        return plain(false, 4, outer);
+    let j = ask_intervals::judge(labels, w, k, d, x, t);
+    if 0 < j.inside {
+        return plain(true, 2, j.inside);
+    }
+    if 0 < j.outside {
+        return plain(false, 4, j.outside);
     }
     let a = ask_walk::open_group(
         groups,
@@ -127,9 +125,9 @@ pub fn question(
     stamp: u8,
 ) -> Reply
     requires { ⌜ Lent l (now names) (now groups) (now levels) (now starts) (now children) (now labels) ⌝ }
-    requires { ⌜ (u < l .n) × ((v < l .n) × ((seenAs stamp (now marks) ≡ replicate (l .n) 0) × AtMost stamp (now marks))) ⌝ }
+    requires { ⌜ (u < l .n) × ((v < l .n) × ((length (now marks) ≡ l .n) × Under stamp (now marks))) ⌝ }
     ensures { λ r. ⌜ answerBy r (seenAs stamp (now (marks .exit))) ≡ answer (indexAt l (now (names .entry)) (now (groups .entry)) (now (levels .entry)) (now (starts .entry)) (now (children .entry)) (now (labels .entry))) u v ⌝ }
-    ensures { λ _. ⌜ AtMost stamp (now (marks .exit)) ⌝ }
+    ensures { λ _. ⌜ Under (stamp + 1) (now (marks .exit)) ⌝ }
     ensures { λ r. ⌜ (r .opened ≡ 0 → now (marks .exit) ≡ now (marks .entry)) ⌝ }
 {
     let w = l.width;

@@ -8,16 +8,18 @@ use Prim.Native.Nat.{ℕ, _≤_, _<_}
 use native.Mathlib.Omega.{arith}
 use lib.Dec.{eqb, leb, ltb}
 use lib.ListN.{getD}
-use borrow.Author.Tests.{eqb-true, eqb-false, not-true, not-false, lt-ltb, le-ltb}
+use borrow.Author.Tests.{eqb-true, eqb-false, not-true, not-false, lt-ltb}
 use Rattle.lineage.specs.Numbers.{numAt}
 use Rattle.lineage.specs.Index.{Index}
 use Rattle.lineage.specs.Walk.{Net, marked}
-use Rattle.lineage.specs.Question.{outside, firstLabelling, rule2, rule3, rule4}
+use Rattle.lineage.specs.Question.{inside, outside, firstLabelling, rule2, rule3, rule4}
 use Rattle.laws.proofs.Tests.{or-left, or-right, clash, is-false}
 use Rattle.laws_answers.proofs.Labellings.{first-given}
 use Rattle.numbers.proofs.Numbers.{numbers-at}
 use Rattle.stored.specs.Sections.{labelsIn}
-use Rattle.ask_intervals.specs.Intervals.{Told}
+use Rattle.ask_intervals.specs.declared.Judged.{Judged}
+use Rattle.ask_intervals.specs.Intervals.{judged}
+use Rattle.ask_intervals.proofs.Deciding.{judged-inside, judged-outside, judged-neither}
 use Rattle.ask_walk.specs.Fit.{groupsIn, netIn, skips, Fit, Safe}
 use Rattle.ask_walk.proofs.Nets.{net-spot, net-yes, net-deciding, net-not-yes}
 
@@ -51,11 +53,12 @@ module _ {w k d t : ℕ} {groups levels starts children labels : List ℕ} {mark
   mark : eqb (getD m (numAt w groups h) 0) 1 ≡ marked N m h
   mark = rw (net-spot F h low) refl
 
+  -- h is passed over
+  abbrev Over : Type 0
+  Over = (N .yes h ≡ false) × ((marked N m h || N .no h) ≡ true)
+
   -- level and mark
   module _ {r : Bool} (is : r ≡ skips w t groups levels m h) where
-    abbrev Over : Type 0
-    Over = (N .yes h ≡ false) × ((marked N m h || N .no h) ≡ true)
-
     by-level : rule3 I h t ≡ true → h ≢ t → Over
     by-level e n = (
       net-two ∙ is-false (rule2 I h t) (λ y. clash e (F .sure .not-3 h low y n)),
@@ -80,30 +83,35 @@ module _ {w k d t : ℕ} {groups levels starts children labels : List ℕ} {mark
           | inr c ↦ (sym mark ∙ c .1, sym three ∙ c .0)
         ]
 
+  four : rule4 I h t ≡ ltb 0 (firstLabelling (outside h t) (labelsIn w labels k d))
+  four = first-given (outside h t) (labelsIn w labels k d)
+
   -- the labellings
-  module _ {i : ℕ} {o : Bool} (T : Told h t (labelsIn w labels k d) i o) where
-    pub told-hit : 0 < i → (N .yes h ≡ true) × (i ≡ N .deciding h)
-    told-hit b = (net-yes F h i (T .hit b .0) b, net-deciding F h i (T .hit b .0))
+  module _ {j : Judged} (told : j ≡ judged h t (labelsIn w labels k d)) where
+    pub judged-hit : 0 < j .inside → (N .yes h ≡ true) × (j .inside ≡ N .deciding h)
+    judged-hit b =
+        let first = judged-inside h t (labelsIn w labels k d) told b in
+        (net-yes F h (j .inside) first b, net-deciding F h (j .inside) first)
 
-    four : rule4 I h t ≡ ltb 0 (firstLabelling (outside h t) (labelsIn w labels k d))
-    four = first-given (outside h t) (labelsIn w labels k d)
-
-    pub told-cut : o ≡ true → (N .yes h ≡ false) × ((marked N m h || N .no h) ≡ true)
-    told-cut e =
-        let cut : rule4 I h t ≡ true = four ∙ lt-ltb 0 _ (T .cut e .1 .0) in (
+    pub judged-cut : 0 < j .outside → Over
+    judged-cut b =
+        let cut : rule4 I h t ≡ true = four ∙ rw (← judged-outside h t (labelsIn w labels k d) told b) (lt-ltb 0 (j .outside) b) in (
           net-two ∙ is-false (rule2 I h t) (λ y. clash cut (F .sure .not-4 h low y)),
           or-right (marked N m h) (net-no ∙ or-right (rule3 I h t) cut),
         )
 
-    module _ (none : i ≤ 0) (e : o ≡ false) where
-      pub told-not : N .yes h ≡ false
-      told-not = net-not-yes F h i (omega (arith, T .none (omega arith) e .0)) none
+    module _ (none : j .inside ≤ 0) (uncut : j .outside ≤ 0) where
+      neither : (firstLabelling (inside h t) (labelsIn w labels k d) ≡ 0) × (firstLabelling (outside h t) (labelsIn w labels k d) ≡ 0)
+      neither = judged-neither h t (labelsIn w labels k d) told none uncut
+
+      pub judged-missed : N .yes h ≡ false
+      judged-missed = net-not-yes F h 0 (sym (neither .0)) (omega arith)
 
       other : h ≢ t
-      other z = clash (F .sure .home) (ap (λ (q : ℕ). rule2 I q t) (sym z) ∙ sym net-two ∙ told-not)
+      other z = clash (F .sure .home) (ap (λ (q : ℕ). rule2 I q t) (sym z) ∙ sym net-two ∙ judged-missed)
 
-      pub told-free : {r : Bool} → r ≡ skips w t groups levels m h → r ≡ false → (marked N m h || N .no h) ≡ false
-      told-free is f =
+      pub judged-free : {r : Bool} → r ≡ skips w t groups levels m h → r ≡ false → (marked N m h || N .no h) ≡ false
+      judged-free is f =
           let both = skip-not is f other in
           ap (λ (b : Bool). marked N m h || b) net-no
-          ∙ none-of (marked N m h) (rule3 I h t) (rule4 I h t) (both .0) (both .1) (four ∙ le-ltb 0 (firstLabelling (outside h t) (labelsIn w labels k d)) (omega (arith, T .none (omega arith) e .1)))
+          ∙ none-of (marked N m h) (rule3 I h t) (rule4 I h t) (both .0) (both .1) (four ∙ ap (ltb 0) (neither .1))

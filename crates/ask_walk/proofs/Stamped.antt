@@ -4,14 +4,15 @@ use mathlib.Core.Bool.{Bool, true, false, not, cond}
 use mathlib.Core.Logic.{_≢_}
 use mathlib.Core.Path.{_≡_, refl, sym, ap, _∙_}
 use mathlib.Core.List.{List, [], _∷_}
-use Prim.Native.Nat.{ℕ, zero, suc, _≤_, _<_}
+use Prim.Native.Nat.{ℕ, zero, suc, _+_, _≤_, _<_}
 use native.Mathlib.Omega.{arith}
 use lib.Dec.{eqb}
 use lib.ListN.{length, getD, set, replicate}
 use borrow.Author.Tests.{eq-eqb, ne-eqb, le-leb, lt-leb}
 use Rattle.lineage.specs.Numbers.{numAt}
-use Rattle.ask_walk.specs.Fit.{skips}
-use Rattle.ask_walk.specs.Stamps.{seenAs, AtMost}
+use Rattle.lineage.specs.Walk.{Net}
+use Rattle.ask_walk.specs.Fit.{skips, Marks}
+use Rattle.ask_walk.specs.Stamps.{seenAs, Under}
 
 pub seen-long : (s : ℕ) (m : List ℕ) → length (seenAs s m) ≡ length m
 unfolding seenAs
@@ -52,18 +53,18 @@ seen-set s [] i = refl
 seen-set s (b ∷ m) zero = rw (eq-eqb s s refl) refl
 seen-set s (b ∷ m) (suc i) = ap (cond (eqb b s) 1 0 ∷_) (seen-set s m i)
 
-set-low : (s : ℕ) (m : List ℕ) (i : ℕ) → ((j : ℕ) → getD m j 0 ≤ s) → (j : ℕ) → getD (set m i s) j 0 ≤ s
+set-low : (s : ℕ) (m : List ℕ) (i : ℕ) → ((j : ℕ) → getD m j 0 < s + 1) → (j : ℕ) → getD (set m i s) j 0 < s + 1
 set-low s [] i low j = low j
 set-low s (b ∷ m) zero low zero = omega arith
 set-low s (b ∷ m) zero low (suc j) = low (suc j)
 set-low s (b ∷ m) (suc i) low zero = low 0
 set-low s (b ∷ m) (suc i) low (suc j) = set-low s m i (λ k. low (suc k)) j
 
-pub at-most-set : (s : ℕ) (m : List ℕ) (i : ℕ) → AtMost s m → AtMost s (set m i s)
-at-most-set s m i A = record { each = set-low s m i (A .each) }
+pub under-set : (s : ℕ) (m : List ℕ) (i : ℕ) → Under (s + 1) m → Under (s + 1) (set m i s)
+under-set s m i U = record { each = set-low s m i (U .each) }
 
-pub at-most-more : (a s : ℕ) (m : List ℕ) → AtMost a m → a ≤ s → AtMost s m
-at-most-more a s m A h = record { each = λ i. omega (arith, A .each i) }
+pub under-more : (a s : ℕ) (m : List ℕ) → a ≤ s → Under a m → Under s m
+under-more a s m h U = record { each = λ i. omega (arith, U .each i) }
 
 -- a stamp above all marks is not seen
 new : (s : ℕ) (m : List ℕ) → ((i : ℕ) → getD m i 0 < s) → seenAs s m ≡ replicate (length m) 0
@@ -71,22 +72,41 @@ unfolding seenAs
 new s [] low = refl
 new s (b ∷ m) low = let free : b ≢ s = λ e. omega (arith, e, low 0) in rw (ne-eqb b s free, new s m (λ i. low (suc i))) refl
 
-pub seen-new : (a s : ℕ) (m : List ℕ) → AtMost a m → a < s → seenAs s m ≡ replicate (length m) 0
-seen-new a s m A h = new s m (λ i. omega (arith, A .each i))
+zero-at : (n i : ℕ) → _≡_ {A = ℕ} (getD (replicate n 0) i 0) 0
+zero-at zero i = refl
+zero-at (suc n) zero = refl
+zero-at (suc n) (suc i) = zero-at n i
+
+module _ (s : ℕ) (m : List ℕ) (U : Under s m) where
+  pub seen-new : seenAs s m ≡ replicate (length m) 0
+  seen-new = new s m (U .each)
+
+  pub new-free : (i : ℕ) → getD m i 0 ≢ s
+  new-free i e = omega (arith, e, U .each i)
+
+  pub new-marks : (N : Net) (k : ℕ) → Marks N k s m
+  new-marks N k = record {
+    under = under-more s (s + 1) m (omega arith) U;
+    safe = record { each = λ p b y. rw (seen-new, zero-at (length m) (N .spot p)) refl };
+  }
+
+-- marks that are all 0
+pub zero-under : (s n : ℕ) (m : List ℕ) → 0 < s → m ≡ replicate n 0 → Under s m
+zero-under s n m h e = rw e (record { each = λ i. omega (arith, zero-at n i) })
 
 -- stamps of 1 are the marks themselves
-own : (m : List ℕ) → ((i : ℕ) → getD m i 0 ≤ 1) → seenAs 1 m ≡ m
+own : (m : List ℕ) → ((i : ℕ) → getD m i 0 < 2) → seenAs 1 m ≡ m
 unfolding seenAs
 own [] low = refl
 own (b ∷ m) low = at b (low 0) (own m (λ i. low (suc i)))
   where
-    at : (b : ℕ) → b ≤ 1 → seenAs 1 m ≡ m → (cond (eqb b 1) 1 0 ∷ seenAs 1 m) ≡ b ∷ m
+    at : (b : ℕ) → b < 2 → seenAs 1 m ≡ m → (cond (eqb b 1) 1 0 ∷ seenAs 1 m) ≡ b ∷ m
     at zero h ih = ap (0 ∷_) ih
     at (suc zero) h ih = ap (1 ∷_) ih
     at (suc (suc b)) h ih = absurd (omega arith)
 
-pub seen-own : (m : List ℕ) → AtMost 1 m → seenAs 1 m ≡ m
-seen-own m A = own m (A .each)
+pub seen-own : (m : List ℕ) → Under 2 m → seenAs 1 m ≡ m
+seen-own m U = own m (U .each)
 
 -- whether a child is passed over, from what was read of it
 module _ (w t : ℕ) (groups levels : List ℕ) where

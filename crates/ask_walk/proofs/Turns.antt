@@ -17,9 +17,10 @@ use Rattle.ask_walk.specs.Fit.{count, all, netIn, skips, Fit, Safe, Belo
 use Rattle.ask_walk.proofs.Rows.{more, no-more}
 use Rattle.ask_walk.proofs.Counting.{Gains, ones-low, open-gains}
 use Rattle.ask_walk.proofs.Trying.{Tried, tried-all, tried-hit, tried-over, tried-found, tried-next}
-use Rattle.ask_intervals.specs.Intervals.{Told}
+use Rattle.ask_intervals.specs.declared.Judged.{Judged}
+use Rattle.ask_intervals.specs.Intervals.{judged}
 use Rattle.ask_walk.proofs.Nets.{net-spot, net-within, net-safe}
-use Rattle.ask_walk.proofs.Passing.{skip-over, told-hit, told-cut, told-not, told-free}
+use Rattle.ask_walk.proofs.Passing.{skip-over, judged-hit, judged-cut, judged-missed, judged-free}
 
 module _ {w k d t : ℕ} {groups levels starts children labels : List ℕ} {marks : ℕ} (F : Fit w k d t groups levels starts children labels marks)
     {L : ℕ} {row : List ℕ} (B : Below w k L levels row) {m₀ m : List ℕ} {i n : ℕ} (T : Tried (netIn w k d t groups levels starts children labels) L (all w row) m₀ m i n) where
@@ -56,6 +57,16 @@ pub record Turn (w k d t : ℕ) (groups levels starts children labels : List ℕ
   pub child : h ≡ numAt w row i
   pub safe : Safe (netIn w k d t groups levels starts children labels) k m
 
+-- No test decides h: it is not passed over, and no labelling tells of it.
+pub record Untold (w k d t : ℕ) (groups levels labels m : List ℕ) (h : ℕ) : Type 0 where
+  pub j : Judged
+  pub told : j ≡ judged h t (labelsIn w labels k d)
+  pub none : j .inside ≤ 0
+  pub uncut : j .outside ≤ 0
+  pub r : Bool
+  pub is : r ≡ skips w t groups levels m h
+  pub passes : r ≡ false
+
 module _ {w k d t : ℕ} {groups levels starts children labels : List ℕ} {marks L : ℕ} {row m₀ m : List ℕ} {i n h : ℕ}
     (C : Turn w k d t groups levels starts children labels marks L row m₀ m i n h) where
   abbrev N : Net
@@ -88,46 +99,45 @@ module _ {w k d t : ℕ} {groups levels starts children labels : List ℕ} {mark
     turn-skip e = over (skip-over (C .fit) (C .safe) turn-low is e)
 
   -- otherwise the labellings tell of h
-  module _ {j : ℕ} {o : Bool} (T : Told h t (labelsIn w labels k d) j o) where
+  module _ {j : Judged} (told : j ≡ judged h t (labelsIn w labels k d)) where
     -- rule 2 ends the walk
-    pub turn-hit : 0 < j → walked true j n m ≡ tryAt N L (all w row) m₀
+    pub turn-hit : 0 < j .inside → walked true (j .inside) n m ≡ tryAt N L (all w row) m₀
     turn-hit b =
-        let y = told-hit (C .fit) (C .safe) turn-low T b in
-        tried-hit N L (all w row) m₀ m i n (C .tried) h turn-within here j (y .0) (y .1)
+        let y = judged-hit (C .fit) (C .safe) turn-low told b in
+        tried-hit N L (all w row) m₀ m i n (C .tried) h turn-within here (j .inside) (y .0) (y .1)
 
     -- rule 4 rules h out
-    pub turn-cut : o ≡ true → Tried N L (all w row) m₀ m (i + 1) n
-    turn-cut e = over (told-cut (C .fit) (C .safe) turn-low T e)
+    pub turn-cut : 0 < j .outside → Tried N L (all w row) m₀ m (i + 1) n
+    turn-cut b = over (judged-cut (C .fit) (C .safe) turn-low told b)
 
-    -- neither
-    module _ (none : j ≤ 0) (uncut : o ≡ false) {r : Bool} (is : r ≡ skips w t groups levels m h) (passes : r ≡ false) where
-      pub not-yes : N .yes h ≡ false
-      not-yes = told-not (C .fit) (C .safe) turn-low T none uncut
+  -- no test decides h: it is opened, one level lower
+  module _ (U : Untold w k d t groups levels labels m h) where
+    pub turn-missed : N .yes h ≡ false
+    turn-missed = judged-missed (C .fit) (C .safe) turn-low (U .told) (U .none) (U .uncut)
 
-      free : (marked N m h || N .no h) ≡ false
-      free = told-free (C .fit) (C .safe) turn-low T none uncut is passes
+    free : (marked N m h || N .no h) ≡ false
+    free = judged-free (C .fit) (C .safe) turn-low (U .told) (U .none) (U .uncut) (U .is) (U .passes)
 
-      pub turn-free : getD m (numAt w groups h) 0 ≢ 1
-      turn-free = rw (net-spot (C .fit) h turn-low) (eqb-false _ _ (or-false-left (marked N m h) (N .no h) free))
+    pub turn-free : getD m (numAt w groups h) 0 ≢ 1
+    turn-free = rw (net-spot (C .fit) h turn-low) (eqb-false _ _ (or-false-left (marked N m h) (N .no h) free))
 
-      -- and it is opened, one level lower
-      module _ {f : Bool} {l' a : ℕ} {m' : List ℕ} (e : walked f l' a m' ≡ openAt N (L - 1 + 1) h m) where
-        opened : walked f l' a m' ≡ openAt N L h m
-        opened = let same : L - 1 + 1 ≡ L = omega (arith, turn-level) in rw same at e
+    module _ {f : Bool} {l' a : ℕ} {m' : List ℕ} (e : walked f l' a m' ≡ openAt N (L - 1 + 1) h m) where
+      opened : walked f l' a m' ≡ openAt N L h m
+      opened = let same : L - 1 + 1 ≡ L = omega (arith, turn-level) in rw same at e
 
-        gains : Gains m (openAt N L h m)
-        gains = open-gains N (net-within (C .fit)) L h m (C .tried .long ∙ C .long) turn-low (or-false-left (marked N m h) (N .no h) free)
+      gains : Gains m (openAt N L h m)
+      gains = open-gains N (net-within (C .fit)) L h m (C .tried .long ∙ C .long) turn-low (or-false-left (marked N m h) (N .no h) free)
 
-        pub turn-count : n + a ≤ marks
-        turn-count =
-            let A : Gains m (walked f l' a m') = rw opened gains in
-            omega (arith, C .tried .gain, C .tried .long, C .long, A .gain, A .long, ones-low m')
+      pub turn-count : n + a ≤ marks
+      turn-count =
+          let A : Gains m (walked f l' a m') = rw opened gains in
+          omega (arith, C .tried .gain, C .tried .long, C .long, A .gain, A .long, ones-low m')
 
-        pub turn-found : f ≡ true → walked true l' (n + a) m' ≡ tryAt N L (all w row) m₀
-        turn-found = tried-found N L (all w row) m₀ m i n (C .tried) h turn-within here f l' a m' not-yes free opened
+      pub turn-found : f ≡ true → walked true l' (n + a) m' ≡ tryAt N L (all w row) m₀
+      turn-found = tried-found N L (all w row) m₀ m i n (C .tried) h turn-within here f l' a m' turn-missed free opened
 
-        pub turn-safe : Safe N k m'
-        turn-safe = subst (λ (a : Walked). Safe N k (a .marks)) (sym opened) (net-safe (C .fit) L h m turn-low not-yes (C .safe))
+      pub turn-safe : Safe N k m'
+      turn-safe = subst (λ (a : Walked). Safe N k (a .marks)) (sym opened) (net-safe (C .fit) L h m turn-low turn-missed (C .safe))
 
-        pub turn-next : f ≡ false → Tried N L (all w row) m₀ m' (i + 1) (n + a)
-        turn-next b = tried-next N L (all w row) m₀ m i n (C .tried) h turn-within here f l' a m' not-yes free opened b gains
+      pub turn-next : f ≡ false → Tried N L (all w row) m₀ m' (i + 1) (n + a)
+      turn-next b = tried-next N L (all w row) m₀ m i n (C .tried) h turn-within here f l' a m' turn-missed free opened b gains

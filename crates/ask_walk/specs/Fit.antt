@@ -11,6 +11,7 @@ use Rattle.lineage.specs.Walk.{Net, marked}
 use Rattle.lineage.specs.Question.{rule2, rule3, rule4, netOf}
 use Rattle.stored.specs.Sections.{childrenIn, labelsIn}
 use Rattle.ask_intervals.specs.Intervals.{Labelled}
+use Rattle.ask_walk.specs.Stamps.{seenAs, Under}
 
 -- how many numbers of w bytes a stretch holds, and all of them
 abbrev pub count : ℕ → List ℕ → ℕ
@@ -47,6 +48,18 @@ pub record Sure (I : Index) (k t : ℕ) : Type 0 where
 -- no group of which rule 2 says yes is marked
 pub record Safe (N : Net) (k : ℕ) (m : List ℕ) : Type 0 where
   pub each : (p : ℕ) → p < k → N .yes p ≡ true → marked N m p ≡ false
+
+-- the marks of a walk with this stamp: none is above it, and no group of which rule 2 says yes bears it
+pub record Marks (N : Net) (k stamp : ℕ) (m : List ℕ) : Type 0 where
+  pub under : Under (stamp + 1) m
+  pub safe : Safe N k (seenAs stamp m)
+
+-- g may be opened: a place of a level not above L, whose mark does not bear the stamp, and of which rule 2 does not say yes
+pub record Fresh (N : Net) (w k L stamp : ℕ) (groups levels m : List ℕ) (g : ℕ) : Type 0 where
+  pub low : g < k
+  pub level : numAt w levels g ≤ L
+  pub unmarked : getD m (numAt w groups g) 0 ≡ stamp → ⊥
+  pub missed : N .yes g ≡ false
 
 -- each section holds its numbers, child starts rise within the children, children are places of lower levels, and each group's mark is one of its own among
 -- so many; t is a place, and the rules agree about it

@@ -1,14 +1,13 @@
 // The walk: opening a group and trying its children, each told by means of the other (document 01, "A question"). It stands on the stored sections
 // as they are lent; a group's mark stands at its name. A group is opened where its mark is this walk's stamp, so a later walk with a higher stamp needs no
 // cleared marks.
-ghost use mathlib.Core.Bool.{false};
 ghost use mathlib.Core.Path.{_≡_};
 ghost use Prim.Native.Nat.{_+_, _*_, _≤_, _<_};
-ghost use lib.ListN.{length, getD};
+ghost use lib.ListN.{length};
 ghost use Rattle.lineage.specs.Numbers.{Width, numAt};
 ghost use Rattle.lineage.specs.Walk.{walked, openAt, tryAt};
-ghost use Rattle.ask_walk.specs.Fit.{all, netIn, skips, Fit, Safe, Below};
-ghost use Rattle.ask_walk.specs.Stamps.{seenAs, AtMost};
+ghost use Rattle.ask_walk.specs.Fit.{all, netIn, skips, Fit, Fresh, Marks, Below};
+ghost use Rattle.ask_walk.specs.Stamps.{seenAs, Under};
 
 // Whether the target is found, by which labelling, and how many groups were opened.
 pub struct Seen {
@@ -56,9 +55,10 @@ pub fn open_group(
     stamp: u8,
 ) -> Seen
     requires { ⌜ Fit w k d t (now groups) (now levels) (now starts) (now children) (now labels) (length (now marks)) ⌝ }
-    requires { ⌜ (g < k) × ((numAt w (now levels) g ≤ lev) × ((getD (now marks) (numAt w (now groups) g) 0 ≡ stamp → ⊥) × (AtMost stamp (now marks) × (Safe (netIn w k d t (now groups) (now levels) (now starts) (now children) (now labels)) k (seenAs stamp (now marks)) × ((netIn w k d t (now groups) (now levels) (now starts) (now children) (now labels)) .yes g ≡ false))))) ⌝ }
+    requires { ⌜ Fresh (netIn w k d t (now groups) (now levels) (now starts) (now children) (now labels)) w k lev stamp (now groups) (now levels) (now marks) g ⌝ }
+    requires { ⌜ Marks (netIn w k d t (now groups) (now levels) (now starts) (now children) (now labels)) k stamp (now marks) ⌝ }
     ensures { λ r. ⌜ walked (r .found) (r .deciding) (r .opened) (seenAs stamp (now (marks .exit))) ≡ openAt (netIn w k d t (now (groups .entry)) (now (levels .entry)) (now (starts .entry)) (now (children .entry)) (now (labels .entry))) (lev + 1) g (seenAs stamp (now (marks .entry))) ⌝ }
-    ensures { λ _. ⌜ AtMost stamp (now (marks .exit)) ⌝ }
+    ensures { λ _. ⌜ Under (stamp + 1) (now (marks .exit)) ⌝ }
 {
     let name = numbers::num(groups, w, g);
     marks[name] = stamp;
@@ -104,9 +104,10 @@ pub fn try_children(
     stamp: u8,
 ) -> Seen
     requires { ⌜ Fit w k d t (now groups) (now levels) (now starts) (now children) (now labels) (length (now marks)) ⌝ }
-    requires { ⌜ Below w k lev (now levels) (now row) × (AtMost stamp (now marks) × Safe (netIn w k d t (now groups) (now levels) (now starts) (now children) (now labels)) k (seenAs stamp (now marks))) ⌝ }
+    requires { ⌜ Below w k lev (now levels) (now row) ⌝ }
+    requires { ⌜ Marks (netIn w k d t (now groups) (now levels) (now starts) (now children) (now labels)) k stamp (now marks) ⌝ }
     ensures { λ r. ⌜ walked (r .found) (r .deciding) (r .opened) (seenAs stamp (now (marks .exit))) ≡ tryAt (netIn w k d t (now (groups .entry)) (now (levels .entry)) (now (starts .entry)) (now (children .entry)) (now (labels .entry))) lev (all w (now (row .entry))) (seenAs stamp (now (marks .entry))) ⌝ }
-    ensures { λ _. ⌜ AtMost stamp (now (marks .exit)) ⌝ }
+    ensures { λ _. ⌜ Under (stamp + 1) (now (marks .exit)) ⌝ }
 {
     let mut i = 0;
     let mut opened = 0;
@@ -122,7 +123,7 @@ pub fn try_children(
                     opened,
                 };
             }
-            if !j.outside {
+            if j.outside == 0 {
                 let a = open_group(
                     groups,
                     levels,

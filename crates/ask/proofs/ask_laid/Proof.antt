@@ -1,15 +1,16 @@
 -- `ask::ask_laid` meets its contract: each return is the first of the late checks that applies, or the answer where none does; the check of the contents
 -- leaves the marks 0 below n, and the question is lent those.
 use mathlib.Core.Path.{sym, ap, _∙_}
+use native.Mathlib.Omega.{arith}
+use lib.ListN.{length, length-replicate}
 use borrow.Author.Needs.{needs}
 use borrow.Author.Tests.{not-true, not-false}
 use Rattle.lineage.specs.Index.{Index}
 use Rattle.lineage.specs.Question.{answer}
 use Rattle.sound_places.proofs.Lent.{Six, index-at, lent}
 use Rattle.ask.proofs.Refusals.{late-marks, late-source, late-target, late-contents, front-cleared, front-long, late-answer}
-use Rattle.ask_walk.proofs.Stamped.{seen-own}
+use Rattle.ask_walk.proofs.Stamped.{zero-under, seen-own}
 use Rattle.ask.specs.Replies.{answerBy}
-use Rattle.ask.proofs.Soundness.{cleared-low, cleared-unseen}
 use Rattle.ask.proofs.ask_laid.Statement.{statement}
 use Rattle.ask.proofs.ask_laid.Tie as tie
 
@@ -99,7 +100,7 @@ question-requires c κs =
     let sound = t .contents-sound .ensures .0 in
     let front =
     front-cleared L _ _ _ (f .before .before .if1 .left) (f .before .if2 .left) (f .if3 .left) sound (t .contents-sound .ensures .1) in
-    (lent L (six c) (sym sound ∙ not-false _ (c .before .before .before .before .before .before .before .if4 .left)), (f .before .if2 .left, (f .if3 .left, (cleared-unseen (s .args .l .n) _ front, cleared-low (s .args .l .n) _ front))))
+    (lent L (six c) (sym sound ∙ not-false _ (c .before .before .before .before .before .before .before .if4 .left)), (f .before .if2 .left, (f .if3 .left, (ap length front ∙ length-replicate (s .args .l .n) 0, zero-under _ (s .args .l .n) _ (omega arith) front))))
 
 same-length-2 : tie.Need-same-length-2
 same-length-2 c = search needs

@@ -1,9 +1,9 @@
--- `ask_intervals::free_bound` meets its contract, which names the three comparisons.
+-- `ask_intervals::undecided_by` meets its contract, which names the three comparisons.
 use native.Mathlib.Nat.{add-zero}
 use borrow.Author.Needs.{needs}
 use borrow.Author.Tests.{eq-eqb, ne-eqb}
-use Rattle.ask_intervals.proofs.free_bound.Statement.{statement}
-use Rattle.ask_intervals.proofs.free_bound.Tie as tie
+use Rattle.ask_intervals.proofs.undecided_by.Statement.{statement}
+use Rattle.ask_intervals.proofs.undecided_by.Tie as tie
 
 not-above-requires : tie.Need-not-above-requires
 not-above-requires c κs = search needs
@@ -23,5 +23,5 @@ not-above-requires-3 c κs = search needs
 returns-3 : tie.Need-returns-3
 returns-3 c = simp (c .not-above3 .ensures, ne-eqb _ _ (c .before .before .if1 .left), ne-eqb _ _ (c .before .if2 .left), add-zero)
 
-pub free-bound-spec : {M : Type 1} → statement M
-free-bound-spec = tie.close (tie.spec not-above-requires returns not-above-requires-2 returns-2 not-above-requires-3 returns-3)
+pub undecided-by-spec : {M : Type 1} → statement M
+undecided-by-spec = tie.close (tie.spec not-above-requires returns not-above-requires-2 returns-2 not-above-requires-3 returns-3)
