@@ -122,7 +122,7 @@ module _ {l : Layout} {names groups levels starts children labels : List ℕ} (S
         own-outer z = rw (le-leb (getD (z .s) t 0) (getD (z .s) t 0) (omega arith), le-leb (getD (z .e) t 0) (getD (z .e) t 0) (omega arith)) refl
 
   -- the sections are fit for the walk towards t
-  fit : (t : ℕ) → t < k → Fit w k (l .d) t groups levels starts children labels n
+  pub fit : (t : ℕ) → t < k → Fit w k (l .d) t groups levels starts children labels n
   fit t h =
       let all : count w children ≡ c = count-is w c children (S .width) (S .children-long) in
       record {
