@@ -30,7 +30,7 @@ use Rattle.ask.specs.Asked.{askedOf}
 use Rattle.ask.proofs.Answered.{Answered, answered-only, none-applies}
 
 -- the index that bytes hold has n names and d labellings
-names-long : (b : List ℕ) → length (indexIn b .names) ≡ countsIn b .n
+pub names-long : (b : List ℕ) → length (indexIn b .names) ≡ countsIn b .n
 unfolding decode section
 names-long b = let w : ℕ = formOf (headerAt b 0) .width in numbers-long w (stretch w (countsIn b) b 0) (countsIn b .n)
 
@@ -38,7 +38,7 @@ labels-long : (b : List ℕ) → length (indexIn b .labels) ≡ countsIn b .d
 unfolding decode
 labels-long b = table-long _ (countsIn b .d)
 
-orders-long : (G : Graph) (orders : List (List ℕ)) → length (indexOf G orders .labels) ≡ length orders
+pub orders-long : (G : Graph) (orders : List (List ℕ)) → length (indexOf G orders .labels) ≡ length orders
 unfolding indexOf
 orders-long G orders = length-map orders _
 
@@ -85,7 +85,7 @@ module _ (b : List ℕ) (u v : ℕ) (marks : List ℕ) (s : Said) (e : askAnswer
   asked-same M M' = Iff·trans (Iff·symm (asked-right M)) (asked-right M')
 
   -- the marks after it: the answer's, and behind them those from n on as they were
-  marks-are : askMarks b u v marks ≡ answer I u v .marks ++ drop (countsIn b .n) marks
+  pub marks-are : askMarks b u v marks ≡ answer I u v .marks ++ drop (countsIn b .n) marks
   unfolding askMarks
   marks-are = rw (none-applies b u v (length marks) s e) refl
 

@@ -14,7 +14,7 @@ use Rattle.lineage.specs.Labels.{Order, labelling}
 use Rattle.lineage.specs.Index.{Index, indexBy, indexOf, Made}
 use Rattle.lineage.specs.Stored.{Form, form1, Counts, countsOf, countsFit, encode, headerAt, countsIn, formOf, stretch, section, labellingAt, decode, mostLabellings}
 use Rattle.lineage.specs.Sound.{startsPass, sound, contentsSound}
-use Rattle.lineage.specs.Calls.{answered, openAnswer, indexIn}
+use Rattle.lineage.specs.Calls.{answered, openAnswer, openMarks, indexIn}
 use Rattle.laws.proofs.Sound.{made-sound, sound-is-made, made-long}
 use Rattle.laws.proofs.Decides.{sound-decides}
 use Rattle.laws.proofs.Lists.{table-long}
@@ -143,15 +143,22 @@ built-opens G ends orders permuted vertices edges least most marks room =
     let n = made-long (record { graph = G; ends = ends; orders = orders; permuted = permuted; yields = refl }) in
     sym (fits-opens (yielded-fits form1-wide G ends orders permuted bounds) passes marks (omega arith))
 
--- two answers allowed by open's contract are equal
-pub opened-once : (r r' : Opened) → openedOf r ≡ openedOf r' → r ≡ r'
-opened-once (IndexOf n k c d) (IndexOf n' k' c' d') e =
+-- What `open` may answer and leave, by its contract: two results are equal.
+pub record Allowed (b marks : List ℕ) (r : Opened) (m : List ℕ) : Type 0 where
+  pub answers : openedOf r ≡ openAnswer b (length marks)
+  pub leaves : m ≡ openMarks b marks
+
+opened-one : (r r' : Opened) → openedOf r ≡ openedOf r' → r ≡ r'
+opened-one (IndexOf n k c d) (IndexOf n' k' c' d') e =
     let same : _≡_ {A = Counts} (record { n = n; k = k; c = c; d = d }) (record { n = n'; k = k'; c = c'; d = d' }) = cc in
     let en : n ≡ n' = ap (λ (a : Counts). a .n) same in
     let ek : k ≡ k' = ap (λ (a : Counts). a .k) same in
     let ec : c ≡ c' = ap (λ (a : Counts). a .c) same in
     let ed : d ≡ d' = ap (λ (a : Counts). a .d) same in
     cc
-opened-once (IndexOf n k c d) (Refused number extra) e = cc
-opened-once (Refused number extra) (IndexOf n k c d) e = cc
-opened-once (Refused number extra) (Refused number' extra') e = cc
+opened-one (IndexOf n k c d) (Refused number extra) e = cc
+opened-one (Refused number extra) (IndexOf n k c d) e = cc
+opened-one (Refused number extra) (Refused number' extra') e = cc
+
+pub opened-once : {b marks : List ℕ} {r r' : Opened} {m m' : List ℕ} → Allowed b marks r m → Allowed b marks r' m' → (r ≡ r') × (m ≡ m')
+opened-once A B = (opened-one _ _ (A .answers ∙ sym (B .answers)), A .leaves ∙ sym (B .leaves))
