@@ -15,6 +15,7 @@ use Rattle.laws.proofs.Tests.{clash, is-false}
 use Rattle.laws.proofs.Lists.{in-any, upto-low, table-long, table-at}
 use Rattle.laws.proofs.Every.{every-at}
 use Rattle.laws.proofs.Edges.{sources-below, targets-below}
+use Rattle.stored_header.specs.Checks.{Pass}
 use Rattle.build_orders.proofs.Edges.{good-edge}
 use Rattle.build.specs.Admitted.{Admitted}
 
@@ -40,7 +41,7 @@ pub accepted : (F : Form) (B : Input) (work out : ℕ)
     → Admitted F B work
     → Every (Order (B .graph .n)) (ordersOf B)
     → lengthOf F (built B) ≤ out
-    → Every (λ c. c .applies ≡ false) (buildEarly F B work ++ buildLate F B out)
+    → Pass (buildEarly F B work ++ buildLate F B out)
 accepted F B work out A permuted room =
     let G : Graph = B .graph in
     let some : B .d ≡ 0 → ⊥ = λ z. omega (arith, A .least) in (

@@ -1,4 +1,13 @@
 // Build: from an edge list and some orders to exactly the bytes of the stored form, in lent memory.
+use refusals::BAD_EDGE;
+use refusals::BAD_LABELLINGS;
+use refusals::BAD_ORDER;
+use refusals::BAD_ORDER_LIST;
+use refusals::LISTS_DIFFER;
+use refusals::MANY_EDGES;
+use refusals::MANY_VERTICES;
+use refusals::OUTPUT_SHORT;
+use refusals::WORK_SHORT;
 use stored_header::MOST_LABELLINGS;
 use stored_header::Row;
 ghost use mathlib.Core.Path.{_≡_};
@@ -17,7 +26,7 @@ ghost use Rattle.build.specs.Admitted.{Admitted};
 // What checks 1 to 7 come to: the words of work memory that are needed, or a refusal with its number and its extra number.
 enum Checked {
     Passed(usize),
-    Refused(u32, u32),
+    Refused { number: u32, extra: u32 },
 }
 
 // Checks 1 to 7: lengths against a form's most vertices and most edges, then the edge ends.
@@ -36,30 +45,54 @@ fn early(
 {
     let edges = sources.len();
     if most_vertices < n {
-        return Checked::Refused(1, 0);
+        return Checked::Refused {
+            number: MANY_VERTICES,
+            extra: 0,
+        };
     }
     if edges != targets.len() {
-        return Checked::Refused(2, 0);
+        return Checked::Refused {
+            number: LISTS_DIFFER,
+            extra: 0,
+        };
     }
     if most_edges < edges {
-        return Checked::Refused(3, 0);
+        return Checked::Refused {
+            number: MANY_EDGES,
+            extra: 0,
+        };
     }
     if d == 0 {
-        return Checked::Refused(4, 0);
+        return Checked::Refused {
+            number: BAD_LABELLINGS,
+            extra: 0,
+        };
     }
     if MOST_LABELLINGS < d {
-        return Checked::Refused(4, 0);
+        return Checked::Refused {
+            number: BAD_LABELLINGS,
+            extra: 0,
+        };
     }
     if orders.len() != d * n {
-        return Checked::Refused(5, 0);
+        return Checked::Refused {
+            number: BAD_ORDER_LIST,
+            extra: 0,
+        };
     }
     let needed = 16 * n + 4 * edges + 64;
     if work < needed {
-        return Checked::Refused(6, needed as u32);
+        return Checked::Refused {
+            number: WORK_SHORT,
+            extra: needed as u32,
+        };
     }
-    let bad = build_orders::bad_edge(n, sources, targets);
-    if bad < edges {
-        return Checked::Refused(7, bad as u32);
+    let first = build_orders::bad_edge(n, sources, targets);
+    if first < edges {
+        return Checked::Refused {
+            number: BAD_EDGE,
+            extra: first as u32,
+        };
     }
     Checked::Passed(needed)
 }
@@ -91,7 +124,7 @@ fn late(
     let bad = build_orders::bad_order(orders, d, n, work, 0);
     if bad < d {
         return Built::Refused {
-            number: 8,
+            number: BAD_ORDER,
             extra: bad as u32,
         };
     }
@@ -99,7 +132,7 @@ fn late(
     let l = stored_header::lay_out(width, n, found.k, found.c, d);
     if out.len() < l.total {
         return Built::Refused {
-            number: 9,
+            number: OUTPUT_SHORT,
             extra: l.total as u32,
         };
     }
@@ -134,7 +167,7 @@ fn build_form(
         d,
         work.len(),
     ) {
-        Checked::Refused(number, extra) => Built::Refused { number, extra },
+        Checked::Refused { number, extra } => Built::Refused { number, extra },
         Checked::Passed(needed) => {
             let built = late(form, row.width, n, sources, targets, orders, d, work, out);
             numbers::clear_words(work, needed);

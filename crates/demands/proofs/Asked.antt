@@ -7,21 +7,21 @@ use borrow.Author.Tests.{lt-leb, le-ltb}
 use Rattle.lineage.specs.Stored.{Counts, countsIn}
 use Rattle.lineage.specs.Question.{answer}
 use Rattle.lineage.specs.Calls.{answered, formChecks, contentsCheck, openAnswer, indexIn, askEarly, Said, saidOf, askAnswer, askMarks}
-use Rattle.build.proofs.Checks.{all-pass, passed-is, pass-all}
+use Rattle.stored_header.proofs.Checks.{stops-outcome, answered-pass, answered-is}
 use Rattle.ask.proofs.Theorems.{marks-are}
 
 -- the counts that are given are the header's
 pub opened-counts : (b : List ℕ) (m : ℕ) {a : Counts} → openAnswer b m ≡ answered a → a ≡ countsIn b
 unfolding openAnswer
-opened-counts b m {a} e = passed-is (formChecks b m ++ (contentsCheck b ∷ [])) (countsIn b) a e
+opened-counts b m {a} e = answered-is (countsIn b) (formChecks b m ++ (contentsCheck b ∷ [])) a e
 
 -- what opens is asked: none of a question's checks applies
 module _ (b : List ℕ) (m : ℕ) {a : Counts} (e : openAnswer b m ≡ answered a) (u v : ℕ) (source : u < countsIn b .n) (target : v < countsIn b .n) where
   pub opened-asks : (marks : ℕ) → countsIn b .n ≤ marks → askAnswer b u v marks ≡ answered (saidOf (answer (indexIn b) u v))
   unfolding openAnswer askAnswer
   opened-asks marks room =
-      let p = all-pass (formChecks b m ++ (contentsCheck b ∷ [])) (countsIn b) a e in
-      pass-all (askEarly b u v marks ++ (contentsCheck b ∷ [])) (saidOf (answer (indexIn b) u v)) (
+      let p = answered-pass (countsIn b) (formChecks b m ++ (contentsCheck b ∷ [])) a e in
+      stops-outcome (saidOf (answer (indexIn b) u v)) (askEarly b u v marks ++ (contentsCheck b ∷ [])) 7 (
         p .0,
         (
           p .1 .0,
@@ -41,5 +41,5 @@ module _ (b : List ℕ) (u v m : ℕ) {s : Said} (e : askAnswer b u v m ≡ answ
   pub asked-opens : openAnswer b m ≡ answered (countsIn b)
   unfolding openAnswer askAnswer
   asked-opens =
-      let p = all-pass (askEarly b u v m ++ (contentsCheck b ∷ [])) (saidOf (answer (indexIn b) u v)) s e in
-      pass-all (formChecks b m ++ (contentsCheck b ∷ [])) (countsIn b) (p .0, (p .1 .0, (p .1 .1 .0, (p .1 .1 .1 .0, (p .1 .1 .1 .1 .1 .1 .0, tt)))))
+      let p = answered-pass (saidOf (answer (indexIn b) u v)) (askEarly b u v m ++ (contentsCheck b ∷ [])) s e in
+      stops-outcome (countsIn b) (formChecks b m ++ (contentsCheck b ∷ [])) 5 (p .0, (p .1 .0, (p .1 .1 .0, (p .1 .1 .1 .0, (p .1 .1 .1 .1 .1 .1 .0, tt)))))

@@ -14,11 +14,12 @@ use Rattle.lineage.specs.Index.{Made}
 use Rattle.lineage.specs.Stored.{Counts, countsIn}
 use Rattle.lineage.specs.Question.{answer}
 use Rattle.lineage.specs.Calls.{Outcome, refused, answered, formChecks, contentsCheck, openAnswer, openMarks, indexIn, askEarly, Said, saidOf, askAnswer, askMarks}
+use Rattle.stored_header.specs.Checks.{Told}
+use Rattle.stored_header.proofs.Checks.{outcome-told}
 use Rattle.ask.proofs.Theorems.{asked-right}
 use Rattle.drobisten.specs.declared.DrobistenOpened.{DrobistenOpened}
 use Rattle.drobisten.specs.declared.DrobistenAsked.{DrobistenAsked}
 use Rattle.drobisten.specs.Host.{hostOpened, hostAsked, openedBy, askedBy}
-use Rattle.ask.proofs.Words.{Told, outcome-told}
 
 -- a refusal's number is above 0; of an answer nothing is asked
 abbrev Some : ℕ → ℕ → Type 0
@@ -46,13 +47,13 @@ pub opened-read : (b : List ℕ) (m : ℕ) → openedBy (hostOpened (openAnswer 
 unfolding openAnswer
 opened-read b m =
     opened-back (openAnswer b m)
-    (outcome-told Some Any (formChecks b m ++ (contentsCheck b ∷ [])) (countsIn b) (omega arith, (omega arith, (omega arith, (omega arith, (omega arith, tt))))) tt)
+    (outcome-told (countsIn b) Some Any (formChecks b m ++ (contentsCheck b ∷ [])) (omega arith, (omega arith, (omega arith, (omega arith, (omega arith, tt))))) tt)
 
 pub asked-read : (b : List ℕ) (u v m : ℕ) → askedBy (hostAsked (askAnswer b u v m)) ≡ askAnswer b u v m
 unfolding askAnswer
 asked-read b u v m =
     asked-back (askAnswer b u v m)
-    (outcome-told Some Any (askEarly b u v m ++ (contentsCheck b ∷ [])) (saidOf (answer (indexIn b) u v))
+    (outcome-told (saidOf (answer (indexIn b) u v)) Some Any (askEarly b u v m ++ (contentsCheck b ∷ []))
     (omega arith, (omega arith, (omega arith, (omega arith, (omega arith, (omega arith, (omega arith, tt))))))) tt)
 
 -- what `drobisten_open` and `drobisten_ask` may return and leave, by their contracts

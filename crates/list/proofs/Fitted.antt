@@ -23,11 +23,12 @@ use Rattle.numbers.specs.Bounds.{entryBound}
 use Rattle.numbers.specs.Regions.{Part}
 use Rattle.numbers.proofs.Numbers.{room, numbers-long, numbers-at}
 use Rattle.stored_header.specs.declared.Layout.{Layout}
-use Rattle.stored.specs.Sections.{childrenIn, labellingIn, triplesOf, placesOf, labelsIn, indexFrom, indexAt}
+use Rattle.stored.specs.Sections.{Six, childrenIn, labellingIn, triplesOf, placesOf, labelsIn, indexFrom, indexAt}
 use Rattle.stored.proofs.Sections.{children-long, e-at, labels-long}
 use Rattle.sound_groups.specs.Fit.{Holds}
 use Rattle.sound_places.specs.Lent.{Lent}
-use Rattle.sound_places.proofs.Lent.{Six, index-at, lent}
+use Rattle.stored.proofs.Contents.{index-at}
+use Rattle.sound_places.proofs.Lent.{lent}
 use Rattle.reach_sweep.specs.Fit.{Spots, Ranked}
 use Rattle.list.specs.Fit.{Names, SoundBytes}
 use Rattle.reach_sweep.specs.Sweep.{swept}

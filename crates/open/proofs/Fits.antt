@@ -20,8 +20,8 @@ use Rattle.laws.proofs.Names.{names-long}
 use Rattle.laws.proofs.Sound.{made-sound}
 use Rattle.laws.proofs.Starts.{starts-pass}
 use Rattle.stored.specs.Fits.{Full, Fits}
-use Rattle.stored.proofs.Encoded.{header-read, counts-read, decode-encode, encode-passes, encode-laid}
-use Rattle.open.proofs.Checks.{header-passed, opened}
+use Rattle.stored.proofs.Encoded.{header-read, counts-read, decode-encode, encode-passes}
+use Rattle.open.proofs.Checks.{passed-opens}
 use Rattle.open.proofs.Starts.{starts-read}
 use Rattle.open.proofs.Small.{groups-few, sections-small}
 use Rattle.open.proofs.Entries.{entries-few}
@@ -110,5 +110,4 @@ module _ {F : Form} {I : Index} (E : Fits F I) (passes : sound I ≡ true) where
   fits-opens marks h =
       let n : countsIn b .n ≡ length (I .names) = ap (λ (a : Counts). a .n) (counts-read E) in
       ap answered (sym (counts-read E))
-      ∙ opened (encode-laid E) (omega arith) (sym (ap (λ (G : Form). contentsSound (G .width) b) form-again ∙ contents-again)) refl
-      ∙ header-passed b (encode-passes E) marks
+      ∙ passed-opens b (encode-passes E) marks (omega arith) (ap (λ (G : Form). contentsSound (G .width) b) form-again ∙ contents-again)

@@ -22,7 +22,6 @@ use Rattle.laws.proofs.Tests.{both}
 use Rattle.laws.proofs.Starts.{pass-laid, rows-joined}
 use Rattle.numbers.proofs.Numbers.{numbers-long}
 use Rattle.numbers.proofs.Written.{Bytes}
-use Rattle.stored_header.specs.Header.{layoutIn}
 use Rattle.stored.specs.Fits.{Fits}
 use Rattle.stored_header.proofs.Laid.{header-laid}
 use Rattle.stored.proofs.Encoded.{counts-read}
@@ -65,7 +64,7 @@ module _ (b : List ℕ) (marks : ℕ) {a : Counts} (e : answered a ≡ openAnswe
   opened-yields : Bytes b → Yields form1 b
   opened-yields small =
       let M : Made (indexIn b) = opened-made in
-      let laid = header-laid b (layoutIn b) (right-passes b (opened-right b marks e)) in
+      let laid = header-laid b (right-passes b (opened-right b marks e)) in
       record {
         graph = M .graph;
         ends = M .ends;
@@ -99,7 +98,7 @@ module _ {b : List ℕ} (Y : Yields form1 b) where
   -- the header's counts are the index's
   counts-right : HeaderRight b → length (Y .orders) ≡ countsIn b .d → countsFit form1 (countsOf I) ≡ true
   counts-right R d =
-      let L = header-laid b (layoutIn b) (right-passes b R) in
+      let L = header-laid b (right-passes b R) in
       let short : length (encode form1 I) < 2 ^ 31 = subst (λ (z : List ℕ). length z < 2 ^ 31) (sym (Y .bytes)) (laid-short L) in
       let counts = counts-bounded (made-sound (Y .graph) (Y .ends) (Y .orders) (Y .permuted)) short (omega (arith, labellings, L .most)) in
       ap (countsFit form1) (sym counts ∙ ap countsIn (Y .bytes)) ∙ R .counts

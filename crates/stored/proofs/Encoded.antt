@@ -12,12 +12,13 @@ use Rattle.lineage.specs.Numbers.{numbers, written}
 use Rattle.lineage.specs.Labels.{Labelling}
 use Rattle.lineage.specs.Index.{Index}
 use Rattle.lineage.specs.Stored.{Form, Counts, sizes, offsets, offsetsFrom, totalLength, sections, startsFrom, countsOf, header, encode, headerAt, countsIn, formOf, isForm, countsFit, offsetsFit, stretch, section, rowAt, labellingAt, decode}
-use Rattle.lineage.specs.Calls.{answered, outcome, indexIn}
+use Rattle.lineage.specs.Calls.{indexIn}
 use Rattle.laws.proofs.Lists.{getD-mapped, same-self}
 use Rattle.laws.proofs.Every.{every-at}
 use Rattle.laws.proofs.Starts.{starts-long, rows-read}
 use Rattle.numbers.specs.Bounds.{vertexBound}
 use Rattle.numbers.proofs.Written.{written-long, num-front, written-at, numbers-written}
+use Rattle.stored_header.specs.Checks.{Pass}
 use Rattle.stored_header.specs.Header.{layoutIn, offsetsIn, headerChecks, Laid}
 use Rattle.stored.specs.Fits.{Fits}
 use Rattle.stored_header.proofs.Forms.{Within, form-within}
@@ -154,7 +155,7 @@ module _ {F : Form} {I : Index} (E : Fits F I) where
       (ap (λ (z : List ℕ). sameList z o) offsets-read ∙ same-self o)
       (eq-eqb (length (encode F I)) (totalLength (F .width) (a .n) (a .k) (a .c) (a .d)) encode-long)
 
-  pub encode-passes : answered (layoutIn (encode F I)) ≡ outcome (headerChecks (encode F I)) (layoutIn (encode F I))
+  pub encode-passes : Pass (headerChecks (encode F I))
   encode-passes =
       all-right (encode F I)
       (omega (arith, encode-long))
@@ -163,7 +164,7 @@ module _ {F : Form} {I : Index} (E : Fits F I) where
       (ap₂ (λ (G : Form) (z : Counts). offsetsFit G z (encode F I)) form-read counts-read ∙ offsets-fit)
 
   pub encode-laid : Laid (encode F I) (layoutIn (encode F I))
-  encode-laid = header-laid (encode F I) (layoutIn (encode F I)) encode-passes
+  encode-laid = header-laid (encode F I) encode-passes
 
   -- the bytes hold the index
   pub index-encode : indexIn (encode F I) ≡ I

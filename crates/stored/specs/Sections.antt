@@ -18,6 +18,15 @@ pub record Section (b : List ℕ) (l : Layout) (i : ℕ) (r : List ℕ) : Type 0
   pub is : r ≡ stretch (l .width) (countsIn b) b i
   pub long : length r ≡ l .width * getD (sizes (l .n) (l .k) (l .c) (l .d)) i 0
 
+-- all six
+pub record Six (b : List ℕ) (l : Layout) (names groups levels starts children labels : List ℕ) : Type 0 where
+  pub names-in : Section b l 0 names
+  pub groups-in : Section b l 1 groups
+  pub levels-in : Section b l 2 levels
+  pub starts-in : Section b l 3 starts
+  pub children-in : Section b l 4 children
+  pub labels-in : Section b l 5 labels
+
 -- r is the children of the group at place p, from child start to next child start
 abbrev pub ChildrenOf : List ℕ → List ℕ → ℕ → ℕ → List ℕ → Type 0
 ChildrenOf starts children w p r =

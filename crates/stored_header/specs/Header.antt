@@ -67,7 +67,7 @@ headerOf form l = form ∷ l .n ∷ l .k ∷ l .c ∷ l .d ∷ offsetsOf l
 abbrev pub offsetsAgree : List ℕ → Layout → Bool
 offsetsAgree b l = sameList (offsetsIn b) (offsetsOf l) && eqb (length b) (l .total)
 
--- the checks of a call that the header alone decides: 10, 11 and 12
+-- those of the checks 10 to 13 that the header alone decides
 abbrev pub headerChecks : List ℕ → List Check
 headerChecks b = take 3 (formChecks b 0)
 

@@ -20,12 +20,7 @@ fn put_told(out: &mut [u8], at: usize, index: &[u8], source: u32, target: u32) -
             reason,
             opened,
         } => text_printing::put_said(out, at, says, reason, opened),
-        Asked::Refused { number, extra } => text_printing::put_refusal(
-            out,
-            at,
-            number as u32,
-            extra as u32,
-        ),
+        Asked::Refused { number, extra } => text_printing::put_refusal(out, at, number, extra),
     }
 }
 

@@ -8,6 +8,7 @@ ghost use Rattle.text.specs.Text.{says};
 ghost use Rattle.text.specs.Output.{refusal, afterReading, output};
 ghost use Rattle.text_printing.specs.Printer.{Put};
 use build::Built;
+use refusals::BAD_TEXT;
 use text::MOST_BYTES;
 use text::MOST_EDGES;
 use text::MOST_ORDERS;
@@ -63,14 +64,14 @@ pub fn run(text: &[u8], out: &mut [u8; MOST_OUTPUT]) -> usize
     ensures { λ r. ⌜ now (out .exit) ≡ output (now (text .entry)) ++ drop r (now (out .entry)) ⌝ }
 {
     if MOST_BYTES < text.len() {
-        return put_refused(out, 17, 0);
+        return put_refused(out, BAD_TEXT, 0);
     }
     let mut sources = [0u32; MOST_EDGES];
     let mut targets = [0u32; MOST_EDGES];
     let mut orders = [0u32; MOST_ORDERS * MOST_VERTICES];
     let mut asked = [0u32; 2 * (MOST_QUESTIONS + 1)];
     match text::read_text(text, &mut sources, &mut targets, &mut orders, &mut asked) {
-        Reading::BadLine(line) => put_refused(out, 17, line as u32),
+        Reading::BadLine(line) => put_refused(out, BAD_TEXT, line as u32),
         Reading::Says {
             n,
             edges,

@@ -1,21 +1,14 @@
--- `drobisten::drobisten_ask` meets its contract: it hands on what `ask` gives, whose refusals' numbers are of 32 bits; yes is 1 and no is 0.
+-- `drobisten::drobisten_ask` meets its contract: it hands on what `ask` gives; yes is 1 and no is 0.
 use mathlib.Core.Bool.{Bool, true, false}
 use mathlib.Core.Path.{_≡_, refl, sym, ap, _∙_}
-use Prim.Native.Nat.{ℕ, _<_}
-use native.Mathlib.Omega.{arith}
+use Prim.Native.Nat.{ℕ}
 use mir.Val.{boolByte}
 use borrow.Author.Needs.{needs}
-use lib.ListN.{getD}
 use Rattle.lineage.specs.Calls.{answered}
 use Rattle.ask.specs.Asked.{askedOf}
 use Rattle.drobisten.specs.Host.{hostAsked}
-use Rattle.ask.proofs.Words.{Words, ask-refused}
 use Rattle.drobisten.proofs.drobisten_ask.Statement.{statement}
 use Rattle.drobisten.proofs.drobisten_ask.Tie as tie
-
--- what is lent are bytes
-bytes : (o : tie.After-ask) (i : ℕ) → getD (o .before .before .before .before .args .index .now) i 0 < 256
-bytes o i = omega (arith, o .before .before .before .shared-slice-known .given i)
 
 -- an answer: the cast makes 1 of yes and 0 of no
 answer-is :
@@ -23,12 +16,6 @@ answer-is :
     → record { refusal = 0; extra = 0; yes = boolByte says; reason = reason; opened = opened } ≡ hostAsked (answered (record { says = says; reason = reason; opened = opened }))
 answer-is true reason opened = refl
 answer-is false reason opened = refl
-
--- a refusal
-refusal : (c : tie.After-known-told2) → let g = c .before .number .given .0 in Words (g .0) (g .1 .0)
-refusal c =
-    let o = c .before .before .before .before .before in
-    ask-refused _ (bytes o) _ _ _ _ _ (ap askedOf (sym (c .before .number .given .1)) ∙ o .ask .ensures .0)
 
 ask-requires : tie.Need-ask-requires
 ask-requires c κs = search needs
@@ -41,12 +28,6 @@ cast-t14 c = search needs
 
 enum-known-number : tie.Need-enum-known-number
 enum-known-number c = search needs
-
-cast-t15 : tie.Need-cast-t15
-cast-t15 c = omega (arith, refusal c .0)
-
-cast-t16 : tie.Need-cast-t16
-cast-t16 c = omega (arith, refusal c .1)
 
 same-length : tie.Need-same-length
 same-length c = search needs
@@ -72,8 +53,6 @@ drobisten-ask-spec =
     enum-known-says
     cast-t14
     enum-known-number
-    cast-t15
-    cast-t16
     same-length
     returns
     same-length-2
