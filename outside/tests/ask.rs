@@ -29,8 +29,8 @@ fn vertices_out_of_range_and_damaged_images_are_refused() {
         let d = chance.between(1, 3);
         let bytes = encode(&Index::of(&graph, &chance.orders(graph.n, d)));
         let pairs = [(0, 0), (n, 0), (0, n), (n, n), (n.max(1) - 1, u32::MAX), (u32::MAX, 0), (0, n.max(1) - 1)];
-        compare::ask(&mut library, &bytes, &pairs);
-        compare::ask(&mut library, &chance.any_damage(&bytes), &pairs);
+        compare::ask_pairs(&mut library, &bytes, &pairs);
+        compare::ask_pairs(&mut library, &chance.any_damage(&bytes), &pairs);
     }
 }
 

@@ -14,9 +14,9 @@ fn lists_of_all_vertices_of_random_graphs() {
         let d = chance.between(1, 5);
         let bytes = image(&graph, &chance.orders(graph.n, d));
         for vertex in 0..=graph.n as u32 {
-            compare::list(&mut library, &bytes, vertex);
+            compare::list_around(&mut library, &bytes, vertex);
         }
-        compare::list(&mut library, &chance.any_damage(&bytes), 0);
+        compare::list_around(&mut library, &chance.any_damage(&bytes), 0);
     }
 }
 
@@ -27,6 +27,6 @@ fn lists_at_the_largest_sizes() {
         let graph = chance.graph(kind, 4_096);
         let bytes = image(&graph, &chance.orders(graph.n, 1));
         let vertex = chance.below(graph.n) as u32;
-        compare::list(&mut library, &bytes, vertex);
+        compare::list_around(&mut library, &bytes, vertex);
     }
 }

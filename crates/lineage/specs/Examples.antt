@@ -1,11 +1,11 @@
 -- The reckoned examples of document 01, P1 to P10, the sample text's five answers and the slips that need an example of their own: one table,
--- a single claim, by computation. Questions are asked of the stored bytes, through every check.
+-- a single claim, by computation. Questions are asked of the stored bytes, through every check. A second table has refusals of every kind.
 use mathlib.Core.Path.{_≡_, refl}
 use mathlib.Core.Bool.{Bool, true, false}
 use mathlib.Core.List.{List, [], _∷_, _++_, map}
 use Prim.Native.Nat.{ℕ, suc, _-_}
 use lib.Dec.{leb·zero}
-use lib.ListN.{length, getD, set, replicate}
+use lib.ListN.{length, getD, set, replicate, take}
 use Rattle.lineage.specs.Lists.{upto, Every}
 use Rattle.lineage.specs.Graph.{Graph, condense}
 use Rattle.lineage.specs.Labels.{Labelling}
@@ -69,6 +69,17 @@ lent size = replicate size 7
 abbrev altered : List ℕ → ℕ → ℕ → List ℕ
 altered bytes i x = set bytes i x
 
+-- n vertices, and lists of so many sources and targets
+abbrev bare : ℕ → (sources targets : ℕ) → Graph
+bare n sources targets = record { n = n; sources = replicate sources 0; targets = replicate targets 0 }
+
+-- the bytes of G under A, and the same with 3's inner interval over a group that is not below it: its m, at byte 114, is 1
+abbrev sound : List ℕ
+sound = stored G (A ∷ [])
+
+abbrev unsound : List ℕ
+unsound = altered sound 114 1
+
 -- a question and its outcome
 data Question : Type 0 where
   question : (u v : ℕ) → Outcome Said → Question
@@ -84,6 +95,9 @@ data Example : Type 0 where
   listIs : Graph → (orders : List (List ℕ)) → (u : ℕ) → List ℕ → Example
   opensAs : (bytes : List ℕ) → (marks : ℕ) → Outcome Counts → Example
   buildsAs : Graph → (d : ℕ) → (orders : List ℕ) → (work out : ℕ) → Outcome ℕ → Example
+  asksAs : (bytes : List ℕ) → (marks : ℕ) → List Question → Example
+  listsAs : (bytes : List ℕ) → (u marks out : ℕ) → Outcome ℕ → Example
+  allRefuse : (bytes : List ℕ) → (vertex marks : ℕ) → (number extra : ℕ) → Example
 
 abbrev Asked : List ℕ → ℕ → Question → Type 0
 Asked bytes marks (question u v o) = askAnswer bytes u v marks ≡ o
@@ -105,6 +119,12 @@ Right (listIs g orders u vs) =
     × (listAnswer (stored g orders) u (g .n) (length vs - 1) ≡ refused 16 (length vs))
 Right (opensAs bytes marks o) = openAnswer bytes marks ≡ o
 Right (buildsAs g d orders work out o) = buildAnswer form1 (record { graph = g; d = d; orders = orders }) work out ≡ o
+Right (asksAs bytes marks qs) = Every (Asked bytes marks) qs
+Right (listsAs bytes u marks out o) = listAnswer bytes u marks out ≡ o
+Right (allRefuse bytes vertex marks number extra) =
+    (openAnswer bytes marks ≡ refused number extra)
+    × (askAnswer bytes vertex vertex marks ≡ refused number extra)
+    × (listAnswer bytes vertex marks 0 ≡ refused number extra)
 
 abbrev table : List Example
 table =
@@ -148,3 +168,34 @@ claim : Every Right table
 unfolding condense indexOf answer encode openAnswer askAnswer askMarks listAnswer listOutput buildAnswer
 claim =
     ((refl, refl), (refl, (refl, (refl, ((refl, refl, refl), ((refl, refl, refl), ((refl, refl, refl), ((refl, refl, refl), (refl, (refl, (refl, ((λ u v. rw leb·zero), ((refl, (refl, (refl, (refl, (refl, tt))))), ((refl, (refl, tt)), ((refl, refl), (refl, (refl, ((refl, refl, refl), (refl, (refl, (refl, tt)))))))))))))))))))))
+
+-- Refusals of every kind, with their extra numbers: in each row the next check applies too, so that their order shows.
+abbrev refusals : List Example
+refusals =
+    -- a build: 1 to 9
+    buildsAs (bare 4097 1 0) 1 [] 0 0 (refused 1 0)
+    ∷ buildsAs (bare 6 16385 0) 1 [] 0 0 (refused 2 0)
+    ∷ buildsAs (bare 6 16385 16385) 0 [] 0 0 (refused 3 0)
+    ∷ buildsAs (bare 6 1 1) 0 A 0 0 (refused 4 0)
+    ∷ buildsAs (bare 6 1 1) 6 A 0 0 (refused 4 0)
+    ∷ buildsAs (bare 6 1 1) 2 A 0 0 (refused 5 0)
+    ∷ buildsAs (bare 0 1 1) 1 [] 67 0 (refused 6 68)
+    ∷ buildsAs (record { n = 2; sources = 0 ∷ 2 ∷ []; targets = 1 ∷ 0 ∷ [] }) 1 (1 ∷ 1 ∷ []) 104 0 (refused 7 1)
+    ∷ buildsAs (bare 2 0 0) 2 (1 ∷ 0 ∷ 1 ∷ 1 ∷ []) 96 0 (refused 8 1)
+    ∷ buildsAs (bare 2 0 0) 1 (1 ∷ 0 ∷ []) 96 81 (refused 9 82)
+    -- open, ask and list: 10 to 13; the vertex is out of range each time
+    ∷ allRefuse (take 47 (altered sound 0 2)) 6 5 10 0
+    ∷ allRefuse (take 48 (altered sound 1 1)) 6 5 11 257
+    ∷ allRefuse (take 48 sound) 6 5 12 0
+    ∷ allRefuse unsound 6 5 13 6
+    -- ask and list: 14, 15, and 16 of a list
+    ∷ asksAs unsound 6 (question 6 6 (refused 14 0) ∷ question 0 6 (refused 14 1) ∷ question 0 0 (refused 15 0) ∷ [])
+    ∷ listsAs unsound 6 6 0 (refused 14 0)
+    ∷ listsAs unsound 2 6 0 (refused 15 0)
+    ∷ listsAs sound 2 6 2 (refused 16 3)
+    ∷ []
+
+all-refused : Every Right refusals
+unfolding indexOf answer encode openAnswer askAnswer listAnswer buildAnswer
+all-refused =
+    (refl, (refl, (refl, (refl, (refl, (refl, (refl, (refl, (refl, (refl, ((refl, refl, refl), ((refl, refl, refl), ((refl, refl, refl), ((refl, refl, refl), ((refl, (refl, (refl, tt))), (refl, (refl, (refl, tt))))))))))))))))))
