@@ -1,10 +1,10 @@
 //! One call made twice, of the library and of the independent program, on the same input and equal buffers: outcomes and buffers must be equal. Buffers
 //! are lent with a pattern in them and a few elements behind what the call may touch.
 
-use crate::{Library, Said};
+use crate::Library;
 use independent::chance::Chance;
 use independent::graph::flat;
-use independent::{Graph, Index};
+use independent::{Answer, Graph, Index};
 
 /// What buffers hold before a call.
 const PATTERN: u8 = 0xa5;
@@ -39,7 +39,7 @@ pub fn open_around(library: &mut Library, index: &[u8]) {
 pub fn ask(library: &mut Library, index: &[u8], source: u32, target: u32, marks: usize) -> u32 {
     let (mut ours, mut theirs) = (vec![PATTERN; marks], vec![PATTERN; marks]);
     let got = library.ask(index, source, target, &mut ours);
-    let expected = independent::ask(index, source, target, &mut theirs).map(Said::from);
+    let expected = independent::ask(index, source, target, &mut theirs);
     assert_eq!(got, expected, "{source} to {target} of {} bytes with {marks} marks", index.len());
     assert_eq!(ours, theirs, "marks after {source} to {target}: {expected:?}");
     got.map_or_else(|refusal| refusal.number, |_| 0)
@@ -53,7 +53,7 @@ pub fn ask_pairs(library: &mut Library, index: &[u8], pairs: &[(u32, u32)]) {
 }
 
 /// Questions of an index that the independent program has made and need not judge each time; answers by its own walk, yes and no by plain closure.
-pub fn ask_made(library: &mut Library, graph: &Graph, index: &Index, image: &[u8], pairs: &[(u32, u32)]) -> Vec<Said> {
+pub fn ask_made(library: &mut Library, graph: &Graph, index: &Index, image: &[u8], pairs: &[(u32, u32)]) -> Vec<Answer> {
     let closure = independent::closure::Closure::of(graph);
     let n = graph.n;
     let before = vec![PATTERN; n + 3];
@@ -61,7 +61,7 @@ pub fn ask_made(library: &mut Library, graph: &Graph, index: &Index, image: &[u8
     let compared = pairs.iter().zip(replies).map(|(&(u, v), (got, marks))| {
         let asked = index.question(u as usize, v as usize);
         let got = got.expect("a question in range of a sound index is answered");
-        assert_eq!(got, Said::from(asked.answer), "{u} to {v}");
+        assert_eq!(got, asked.answer, "{u} to {v}");
         assert_eq!(got.yes, closure.reaches(u as usize, v as usize), "{u} to {v}: yes exactly when a path exists");
         let mut expected = before.clone();
         expected[..n].fill(0);

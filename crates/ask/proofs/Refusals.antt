@@ -52,5 +52,5 @@ module _ (b : List ℕ) (u v : ℕ) (marks : List ℕ) where
 
     -- where none applies, and the question replies q on marks that were cleared below n
     pub asks-answered : Stops (own ++ late) 3 → {m : List ℕ} → m ≡ cleared (l .n) marks → (q : Reply) (m' : List ℕ) → answerBy q m' ≡ answer (indexIn b) u v
-        → Asks (answered (record { says = q .says; reason = q .reason; opened = q .opened })) (m' ++ drop (l .n) m)
+        → Asks (answered (record { says = q .says; reason = q .reason; opened = q .opened; deciding = q .deciding })) (m' ++ drop (l .n) m)
     asks-answered s left q m' e = rw (left, cleared-past (l .n) marks, n-is (admitted-laid A)) (rw (← e) at (asks-at 3 s))

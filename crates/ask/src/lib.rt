@@ -1,4 +1,4 @@
-// Asking a stored index: is the target reached from the source, by which rule, and how many groups were opened for it.
+// Asking a stored index: is the target reached from the source, by which rule, how many groups were opened for it, and which labelling decided.
 ghost use mathlib.Core.Path.{_≡_};
 ghost use lib.ListN.{length};
 ghost use Rattle.lineage.specs.Calls.{askAnswer, askMarks};
@@ -10,12 +10,14 @@ use refusals::BAD_VERTEX;
 use refusals::NOT_SOUND;
 use stored_header::Header;
 
-// An answer: yes or no, the reason 1 to 6, and the groups opened; or a refusal with its number and its extra number.
+// An answer: yes or no, the reason 1 to 6, the groups opened, and the number, from 1, of the labelling that decided (0 where none did); or a refusal with
+// its number and its extra number.
 pub enum Asked {
     Answer {
         says: bool,
         reason: u32,
         opened: u32,
+        deciding: u32,
     },
     Refused {
         number: u32,
@@ -70,5 +72,6 @@ pub fn ask(index: &[u8], source: u32, target: u32, marks: &mut [u8]) -> Asked
         says: r.says,
         reason: r.reason,
         opened: r.opened,
+        deciding: r.deciding,
     }
 }

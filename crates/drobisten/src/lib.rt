@@ -25,6 +25,7 @@ pub struct DrobistenAsked {
     pub yes: u32,
     pub reason: u32,
     pub opened: u32,
+    pub labelling: u32,
 }
 
 // `open` for the host.
@@ -69,12 +70,14 @@ pub extern "C" fn drobisten_ask(
             says,
             reason,
             opened,
+            deciding,
         } => DrobistenAsked {
             refusal: 0,
             extra: 0,
             yes: says as u32,
             reason,
             opened,
+            labelling: deciding,
         },
         Asked::Refused { number, extra } => DrobistenAsked {
             refusal: number,
@@ -82,6 +85,7 @@ pub extern "C" fn drobisten_ask(
             yes: 0,
             reason: 0,
             opened: 0,
+            labelling: 0,
         },
     }
 }

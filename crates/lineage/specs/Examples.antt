@@ -10,7 +10,6 @@ use Rattle.lineage.specs.Lists.{upto, Every}
 use Rattle.lineage.specs.Graph.{Graph, condense}
 use Rattle.lineage.specs.Labels.{Labelling}
 use Rattle.lineage.specs.Index.{indexOf}
-use Rattle.lineage.specs.Question.{answer}
 use Rattle.lineage.specs.Stored.{form1, Counts, encode}
 use Rattle.lineage.specs.Calls.{Outcome, refused, answered, Said, buildAnswer, openAnswer, askAnswer, askMarks, listAnswer, listOutput}
 
@@ -55,8 +54,8 @@ labelsIn (l ∷ ls) k = map (λ p. label (getD (l .s) p 0) (getD (l .m) p 0) (ge
 abbrev stored : Graph → List (List ℕ) → List ℕ
 stored g orders = encode form1 (indexOf g orders)
 
-abbrev said : Bool → ℕ → ℕ → Said
-said says reason opened = record { says = says; reason = reason; opened = opened }
+abbrev said : Bool → ℕ → ℕ → ℕ → Said
+said says reason opened deciding = record { says = says; reason = reason; opened = opened; deciding = deciding }
 
 abbrev counts : ℕ → ℕ → ℕ → ℕ → Counts
 counts n k c d = record { n = n; k = k; c = c; d = d }
@@ -88,7 +87,7 @@ data Example : Type 0 where
   groupsAre : Graph → (names groups : List ℕ) → Example
   levelsAre : Graph → List ℕ → Example
   labelsAre : Graph → (order : List ℕ) → List Label → Example
-  answerIs : Graph → (orders : List (List ℕ)) → (u v : ℕ) → Said → (deciding : ℕ) → (marks : List ℕ) → Example
+  answerIs : Graph → (orders : List (List ℕ)) → (u v : ℕ) → Said → (marks : List ℕ) → Example
   totalIs : Graph → (orders : List (List ℕ)) → ℕ → Example
   everyQuestionIs : Graph → (orders : List (List ℕ)) → Outcome Said → Example
   questionsAre : Graph → (orders : List (List ℕ)) → List Question → Example
@@ -106,9 +105,8 @@ abbrev Right : Example → Type 0
 Right (groupsAre g names groups) = (condense g .names ≡ names) × (condense g .groups ≡ groups)
 Right (levelsAre g levels) = indexOf g [] .levels ≡ levels
 Right (labelsAre g order labels) = labelsIn (indexOf g (order ∷ []) .labels) (length (indexOf g (order ∷ []) .groups)) ≡ labels
-Right (answerIs g orders u v a deciding marks) =
+Right (answerIs g orders u v a marks) =
     (askAnswer (stored g orders) u v (g .n) ≡ answered a)
-    × (answer (indexOf g orders) u v .deciding ≡ deciding)
     × (askMarks (stored g orders) u v (lent (suc (g .n))) ≡ marks ++ (7 ∷ []))
 Right (totalIs g orders total) = length (stored g orders) ≡ total
 Right (everyQuestionIs g orders o) = (u v : ℕ) → askAnswer (stored g orders) u v (g .n) ≡ o
@@ -133,10 +131,10 @@ table =
     ∷ levelsAre G (2 ∷ 1 ∷ 1 ∷ 0 ∷ 0 ∷ [])
     ∷ labelsAre G A (label 1 1 4 ∷ label 1 1 2 ∷ label 1 3 3 ∷ label 1 1 1 ∷ label 5 5 5 ∷ [])
     ∷ labelsAre G B (label 2 2 5 ∷ label 2 4 4 ∷ label 2 2 3 ∷ label 2 2 2 ∷ label 1 1 1 ∷ [])
-    ∷ answerIs G (A ∷ []) 3 4 (said true 5 1) 1 (0 ∷ 0 ∷ 0 ∷ 1 ∷ 0 ∷ 0 ∷ [])
-    ∷ answerIs G (A ∷ B ∷ []) 3 4 (said true 2 0) 2 (0 ∷ 0 ∷ 0 ∷ 0 ∷ 0 ∷ 0 ∷ [])
-    ∷ answerIs G (A ∷ []) 0 5 (said false 4 0) 1 (0 ∷ 0 ∷ 0 ∷ 0 ∷ 0 ∷ 0 ∷ [])
-    ∷ answerIs H (falling ∷ []) 3 2 (said false 4 0) 1 (0 ∷ 0 ∷ 0 ∷ 0 ∷ [])
+    ∷ answerIs G (A ∷ []) 3 4 (said true 5 1 1) (0 ∷ 0 ∷ 0 ∷ 1 ∷ 0 ∷ 0 ∷ [])
+    ∷ answerIs G (A ∷ B ∷ []) 3 4 (said true 2 0 2) (0 ∷ 0 ∷ 0 ∷ 0 ∷ 0 ∷ 0 ∷ [])
+    ∷ answerIs G (A ∷ []) 0 5 (said false 4 0 1) (0 ∷ 0 ∷ 0 ∷ 0 ∷ 0 ∷ 0 ∷ [])
+    ∷ answerIs H (falling ∷ []) 3 2 (said false 4 0 1) (0 ∷ 0 ∷ 0 ∷ 0 ∷ [])
     ∷ totalIs H (rising ∷ []) 120
     ∷ totalIs G (A ∷ B ∷ []) 180
     ∷ totalIs none ([] ∷ []) 50
@@ -144,12 +142,14 @@ table =
     -- the sample text
     ∷ questionsAre H
     (rising ∷ [])
-    (question 3 2 (answered (said false 6 1))
-    ∷ question 0 2 (answered (said true 2 0))
-    ∷ question 1 1 (answered (said true 1 0))
-    ∷ question 2 0 (answered (said false 3 0))
+    (question 3 2 (answered (said false 6 1 0))
+    ∷ question 0 2 (answered (said true 2 0 1))
+    ∷ question 1 1 (answered (said true 1 0 0))
+    ∷ question 2 0 (answered (said false 3 0 0))
     ∷ question 4 0 (refused 14 0)
     ∷ [])
+    -- of two labellings that both rule the target out, the first is named
+    ∷ answerIs G (A ∷ B ∷ []) 0 5 (said false 4 0 1) (0 ∷ 0 ∷ 0 ∷ 0 ∷ 0 ∷ 0 ∷ [])
     -- a vertex of n or more, source first
     ∷ questionsAre H (rising ∷ []) (question 0 4 (refused 14 1) ∷ question 9 4 (refused 14 0) ∷ [])
     -- names do not move with the sequence of the edges
@@ -165,9 +165,9 @@ table =
     ∷ []
 
 claim : Every Right table
-unfolding condense indexOf answer encode openAnswer askAnswer askMarks listAnswer listOutput buildAnswer
+unfolding condense indexOf encode openAnswer askAnswer askMarks listAnswer listOutput buildAnswer
 claim =
-    ((refl, refl), (refl, (refl, (refl, ((refl, refl, refl), ((refl, refl, refl), ((refl, refl, refl), ((refl, refl, refl), (refl, (refl, (refl, ((λ u v. rw leb·zero), ((refl, (refl, (refl, (refl, (refl, tt))))), ((refl, (refl, tt)), ((refl, refl), (refl, (refl, ((refl, refl, refl), (refl, (refl, (refl, tt)))))))))))))))))))))
+    ((refl, refl), (refl, (refl, (refl, ((refl, refl), ((refl, refl), ((refl, refl), ((refl, refl), (refl, (refl, (refl, ((λ u v. rw leb·zero), ((refl, (refl, (refl, (refl, (refl, tt))))), ((refl, refl), ((refl, (refl, tt)), ((refl, refl), (refl, (refl, ((refl, refl, refl), (refl, (refl, (refl, tt))))))))))))))))))))))
 
 -- Refusals of every kind, with their extra numbers: in each row the next check applies too, so that their order shows.
 abbrev refusals : List Example
@@ -196,6 +196,6 @@ refusals =
     ∷ []
 
 all-refused : Every Right refusals
-unfolding indexOf answer encode openAnswer askAnswer listAnswer buildAnswer
+unfolding indexOf encode openAnswer askAnswer listAnswer buildAnswer
 all-refused =
     (refl, (refl, (refl, (refl, (refl, (refl, (refl, (refl, (refl, (refl, ((refl, refl, refl), ((refl, refl, refl), ((refl, refl, refl), ((refl, refl, refl), ((refl, (refl, (refl, tt))), (refl, (refl, (refl, tt))))))))))))))))))

@@ -11,7 +11,7 @@ use lib.ListN.{length, getD, take, set, length-append}
 use lib.Seq.{take-all, take-suc}
 use borrow.Author.Tests.{lt-ltb, le-ltb}
 use Rattle.lineage.specs.Calls.{Outcome, refused, answered, Said}
-use Rattle.text.specs.Output.{digits, decimalBy, decimal, twoNumbers, said, told, question, questionLine}
+use Rattle.text.specs.Output.{digits, decimalBy, decimal, twoNumbers, threeNumbers, said, told, question, questionLine}
 use Rattle.text_lines.specs.Lines.{bytes}
 use Rattle.numbers.specs.Put.{put}
 use Rattle.numbers.proofs.Put.{put-none, put-next, put-sets}
@@ -99,18 +99,25 @@ pub word-ends : (out mid word : List ℕ) (at j : ℕ) → j ≡ length word →
 word-ends out mid word at j e p = put-same (take-all j word (omega arith)) p
 
 -- yes or no, by the test that was made
-pub said-is : (says t : Bool) (reason opened : ℕ) → says ≡ t → said (record { says = t; reason = reason; opened = opened }) ≡ said (record { says = says; reason = reason; opened = opened })
-said-is says t reason opened e = ap (λ (b : Bool). said (record { says = b; reason = reason; opened = opened })) (sym e)
+pub said-is : (says t : Bool) (reason opened deciding : ℕ) → says ≡ t
+    → said (record { says = t; reason = reason; opened = opened; deciding = deciding }) ≡ said (record { says = says; reason = reason; opened = opened; deciding = deciding })
+said-is says t reason opened deciding e = ap (λ (b : Bool). said (record { says = b; reason = reason; opened = opened; deciding = deciding })) (sym e)
 
 -- How long a line is at most: any number has at most ten digits.
 pub two-short : (x y : ℕ) → length (twoNumbers x y) ≤ 21
 two-short x y = omega (arith, number-short x, number-short y, length-append (decimal x) (bytes " " ++ decimal y))
 
-pub told-short : (o : Outcome Said) → length (told o) ≤ 29
+three-short : (x y z : ℕ) → length (threeNumbers x y z) ≤ 32
+three-short x y z = omega (arith, number-short x, two-short y z, length-append (decimal x) (bytes " " ++ twoNumbers y z))
+
+pub told-short : (o : Outcome Said) → length (told o) ≤ 36
 told-short (refused number extra) = omega (arith, two-short number extra)
-told-short (answered a) = go (a .says) (two-short (a .reason) (a .opened))
+told-short (answered a) = go (a .says) (three-short (a .reason) (a .opened) (a .deciding))
   where
-    go : (t : Bool) → length (twoNumbers (a .reason) (a .opened)) ≤ 21 → length (cond t (bytes "yes ") (bytes "no ") ++ twoNumbers (a .reason) (a .opened)) ≤ 29
+    numbers : List ℕ
+    numbers = threeNumbers (a .reason) (a .opened) (a .deciding)
+
+    go : (t : Bool) → length numbers ≤ 32 → length (cond t (bytes "yes ") (bytes "no ") ++ numbers) ≤ 36
     go true h = omega arith
     go false h = omega arith
 
@@ -118,7 +125,7 @@ pub question-short : (u v : ℕ) → length (question u v) ≤ 24
 question-short u v = omega (arith, length-append (twoNumbers u v) (bytes " "), two-short u v)
 
 -- the line of a question
-pub line-short : (u v : ℕ) (o : Outcome Said) → length (questionLine u v o) ≤ 54
+pub line-short : (u v : ℕ) (o : Outcome Said) → length (questionLine u v o) ≤ 61
 line-short u v o =
     omega
     (arith, length-append (question u v) (told o ++ bytes "\n"), question-short u v, length-append (told o) (bytes "\n"), told-short o)

@@ -16,8 +16,8 @@ use text::MOST_QUESTIONS;
 use text::MOST_VERTICES;
 use text::Reading;
 
-// The most bytes of output: 54 for the line of each question.
-pub const MOST_OUTPUT: usize = 54 * MOST_QUESTIONS;
+// The most bytes of output: 62 for the line of each question.
+pub const MOST_OUTPUT: usize = 62 * MOST_QUESTIONS;
 
 // The words and bytes that a build is lent: 16n + 4 x edges + 64, and 50 + 2n + 6k + 2c + 8dk at the program's bounds.
 const WORK: usize = 16 * MOST_VERTICES + 4 * MOST_EDGES + 64;
@@ -47,7 +47,7 @@ fn put_built(
     orders: &[u32],
     asked: &[u32],
 ) -> usize
-    requires { ⌜ (30 ≤ length (now out)) × (27 * length (now asked) ≤ length (now out)) ⌝ }
+    requires { ⌜ (30 ≤ length (now out)) × (31 * length (now asked) ≤ length (now out)) ⌝ }
     ensures { λ r. ⌜ Put (now (out .entry)) 0 (afterReading (says (record { n = n; sources = now (sources .entry); targets = now (targets .entry); d = d; orders = now (orders .entry); asked = now (asked .entry) }))) r (now (out .exit)) ⌝ }
 {
     let mut work = [0u32; WORK];

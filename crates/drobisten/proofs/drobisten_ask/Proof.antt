@@ -12,10 +12,11 @@ use Rattle.drobisten.proofs.drobisten_ask.Tie as tie
 
 -- an answer: the cast makes 1 of yes and 0 of no
 answer-is :
-    (says : Bool) (reason opened : ℕ)
-    → record { refusal = 0; extra = 0; yes = boolByte says; reason = reason; opened = opened } ≡ hostAsked (answered (record { says = says; reason = reason; opened = opened }))
-answer-is true reason opened = refl
-answer-is false reason opened = refl
+    (says : Bool) (reason opened deciding : ℕ)
+    → record { refusal = 0; extra = 0; yes = boolByte says; reason = reason; opened = opened; labelling = deciding }
+    ≡ hostAsked (answered (record { says = says; reason = reason; opened = opened; deciding = deciding }))
+answer-is true reason opened deciding = refl
+answer-is false reason opened deciding = refl
 
 ask-requires : tie.Need-ask-requires
 ask-requires c κs = search needs
@@ -23,8 +24,8 @@ ask-requires c κs = search needs
 enum-known-says : tie.Need-enum-known-says
 enum-known-says c = search needs
 
-cast-t14 : tie.Need-cast-t14
-cast-t14 c = search needs
+cast-t15 : tie.Need-cast-t15
+cast-t15 c = search needs
 
 enum-known-number : tie.Need-enum-known-number
 enum-known-number c = search needs
@@ -35,7 +36,7 @@ same-length c = search needs
 returns : tie.Need-returns
 returns c =
     let o = c .before .before .before .before .before in
-    (answer-is (c .before .says .given .0 .0) _ _ ∙ ap hostAsked (ap askedOf (sym (c .before .says .given .1)) ∙ o .ask .ensures .0), o .ask .ensures .1)
+    (answer-is (c .before .says .given .0 .0) _ _ _ ∙ ap hostAsked (ap askedOf (sym (c .before .says .given .1)) ∙ o .ask .ensures .0), o .ask .ensures .1)
 
 same-length-2 : tie.Need-same-length-2
 same-length-2 c = search needs
@@ -51,7 +52,7 @@ drobisten-ask-spec =
     (tie.spec
     ask-requires
     enum-known-says
-    cast-t14
+    cast-t15
     enum-known-number
     same-length
     returns
