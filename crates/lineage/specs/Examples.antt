@@ -64,6 +64,11 @@ counts n k c d = record { n = n; k = k; c = c; d = d }
 abbrev lent : ℕ → List ℕ
 lent size = replicate size 7
 
+-- the outcome of a list with room for one vertex less: 16 and the count; an empty list needs no room
+abbrev oneShort : List ℕ → Outcome ℕ
+oneShort [] = answered 0
+oneShort (v ∷ vs) = refused 16 (suc (length vs))
+
 -- the bytes with another byte at one position
 abbrev altered : List ℕ → ℕ → ℕ → List ℕ
 altered bytes i x = set bytes i x
@@ -114,7 +119,7 @@ Right (questionsAre g orders qs) = Every (Asked (stored g orders) (g .n)) qs
 Right (listIs g orders u vs) =
     (listAnswer (stored g orders) u (g .n) (length vs) ≡ answered (length vs))
     × (listOutput (stored g orders) u (g .n) (lent (suc (length vs))) ≡ vs ++ (7 ∷ []))
-    × (listAnswer (stored g orders) u (g .n) (length vs - 1) ≡ refused 16 (length vs))
+    × (listAnswer (stored g orders) u (g .n) (length vs - 1) ≡ oneShort vs)
 Right (opensAs bytes marks o) = openAnswer bytes marks ≡ o
 Right (buildsAs g d orders work out o) = buildAnswer form1 (record { graph = g; d = d; orders = orders }) work out ≡ o
 Right (asksAs bytes marks qs) = Every (Asked bytes marks) qs
@@ -157,8 +162,12 @@ table =
     -- bytes open, and are refused where 3's inner interval covers a group that is not below it: its m, at byte 114, becomes 1
     ∷ opensAs (stored G (A ∷ [])) 6 (answered (counts 6 5 4 1))
     ∷ opensAs (altered (stored G (A ∷ [])) 114 1) 6 (refused 15 0)
-    -- the downstream list, and the two ends of a build
+    -- downstream lists: of 2, whose group has 1 too; of 3 and 0, groups of one; of 5, which has only a self-loop
     ∷ listIs G (A ∷ []) 2 (1 ∷ 2 ∷ 4 ∷ [])
+    ∷ listIs G (A ∷ []) 3 (4 ∷ [])
+    ∷ listIs G (A ∷ []) 0 (1 ∷ 2 ∷ 3 ∷ 4 ∷ [])
+    ∷ listIs G (A ∷ []) 5 []
+    -- the two ends of a build
     ∷ buildsAs G 2 (A ++ B) 188 180 (answered 180)
     ∷ buildsAs G 2 (A ++ B) 188 179 (refused 9 180)
     ∷ buildsAs G 2 (A ++ (5 ∷ 4 ∷ 3 ∷ 2 ∷ 1 ∷ 1 ∷ [])) 188 0 (refused 8 1)
@@ -167,7 +176,7 @@ table =
 claim : Every Right table
 unfolding condense indexOf encode openAnswer askAnswer askMarks listAnswer listOutput buildAnswer
 claim =
-    ((refl, refl), (refl, (refl, (refl, ((refl, refl), ((refl, refl), ((refl, refl), ((refl, refl), (refl, (refl, (refl, ((λ u v. rw leb·zero), ((refl, (refl, (refl, (refl, (refl, tt))))), ((refl, refl), ((refl, (refl, tt)), ((refl, refl), (refl, (refl, ((refl, refl, refl), (refl, (refl, (refl, tt))))))))))))))))))))))
+    ((refl, refl), (refl, (refl, (refl, ((refl, refl), ((refl, refl), ((refl, refl), ((refl, refl), (refl, (refl, (refl, ((λ u v. rw leb·zero), ((refl, (refl, (refl, (refl, (refl, tt))))), ((refl, refl), ((refl, (refl, tt)), ((refl, refl), (refl, (refl, ((refl, refl, refl), ((refl, refl, refl), ((refl, refl, refl), ((refl, refl, refl), (refl, (refl, (refl, tt)))))))))))))))))))))))))
 
 -- Refusals of every kind, with their extra numbers: in each row the next check applies too, so that their order shows.
 abbrev refusals : List Example

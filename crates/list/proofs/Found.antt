@@ -26,6 +26,7 @@ use Rattle.list.proofs.Downstream.{listed-downstream, reach-long, reach
 
 -- whether a vertex is in its own list depends on the names alone
 own-by-names : (I : Index) (u : ℕ) → inOwnList (namesAlone (I .names)) u ≡ inOwnList I u
+unfolding inOwnList
 own-by-names I u = refl
 
 module _

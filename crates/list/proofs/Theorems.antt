@@ -1,5 +1,6 @@
--- What a list of stored bytes says, wherever one is given, and whatever edge list and orders yield the bytes: it holds the vertices to which a path of zero or
--- more edges leads from the vertex, rising, and nothing behind them is touched. `list` gives this, by its contract; and its contract allows one result.
+-- What a list of stored bytes says, wherever one is given, and whatever edge list and orders yield the bytes: it holds the other vertices that the vertex
+-- reaches, and the vertex itself exactly where another one is in its group, rising; and nothing behind them is touched. `list` gives this, by its contract; and
+-- its contract allows one result.
 use mathlib.Core.Bool.{true, false}
 use mathlib.Core.Logic.{_↔_}
 use mathlib.Core.Path.{_≡_, refl, sym, ap, _∙_}
@@ -9,24 +10,19 @@ use native.Mathlib.Omega.{arith}
 use lib.Dec.{leb}
 use lib.ListN.{length, take, drop}
 use lib.Seq.{take-at, drop-at}
-use borrow.Author.Tests.{leb-false, not-false}
+use borrow.Author.Tests.{leb-false}
 use Rattle.lineage.specs.Lists.{among}
-use Rattle.lineage.specs.Graph.{Reaches}
 use Rattle.lineage.specs.Index.{indexOf, Made}
 use Rattle.lineage.specs.Stored.{form1, countsOf, countsFit, countsIn, headerAt, formOf, stretch, section, decode}
-use Rattle.lineage.specs.Sound.{contentsSound}
 use Rattle.lineage.specs.Question.{downstream}
 use Rattle.lineage.specs.Calls.{Check, check, answered, anyApplies, indexIn, formChecks, listEarly, listLate, listAnswer, listOutput}
-use Rattle.laws.specs.Sound.{Sound}
 use Rattle.laws.specs.Rising.{Rises}
-use Rattle.laws.proofs.Sound.{made-long, made-paths}
-use Rattle.laws_answers.proofs.Built.{reached-low}
-use Rattle.laws_answers.proofs.Demands.{downstream-rises, downstream-down}
+use Rattle.laws_answers.specs.Answers.{Downstream}
+use Rattle.laws_answers.proofs.Demands.{downstream-rises, downstream-made}
 use Rattle.numbers.proofs.Numbers.{numbers-long}
 use Rattle.stored.specs.Fits.{Fits}
 use Rattle.stored_header.specs.Checks.{Pass}
 use Rattle.stored_header.proofs.Checks.{stops-early, pass-behind, answered-pass, answered-is}
-use Rattle.stored.proofs.Contents.{contents-sound}
 use Rattle.stored.proofs.Encoded.{index-encode}
 use Rattle.open.specs.Yields.{Yields}
 use Rattle.open.proofs.Fits.{form1-wide, yielded-fits}
@@ -80,22 +76,13 @@ module _ (b : List ℕ) (u : ℕ) (marks out : List ℕ) (count : ℕ) (e : list
       let w : ℕ = formOf (headerAt b 0) .width in
       omega (arith, leb-false (countsIn b .n) u (behind .0), numbers-long w (stretch w (countsIn b) b 0) (countsIn b .n))
 
-  index-sound : Sound (indexIn b)
-  index-sound = contents-sound (formOf (headerAt b 0) .width) b (not-false (contentsSound (formOf (headerAt b 0) .width) b) (behind .1 .0))
-
-  -- v is in the list exactly where a path leads from the vertex to v, in whatever graph yields the bytes
-  pub listed-right : (M : Made (indexIn b)) (v : ℕ) → (among v list ≡ true) ↔ Reaches (M .graph) u v
-  listed-right M v =
-      let (to, from) = downstream-down (indexIn b) index-sound u v vertex in
-      rw list-is (
-        (λ i. let (hv, d) = to i in made-paths M u v vertex hv .1 d),
-        λ r. let hv : v < length (indexIn b .names) = omega (arith, made-long M, reached-low (M .ends) (omega (arith, made-long M, vertex)) r) in
-            from (hv, made-paths M u v vertex hv .0 r),
-      )
+  -- v is in the list exactly where it is downstream of the vertex, in whatever graph yields the bytes
+  pub listed-right : (M : Made (indexIn b)) (v : ℕ) → (among v list ≡ true) ↔ Downstream (M .graph) u v
+  listed-right M v = rw list-is (downstream-made M u v vertex)
 
   -- so in whatever graph yields these very bytes, with counts within form 1's bounds
   pub listed-yielded :
-      (Y : Yields form1 b) → countsFit form1 (countsOf (indexOf (Y .graph) (Y .orders))) ≡ true → (v : ℕ) → (among v list ≡ true) ↔ Reaches (Y .graph) u v
+      (Y : Yields form1 b) → countsFit form1 (countsOf (indexOf (Y .graph) (Y .orders))) ≡ true → (v : ℕ) → (among v list ≡ true) ↔ Downstream (Y .graph) u v
   listed-yielded Y bounds =
       let E : Fits form1 (indexOf (Y .graph) (Y .orders)) = yielded-fits form1-wide (Y .graph) (Y .ends) (Y .orders) (Y .permuted) bounds in
       listed-right (record {

@@ -1,4 +1,4 @@
-// The downstream list: all vertices that a vertex reaches, rising (document 01, "Downstream list").
+// The downstream list: all vertices downstream of a vertex, rising (document 01, "Downstream list"; document 02, [2]).
 ghost use mathlib.Core.Path.{_≡_};
 ghost use Prim.Native.Nat.{_≤_, _<_};
 ghost use lib.ListN.{length};
@@ -52,9 +52,9 @@ fn list_sound(index: &[u8], l: Layout, u: usize, marks: &mut [u8], out: &mut [u3
     Listed::Count(count as u32)
 }
 
-// All vertices that the given one reaches, itself included, rising, written to the front of the out list, with their count; or the first of the refusals 10 to
-// 16 that applies. The out list behind them is untouched, and all of it by every refusal. Marks below n are 0 after a list, 15 and 16; the refusals 10 to 14
-// leave them as they were.
+// All vertices downstream of the given one, rising, written to the front of the out list, with their count; or the first of the refusals 10 to 16 that applies.
+// The vertex itself is among them where its group has more than one vertex. The out list behind them is untouched, and all of it by every refusal. Marks below n
+// are 0 after a list, 15 and 16; the refusals 10 to 14 leave them as they were.
 pub fn list(index: &[u8], vertex: u32, marks: &mut [u8], out: &mut [u32]) -> Listed
     ensures { λ r. ⌜ listedOf r ≡ listAnswer (now (index .entry)) vertex (length (now (marks .entry))) (length (now (out .entry))) ⌝ }
     ensures { λ _. ⌜ now (marks .exit) ≡ listMarks (now (index .entry)) vertex (now (marks .entry)) ⌝ }

@@ -46,7 +46,7 @@ fn index_writes_what_ask_and_list_read() {
     assert_eq!(std::fs::read(path).unwrap().len(), 120);
     assert_eq!(run(&["ask", path, "3", "2"], ""), ("q 3 2 no 6 1 0\n".into(), 0));
     assert_eq!(run(&["ask", path, "3", "4"], ""), ("refused 14 1\n".into(), 1));
-    assert_eq!(run(&["list", path, "0"], ""), ("0\n1\n2\n".into(), 0));
+    assert_eq!(run(&["list", path, "0"], ""), ("1\n2\n".into(), 0));
     assert_eq!(run(&["list", path, "4"], ""), ("refused 14 0\n".into(), 1));
 }
 
