@@ -3,8 +3,9 @@
  *     gcc -Wall -Wextra -pedantic -Iinclude examples/host.c target/staticlib/libdrobisten.a -o host
  *     ./host INDEX [SOURCE TARGET]..
  *
- * It prints the index's counts, then a line for each pair: q, source, target, then yes or no, the reason and the groups opened; or `refused`, the refusal's
- * number and its extra number. It ends with 0 where the index opens, with 1 where it is refused, and with 2 where it cannot be read or asked. */
+ * It prints the index's counts, then a line for each pair: q, source, target, then yes or no, the reason, the groups opened and the labelling that decided; or
+ * `refused`, the refusal's number and its extra number. It ends with 0 where the index opens, with 1 where it is refused, and with 2 where it cannot be read
+ * or asked. */
 #include <drobisten.h>
 #include <stdio.h>
 #include <stdlib.h>
@@ -43,7 +44,7 @@ static void ask(const uint8_t *index, size_t size, uint8_t *marks, size_t n, uin
     if (a.refusal)
         printf("refused %u %u\n", a.refusal, a.extra);
     else
-        printf("%s %u %u\n", a.yes ? "yes" : "no", a.reason, a.opened);
+        printf("%s %u %u %u\n", a.yes ? "yes" : "no", a.reason, a.opened, a.labelling);
 }
 
 int main(int words, char **word) {

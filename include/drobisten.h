@@ -16,6 +16,9 @@
  *
  *     gcc -Iinclude examples/host.c target/staticlib/libdrobisten.a -o host
  *
+ * A host is compiled with the header of its archive. Either call writes a struct of 24 bytes where the host has made room for its own; an object file that was
+ * compiled with a header whose struct is shorter has the bytes behind it written over.
+ *
  * THREADS. Calls share nothing. Any number may run at the same time on the same index, each with marks of its own, as long as nobody writes to the index.
  *
  * TIME. Every call checks the bytes anew, unless the header, the marks' length or a vertex refuses it. It goes a fixed number of times through the n names, and
@@ -45,7 +48,7 @@ enum {
     DROBISTEN_CONTENTS = 15  /* no edge list and no orders yield these bytes */
 };
 
-/* What drobisten_open returns. */
+/* What drobisten_open returns: 24 bytes, six numbers of 4 in this order. */
 typedef struct {
     uint32_t refusal; /* 0: the index is sound, and the four counts hold; otherwise why not, and the counts are 0 */
     uint32_t extra;   /* the refusal's extra number; 0 without a refusal */
@@ -55,19 +58,21 @@ typedef struct {
     uint32_t d;       /* labellings, 1 to 5 */
 } drobisten_opened;
 
-/* What drobisten_ask returns. */
+/* What drobisten_ask returns: 24 bytes, six numbers of 4 in this order. */
 typedef struct {
-    uint32_t refusal; /* 0: the question is answered, and the three numbers hold; otherwise why not, and they are 0 */
-    uint32_t extra;   /* the refusal's extra number; 0 without a refusal */
-    uint32_t yes;     /* 1: a path of zero or more edges leads from source to target; 0: none does */
-    uint32_t reason;  /* the first that holds of
-                         1 yes: source and target are in one group
-                         2 yes: in some labelling the source's inner interval contains the target's e
-                         3 no: the source's level is not above the target's
-                         4 no: in some labelling the source's outer interval does not contain the target's
-                         5 yes: the walk from the source's group found the target's
-                         6 no: it did not */
-    uint32_t opened;  /* the groups that the walk opened; 0 under reasons 1 to 4 */
+    uint32_t refusal;   /* 0: the question is answered, and the four numbers hold; otherwise why not, and they are 0 */
+    uint32_t extra;     /* the refusal's extra number; 0 without a refusal */
+    uint32_t yes;       /* 1: a path of zero or more edges leads from source to target; 0: none does */
+    uint32_t reason;    /* the first that holds of
+                           1 yes: source and target are in one group
+                           2 yes: in some labelling the source's inner interval contains the target's e
+                           3 no: the source's level is not above the target's
+                           4 no: in some labelling the source's outer interval does not contain the target's
+                           5 yes: the walk from the source's group found the target's
+                           6 no: it did not */
+    uint32_t opened;    /* the groups that the walk opened; 0 under reasons 1 to 4 */
+    uint32_t labelling; /* at byte 20: the first labelling, counted from 1, whose interval settled the answer: under reasons 2 and 4 that of the source's group,
+                           under 5 the inner interval of the child that ended the walk; 0 under 1, 3 and 6 */
 } drobisten_asked;
 
 /* What both calls need: `index` points to index_len bytes that can be read, `marks` to marks_len bytes that can be read and written; the two do not overlap;

@@ -19,10 +19,14 @@ __attribute__((weak)) counted trial_build(const uint32_t *sources, size_t source
                                           uint32_t n, uint32_t d);
 __attribute__((weak)) size_t trial_run(const uint8_t *text, size_t text_len, uint8_t *out);
 
+/* the layout that the header states */
+_Static_assert(sizeof(drobisten_opened) == 24, "drobisten_opened is 24 bytes");
+_Static_assert(sizeof(drobisten_asked) == 24 && offsetof(drobisten_asked, labelling) == 20, "drobisten_asked is 24 bytes, labelling its last four");
+
 enum { OPEN = 1, ASK = 2, LIST = 3, BUILD = 4, ASK_ALL = 5, RUN = 6 };
 
 /* the bytes that a run is lent for its output, and what they hold before it */
-enum { MOST_OUTPUT = 294894, PATTERN = 0xa5 };
+enum { MOST_OUTPUT = 338582, PATTERN = 0xa5 };
 
 static void take(void *to, size_t size) {
     if (fread(to, 1, size, stdin) != size) exit(2);

@@ -27,9 +27,12 @@ impl Closure {
         self.rows[u][v]
     }
 
-    /// All vertices that u reaches, u itself included, rising.
+    /// The downstream list, rising: all other vertices that u reaches, and u itself if one of them reaches it.
     pub fn downstream(&self, u: usize) -> Vec<usize> {
-        (0..self.size()).filter(|&v| self.rows[u][v]).collect()
+        let comes_back = (0..self.size()).any(|v| v != u && self.reaches(u, v) && self.reaches(v, u));
+        (0..self.size())
+            .filter(|&v| self.reaches(u, v) && (v != u || comes_back))
+            .collect()
     }
 }
 

@@ -35,6 +35,13 @@ impl Groups {
         place_of(&self.list, self.names[vertex])
     }
 
+    /// The vertices of a vertex's group, rising.
+    pub fn members(&self, vertex: usize) -> Vec<usize> {
+        (0..self.names.len())
+            .filter(|&v| self.names[v] == self.names[vertex])
+            .collect()
+    }
+
     /// The groups that are nobody's child.
     pub fn tops(&self) -> Vec<usize> {
         let of_somebody: BTreeSet<usize> = self.children.iter().flatten().copied().collect();

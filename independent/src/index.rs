@@ -24,9 +24,13 @@ impl Index {
         self.groups.names.len()
     }
 
-    /// The downstream list: all vertices that u reaches, u itself included, rising.
+    /// The downstream list, rising: all vertices that u reaches, but u itself only if its group has more than one vertex.
     pub fn downstream(&self, u: usize) -> Vec<usize> {
         let below = reached(&self.groups.children, self.groups.place(u));
-        (0..self.n()).filter(|&v| below[self.groups.place(v)]).collect()
+        let mut list: Vec<usize> = (0..self.n()).filter(|&v| below[self.groups.place(v)]).collect();
+        if self.groups.members(u).len() == 1 {
+            list.retain(|&v| v != u);
+        }
+        list
     }
 }

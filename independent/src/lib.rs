@@ -1,4 +1,4 @@
-//! The independent program: the rules of document 01, written from that document alone, the slow and obvious way.
+//! The independent program: the rules of documents 01 and 02, written from these alone, the slow and obvious way.
 //!
 //! It is the outside judge of a proved library. The two share no code and no definitions, so a rule that the library
 //! reads wrongly, in its definitions too, shows as a difference here. Yes and no come from plain search; labels and

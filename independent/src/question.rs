@@ -20,7 +20,7 @@ pub struct Answer {
 impl fmt::Display for Answer {
     fn fmt(&self, f: &mut fmt::Formatter) -> fmt::Result {
         let word = if self.yes { "yes" } else { "no" };
-        write!(f, "{word} {} {}", self.reason, self.opened)
+        write!(f, "{word} {} {} {}", self.reason, self.opened, self.labelling)
     }
 }
 

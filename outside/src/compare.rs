@@ -1,10 +1,10 @@
 //! One call made twice, of the library and of the independent program, on the same input and equal buffers: outcomes and buffers must be equal. Buffers
 //! are lent with a pattern in them and a few elements behind what the call may touch.
 
-use crate::{Library, Said};
+use crate::Library;
 use independent::chance::Chance;
 use independent::graph::flat;
-use independent::{Graph, Index};
+use independent::{Answer, Graph, Index};
 
 /// What buffers hold before a call.
 const PATTERN: u8 = 0xa5;
@@ -35,20 +35,25 @@ pub fn open_around(library: &mut Library, index: &[u8]) {
     }
 }
 
+/// One question with so many marks: the number of the refusal, 0 where there is none.
+pub fn ask(library: &mut Library, index: &[u8], source: u32, target: u32, marks: usize) -> u32 {
+    let (mut ours, mut theirs) = (vec![PATTERN; marks], vec![PATTERN; marks]);
+    let got = library.ask(index, source, target, &mut ours);
+    let expected = independent::ask(index, source, target, &mut theirs);
+    assert_eq!(got, expected, "{source} to {target} of {} bytes with {marks} marks", index.len());
+    assert_eq!(ours, theirs, "marks after {source} to {target}: {expected:?}");
+    got.map_or_else(|refusal| refusal.number, |_| 0)
+}
+
 /// Every question of `pairs`, of bytes that open and of bytes that do not.
-pub fn ask(library: &mut Library, index: &[u8], pairs: &[(u32, u32)]) {
-    let marks = marks_for(index) + 3;
-    let before = vec![PATTERN; marks];
-    for (&(u, v), (got, ours)) in pairs.iter().zip(library.ask_all(index, &before, pairs)) {
-        let mut theirs = before.clone();
-        let expected = independent::ask(index, u, v, &mut theirs).map(Said::from);
-        assert_eq!(got, expected, "{u} to {v}");
-        assert_eq!(ours, theirs, "marks after {u} to {v}: {expected:?}");
+pub fn ask_pairs(library: &mut Library, index: &[u8], pairs: &[(u32, u32)]) {
+    for &(u, v) in pairs {
+        ask(library, index, u, v, marks_for(index) + 3);
     }
 }
 
 /// Questions of an index that the independent program has made and need not judge each time; answers by its own walk, yes and no by plain closure.
-pub fn ask_made(library: &mut Library, graph: &Graph, index: &Index, image: &[u8], pairs: &[(u32, u32)]) -> Vec<Said> {
+pub fn ask_made(library: &mut Library, graph: &Graph, index: &Index, image: &[u8], pairs: &[(u32, u32)]) -> Vec<Answer> {
     let closure = independent::closure::Closure::of(graph);
     let n = graph.n;
     let before = vec![PATTERN; n + 3];
@@ -56,7 +61,7 @@ pub fn ask_made(library: &mut Library, graph: &Graph, index: &Index, image: &[u8
     let compared = pairs.iter().zip(replies).map(|(&(u, v), (got, marks))| {
         let asked = index.question(u as usize, v as usize);
         let got = got.expect("a question in range of a sound index is answered");
-        assert_eq!(got, Said::from(asked.answer), "{u} to {v}");
+        assert_eq!(got, asked.answer, "{u} to {v}");
         assert_eq!(got.yes, closure.reaches(u as usize, v as usize), "{u} to {v}: yes exactly when a path exists");
         let mut expected = before.clone();
         expected[..n].fill(0);
@@ -67,19 +72,30 @@ pub fn ask_made(library: &mut Library, graph: &Graph, index: &Index, image: &[u8
     compared.collect()
 }
 
+/// The downstream list with so many marks into a list of this size: the number of the refusal, 0 where there is none.
+pub fn list(library: &mut Library, index: &[u8], vertex: u32, marks: usize, size: usize) -> u32 {
+    let (mut ours, mut theirs) = (vec![PATTERN; marks], vec![PATTERN; marks]);
+    let (mut got, mut expected) = (vec![0xdead_beef; size], vec![0xdead_beef; size]);
+    let result = library.list(index, vertex, &mut ours, &mut got);
+    let right = independent::list(index, vertex, &mut theirs, &mut expected);
+    assert_eq!(result, right, "list of {vertex} with {marks} marks into {size}");
+    assert_eq!(got, expected, "the list of {vertex}");
+    assert_eq!(ours, theirs, "marks after the list of {vertex}");
+    result.map_or_else(|refusal| refusal.number, |_| 0)
+}
+
 /// The downstream list into a list that is longer than needed, exact, and one too short.
-pub fn list(library: &mut Library, index: &[u8], vertex: u32) {
+pub fn list_around(library: &mut Library, index: &[u8], vertex: u32) {
     let marks = marks_for(index) + 3;
     let needed = independent::list(index, vertex, &mut vec![0; marks], &mut vec![0; 5_000]).unwrap_or(0) as usize;
     for size in [needed + 2, needed, needed.saturating_sub(1)] {
-        let (mut ours, mut theirs) = (vec![PATTERN; marks], vec![PATTERN; marks]);
-        let (mut got, mut expected) = (vec![0xdead_beef; size], vec![0xdead_beef; size]);
-        let result = library.list(index, vertex, &mut ours, &mut got);
-        let right = independent::list(index, vertex, &mut theirs, &mut expected);
-        assert_eq!(result, right, "list of {vertex} into {size}");
-        assert_eq!(got, expected, "the list of {vertex}");
-        assert_eq!(ours, theirs, "marks after the list of {vertex}");
+        list(library, index, vertex, marks, size);
     }
+}
+
+/// Open, a question and a list of the same bytes with so many marks; the question's target and the list's vertex may be out of range. The number of each refusal.
+pub fn calls(library: &mut Library, index: &[u8], vertex: u32, marks: usize) -> [u32; 3] {
+    [open(library, index, marks), ask(library, index, 0, vertex, marks), list(library, index, vertex, marks, 5)]
 }
 
 /// What a build is lent, but for its memory.

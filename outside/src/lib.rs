@@ -18,20 +18,6 @@ pub struct Library {
 /// What a call returned: the numbers of its answer, or its refusal.
 pub type Outcome<T> = Result<T, Refusal>;
 
-/// What the library says to a question: all of an answer but the labelling that decided.
-#[derive(Clone, Copy, Debug, PartialEq, Eq)]
-pub struct Said {
-    pub yes: bool,
-    pub reason: u32,
-    pub opened: u32,
-}
-
-impl From<Answer> for Said {
-    fn from(answer: Answer) -> Said {
-        Said { yes: answer.yes, reason: answer.reason, opened: answer.opened }
-    }
-}
-
 const OPEN: u32 = 1;
 const ASK: u32 = 2;
 const LIST: u32 = 3;
@@ -102,13 +88,13 @@ impl Library {
         outcome(refusal, extra, [n, k, c, d].iter().all(|&x| x == 0), counts)
     }
 
-    fn said([refusal, extra, yes, reason, opened]: [u32; 5]) -> Outcome<Said> {
+    fn answer([refusal, extra, yes, reason, opened, labelling]: [u32; 6]) -> Outcome<Answer> {
         assert!(yes <= 1, "yes is 0 or 1");
-        let nothing = [yes, reason, opened].iter().all(|&x| x == 0);
-        outcome(refusal, extra, nothing, Said { yes: yes == 1, reason, opened })
+        let nothing = [yes, reason, opened, labelling].iter().all(|&x| x == 0);
+        outcome(refusal, extra, nothing, Answer { yes: yes == 1, reason, opened, labelling })
     }
 
-    pub fn ask(&mut self, index: &[u8], source: u32, target: u32, marks: &mut [u8]) -> Outcome<Said> {
+    pub fn ask(&mut self, index: &[u8], source: u32, target: u32, marks: &mut [u8]) -> Outcome<Answer> {
         self.number(ASK);
         self.number(source);
         self.number(target);
@@ -116,11 +102,11 @@ impl Library {
         self.bytes(marks);
         let reply = self.reply();
         self.bytes_back(marks);
-        Self::said(reply)
+        Self::answer(reply)
     }
 
     /// Many questions of one index, each with the same marks lent; each answer with the marks after it.
-    pub fn ask_all(&mut self, index: &[u8], marks: &[u8], pairs: &[(u32, u32)]) -> Vec<(Outcome<Said>, Vec<u8>)> {
+    pub fn ask_all(&mut self, index: &[u8], marks: &[u8], pairs: &[(u32, u32)]) -> Vec<(Outcome<Answer>, Vec<u8>)> {
         self.number(ASK_ALL);
         self.bytes(index);
         self.bytes(marks);
@@ -131,7 +117,7 @@ impl Library {
                 let reply = self.reply();
                 let mut after = vec![0; marks.len()];
                 self.bytes_back(&mut after);
-                (Self::said(reply), after)
+                (Self::answer(reply), after)
             })
             .collect()
     }

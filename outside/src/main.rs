@@ -57,8 +57,8 @@ fn main() {
         *sizes.entry(size.most).or_insert(0u64) += 1;
         if asked < questions {
             let pairs = compare::pairs(&mut chance, n, QUESTIONS_A_GRAPH);
-            for said in compare::ask_made(&mut library, &graph, &index, &bytes, &pairs) {
-                *reasons.entry(said.reason).or_insert(0u64) += 1;
+            for answer in compare::ask_made(&mut library, &graph, &index, &bytes, &pairs) {
+                *reasons.entry(answer.reason).or_insert(0u64) += 1;
                 asked += 1;
             }
         }

@@ -127,16 +127,16 @@ pub fn named() -> Vec<Named> {
     case("an order with a repeat", "v 2\no 0 1\no 1 1\n".to_string(), "refused 8 1\n");
     case("a question far beyond n", "v 1\no 0\nq 99999 0\nq 0 99999\n".to_string(), "q 99999 0 refused 14 0\nq 0 99999 refused 14 1\n");
 
-    case("512 vertices", format!("v 512\n{}q 511 0\nq 511 511\nq 512 0\n", order(512)), "q 511 0 no 3 0\nq 511 511 yes 1 0\nq 512 0 refused 14 0\n");
+    case("512 vertices", format!("v 512\n{}q 511 0\nq 511 511\nq 512 0\n", order(512)), "q 511 0 no 3 0 0\nq 511 511 yes 1 0 0\nq 512 0 refused 14 0\n");
     case("513 vertices", format!("v 513\n{}", order(513)), "refused 17 1\n");
     let edges = |count: usize| format!("v 2\n{}o 0 1\nq 0 1\n", "e 0 1\n".repeat(count));
-    case("2,000 edges", edges(2_000), "q 0 1 yes 2 0\n");
+    case("2,000 edges", edges(2_000), "q 0 1 yes 2 0 1\n");
     case("2,001 edges", edges(2_001), "refused 17 2002\n");
     let orders = |count: usize| format!("v 2\n{}q 0 1\n", order(2).repeat(count));
-    case("five orders", orders(5), "q 0 1 no 3 0\n");
+    case("five orders", orders(5), "q 0 1 no 3 0 0\n");
     case("six orders", orders(6), "refused 17 7\n");
     let full = format!("v 1\no 0\n{}q 0 1\n", "q 0 0\n".repeat(5_459));
-    case("32,768 bytes", full.clone(), &("q 0 0 yes 1 0\n".repeat(5_459) + "q 0 1 refused 14 1\n"));
+    case("32,768 bytes", full.clone(), &("q 0 0 yes 1 0 0\n".repeat(5_459) + "q 0 1 refused 14 1\n"));
     case("32,769 bytes", full.clone() + "\n", "refused 17 0\n");
     case("32,769 bytes of a good text", full.replacen("q 0 0\n", "q 10 0\n", 1), "refused 17 0\n");
     case("40,000 LF", "\n".repeat(40_000), "refused 17 0\n");

@@ -1,4 +1,4 @@
-//! Ask beside the independent program: answers by closure, reasons and counts by its own walk, marks byte by byte.
+//! Ask beside the independent program: answers by closure, reasons, counts and deciding labellings by its own walk, marks byte by byte.
 
 use independent::chance::{Chance, Kind};
 use independent::stored::encode;
@@ -9,14 +9,19 @@ use outside::Library;
 #[test]
 fn all_pairs_on_random_graphs_of_every_kind() {
     let (mut library, mut chance) = (Library::start(), Chance::new(31));
+    // answers by reason and by deciding labelling
+    let mut decided = [[0; 6]; 7];
     for round in 0..400 {
         let n = chance.between(1, 24);
         let graph = chance.graph(Kind::ALL[round % Kind::ALL.len()], n);
         let d = chance.between(1, 5);
         let index = Index::of(&graph, &chance.orders(graph.n, d));
         let pairs = compare::pairs(&mut chance, graph.n, 600);
-        compare::ask_made(&mut library, &graph, &index, &encode(&index), &pairs);
+        for answer in compare::ask_made(&mut library, &graph, &index, &encode(&index), &pairs) {
+            decided[answer.reason as usize][answer.labelling as usize] += 1;
+        }
     }
+    assert!([2, 4, 5].iter().all(|&reason| decided[reason][1..].iter().all(|&count| count > 0)), "each of five labellings decides first: {decided:?}");
 }
 
 #[test]
@@ -29,8 +34,8 @@ fn vertices_out_of_range_and_damaged_images_are_refused() {
         let d = chance.between(1, 3);
         let bytes = encode(&Index::of(&graph, &chance.orders(graph.n, d)));
         let pairs = [(0, 0), (n, 0), (0, n), (n, n), (n.max(1) - 1, u32::MAX), (u32::MAX, 0), (0, n.max(1) - 1)];
-        compare::ask(&mut library, &bytes, &pairs);
-        compare::ask(&mut library, &chance.any_damage(&bytes), &pairs);
+        compare::ask_pairs(&mut library, &bytes, &pairs);
+        compare::ask_pairs(&mut library, &chance.any_damage(&bytes), &pairs);
     }
 }
 

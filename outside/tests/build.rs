@@ -17,6 +17,59 @@ fn bytes_equal_on_random_graphs_of_every_kind() {
     }
 }
 
+/// The bytes that the library stores.
+fn stored(library: &mut Library, graph: &Graph, orders: &[Vec<usize>]) -> Vec<u8> {
+    let input = Input::of(graph, orders);
+    let (mut work, mut out) = (vec![0; input.work_needed()], vec![0; 8_000]);
+    let Input { n, sources, targets, orders, d } = &input;
+    let total = library.build(*n, sources, targets, orders, *d, &mut work, &mut out).expect("it is built");
+    out.truncate(total as usize);
+    out
+}
+
+/// Puts an edge in anywhere.
+fn put_in(chance: &mut Chance, graph: &mut Graph, edge: (usize, usize)) {
+    let at = chance.between(0, graph.edges.len());
+    graph.edges.insert(at, edge);
+}
+
+/// Another export of the same lineage.
+type Change = fn(&mut Chance, &mut Graph);
+
+#[test]
+fn shuffling_repeating_and_self_loops_change_no_byte() {
+    let changes: [(&str, Change); 4] = [
+        ("the self-loops taken away", |_, graph| graph.edges.retain(|(u, v)| u != v)),
+        ("the edges shuffled", |chance, graph| chance.shuffle(&mut graph.edges)),
+        ("an edge repeated", |chance, graph| {
+            if !graph.edges.is_empty() {
+                let edge = chance.one_of(&graph.edges);
+                put_in(chance, graph, edge);
+            }
+        }),
+        ("a self-loop added", |chance, graph| {
+            let w = chance.below(graph.n);
+            put_in(chance, graph, (w, w));
+        }),
+    ];
+    let (mut library, mut chance) = (Library::start(), Chance::new(11));
+    for round in 0..300 {
+        let n = chance.between(1, 40);
+        let graph = chance.graph(Kind::ALL[round % Kind::ALL.len()], n);
+        let d = chance.between(1, 5);
+        let orders = chance.orders(graph.n, d);
+        let bytes = stored(&mut library, &graph, &orders);
+        let mut all = graph.clone();
+        for (told, change) in changes {
+            let mut one = graph.clone();
+            change(&mut chance, &mut one);
+            assert_eq!(stored(&mut library, &one, &orders), bytes, "{told}: {graph:?} and {one:?}");
+            change(&mut chance, &mut all);
+        }
+        assert_eq!(stored(&mut library, &all, &orders), bytes, "all of it: {graph:?} and {all:?}");
+    }
+}
+
 #[test]
 fn bytes_equal_at_the_largest_sizes() {
     let (mut library, mut chance) = (Library::start(), Chance::new(8));

@@ -2,6 +2,7 @@
 
 use independent::chance::{Chance, Kind};
 use independent::stored::image;
+use independent::Graph;
 use outside::compare;
 use outside::Library;
 
@@ -14,9 +15,51 @@ fn lists_of_all_vertices_of_random_graphs() {
         let d = chance.between(1, 5);
         let bytes = image(&graph, &chance.orders(graph.n, d));
         for vertex in 0..=graph.n as u32 {
-            compare::list(&mut library, &bytes, vertex);
+            compare::list_around(&mut library, &bytes, vertex);
         }
-        compare::list(&mut library, &chance.any_damage(&bytes), 0);
+        compare::list_around(&mut library, &chance.any_damage(&bytes), 0);
+    }
+}
+
+/// Groups of these sizes, the vertices of each side by side and joined both ways, each group feeding the next; with or without a self-loop at every vertex.
+fn chain_of_groups(sizes: &[usize], loops: bool) -> Graph {
+    let n = sizes.iter().sum();
+    let mut edges: Vec<(usize, usize)> = if loops { (0..n).map(|v| (v, v)).collect() } else { vec![] };
+    let mut first = 0;
+    for &size in sizes {
+        let next = first + size;
+        edges.extend((first + 1..next).flat_map(|v| [(v - 1, v), (v, v - 1)]));
+        if next < n {
+            edges.push((first, next));
+        }
+        first = next;
+    }
+    Graph { n, edges }
+}
+
+#[test]
+fn a_vertex_is_in_its_own_list_exactly_if_its_group_has_more_than_one_vertex() {
+    let (mut library, mut chance) = (Library::start(), Chance::new(43));
+    let sizes = [1, 3, 1, 1, 2, 5, 1];
+    for loops in [false, true] {
+        let graph = chain_of_groups(&sizes, loops);
+        let bytes = image(&graph, &chance.orders(graph.n, 2));
+        let mut first = 0;
+        for size in sizes {
+            for vertex in first..first + size {
+                compare::list(&mut library, &bytes, vertex as u32);
+                let from = if size == 1 { vertex + 1 } else { first };
+                let told: Vec<u32> = (from as u32..graph.n as u32).collect();
+                let (mut marks, mut out) = (vec![7; graph.n], vec![9; told.len()]);
+                assert_eq!(library.list(&bytes, vertex as u32, &mut marks, &mut out), Ok(told.len() as u32));
+                assert_eq!(out, told, "the list of {vertex}, self-loops: {loops}");
+                if let Some(short) = told.len().checked_sub(1) {
+                    let refusal = library.list(&bytes, vertex as u32, &mut marks, &mut out[..short]).unwrap_err();
+                    assert_eq!((refusal.number, refusal.extra as usize), (16, told.len()), "the list of {vertex} with room for {short}");
+                }
+            }
+            first += size;
+        }
     }
 }
 
@@ -27,6 +70,6 @@ fn lists_at_the_largest_sizes() {
         let graph = chance.graph(kind, 4_096);
         let bytes = image(&graph, &chance.orders(graph.n, 1));
         let vertex = chance.below(graph.n) as u32;
-        compare::list(&mut library, &bytes, vertex);
+        compare::list_around(&mut library, &bytes, vertex);
     }
 }

@@ -1,8 +1,8 @@
 // The text program: standard input is read to its end, and what the run prints is written to standard output.
 use libc::STDIN_FILENO;
 use libc::STDOUT_FILENO;
-use text_run::MOST_OUTPUT;
 use text::MOST_BYTES;
+use text_run::MOST_OUTPUT;
 
 // One byte past the bound is read, which tells too many bytes; what stands behind it changes nothing.
 fn main() {

@@ -3,5 +3,4 @@ pub mod Rules
 pub mod Soundness
 pub mod Refusals
 pub mod Answered
-pub mod Words
 pub mod Theorems

@@ -12,17 +12,17 @@ use lib.ListN.{length, getD}
 use borrow.Author.Tests.{eq-eqb, ne-eqb, le-leb, lt-leb, lt-ltb}
 use Rattle.lineage.specs.Labels.{Labelling}
 use Rattle.lineage.specs.Numbers.{numAt}
+use Rattle.lineage.specs.Stored.{mostLabellings}
 use Rattle.lineage.specs.Index.{Index}
 use Rattle.lineage.specs.Walk.{Walked, walked, openAt}
 use Rattle.lineage.specs.Question.{inside, outside, firstFrom, firstLabelling, rule2, rule3, rule4, netOf, walk, byWalk, between}
 use Rattle.laws.proofs.Tests.{clash, is-false}
-use Rattle.laws_answers.proofs.Labellings.{first-given}
 use Rattle.numbers.proofs.Numbers.{numbers-at}
 use Rattle.stored.specs.Sections.{labelsIn}
 use Rattle.stored.proofs.Sections.{labels-long}
 use Rattle.ask_intervals.specs.declared.Judged.{Judged}
 use Rattle.ask_intervals.specs.Intervals.{judged}
-use Rattle.ask_intervals.proofs.Deciding.{judged-inside, judged-outside, judged-neither}
+use Rattle.ask_intervals.proofs.Deciding.{first-given, judged-inside, judged-outside, judged-neither}
 use Rattle.ask.specs.declared.question.Reply.{Reply}
 use Rattle.ask_walk.specs.Fit.{groupsIn, netIn, Fit}
 use Rattle.ask.specs.Replies.{answerBy}
@@ -111,7 +111,7 @@ module _ {w k d t : ℕ} {groups levels starts children labels : List ℕ} {mark
 -- the walk opens no more groups than there are marks, and is ended by one of the labellings
 module _ {w k d t : ℕ} {groups levels starts children labels : List ℕ} {marks : ℕ} (F : Fit w k d t groups levels starts children labels marks)
     (L x : ℕ) (m : List ℕ) (f : Bool) (l n : ℕ) (m' : List ℕ) (e : walked f l n m' ≡ openAt (netIn w k d t groups levels starts children labels) L x m) where
-  pub walk-deciding : l ≤ 5
+  pub walk-deciding : l ≤ mostLabellings
   unfolding netIn
   walk-deciding =
       omega (

@@ -21,6 +21,7 @@ use Rattle.laws.proofs.Decides.{sound-decides}
 use Rattle.laws_answers.proofs.Tries.{Judges}
 use Rattle.laws_answers.proofs.Labellings.{none-is}
 use Rattle.laws_answers.proofs.Intervals.{judged}
+use Rattle.numbers.specs.Bounds.{vertexBound}
 use Rattle.numbers.proofs.Numbers.{numbers-long, numbers-at}
 use Rattle.stored_header.specs.declared.Layout.{Layout}
 use Rattle.stored.specs.Sections.{childrenIn, labelsIn, indexFrom, indexAt}
@@ -148,7 +149,7 @@ module _ {l : Layout} {names groups levels starts children labels : List ℕ} (S
 
   -- with one mark for each vertex
   module _ (m : List ℕ) (long : length m ≡ n) where
-    pub marks-few : length m ≤ 200000
+    pub marks-few : length m ≤ vertexBound
     marks-few = omega (arith, long, S .vertices-few)
 
     pub fit-marks : (t : ℕ) → t < k → Fit w k (l .d) t groups levels starts children labels (length m)

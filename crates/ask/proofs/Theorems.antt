@@ -1,6 +1,7 @@
 -- What an answer to a question on stored bytes says, wherever one is given, and whatever edge list and orders yield the bytes: it is yes exactly where
 -- a path of zero or more edges leads from source to target; the count is that of the walk's openings and of the marks left; on a no the groups
--- opened are those reached through passing groups; and more orders open no more groups. `ask` gives these answers, by its contract.
+-- opened are those reached through passing groups; the deciding labelling is the first whose interval settled it; and more orders open no more groups.
+-- `ask` gives these answers, by its contract.
 use mathlib.Core.Bool.{Bool, true, false}
 use mathlib.Core.Logic.{_↔_, Iff·symm, Iff·trans}
 use mathlib.Core.Path.{_≡_, refl, sym, ap, subst, _∙_}
@@ -20,9 +21,9 @@ use Rattle.laws.specs.Rising.{Distinct}
 use Rattle.laws.proofs.Grouped.{group-name}
 use Rattle.laws.proofs.Sound.{made-long}
 use Rattle.laws.proofs.Lists.{table-long}
-use Rattle.laws_answers.specs.Answers.{Member, Opened, marksOf, NoMore}
+use Rattle.laws_answers.specs.Answers.{Member, Deciding, Opened, marksOf, NoMore}
 use Rattle.laws_answers.specs.Walks.{Through}
-use Rattle.laws_answers.proofs.Demands.{answer-right, marks-are-opened, opened-on-a-no, more-orders}
+use Rattle.laws_answers.proofs.Demands.{answer-right, deciding-first, marks-are-opened, opened-on-a-no, more-orders}
 use Rattle.numbers.proofs.Numbers.{numbers-long}
 use Rattle.ask.specs.declared.Asked.{Asked}
 use Rattle.ask.specs.declared.Asked.the-variants.{Answer, Refused}
@@ -30,7 +31,7 @@ use Rattle.ask.specs.Asked.{askedOf}
 use Rattle.ask.proofs.Answered.{Answered, answered-only, none-applies}
 
 -- the index that bytes hold has n names and d labellings
-names-long : (b : List ℕ) → length (indexIn b .names) ≡ countsIn b .n
+pub names-long : (b : List ℕ) → length (indexIn b .names) ≡ countsIn b .n
 unfolding decode section
 names-long b = let w : ℕ = formOf (headerAt b 0) .width in numbers-long w (stretch w (countsIn b) b 0) (countsIn b .n)
 
@@ -38,7 +39,7 @@ labels-long : (b : List ℕ) → length (indexIn b .labels) ≡ countsIn b .d
 unfolding decode
 labels-long b = table-long _ (countsIn b .d)
 
-orders-long : (G : Graph) (orders : List (List ℕ)) → length (indexOf G orders .labels) ≡ length orders
+pub orders-long : (G : Graph) (orders : List (List ℕ)) → length (indexOf G orders .labels) ≡ length orders
 unfolding indexOf
 orders-long G orders = length-map orders _
 
@@ -85,7 +86,7 @@ module _ (b : List ℕ) (u v : ℕ) (marks : List ℕ) (s : Said) (e : askAnswer
   asked-same M M' = Iff·trans (Iff·symm (asked-right M)) (asked-right M')
 
   -- the marks after it: the answer's, and behind them those from n on as they were
-  marks-are : askMarks b u v marks ≡ answer I u v .marks ++ drop (countsIn b .n) marks
+  pub marks-are : askMarks b u v marks ≡ answer I u v .marks ++ drop (countsIn b .n) marks
   unfolding askMarks
   marks-are = rw (none-applies b u v (length marks) s e) refl
 
@@ -125,6 +126,11 @@ module _ (b : List ℕ) (u v : ℕ) (marks : List ℕ) (s : Said) (e : askAnswer
       (sym (mark-at (getD (I .groups) p 0) named))
       (opened-on-a-no I (A .sound) some u v source target (ap (λ (z : Said). z .says) (A .said) ∙ says) p h)
 
+  -- the deciding number is that of the first labelling, from 1, whose interval settled the answer: under reasons 2 and 4 at the question, under 5 at the
+  -- child whose inner interval ended the walk; under 1, 3 and 6 it is 0
+  pub asked-deciding : Deciding I (placeIn I u) (placeIn I v) (s .reason) (s .deciding)
+  asked-deciding = subst (λ (z : Said). Deciding I (placeIn I u) (placeIn I v) (z .reason) (z .deciding)) (A .said) (deciding-first I (A .sound) u v source)
+
 -- Demand 3: of two stored indexes of one edge list, the orders of the first among those of the second, the second says the same, opens no group that the first
 -- does not open, and counts no more.
 module _ (G : Graph) (ends : Ends G) (orders₁ orders₂ : List (List ℕ)) (up : Every (λ o. Member o orders₂) orders₁) (permuted : Every (Order (G .n)) orders₂) where
@@ -158,16 +164,17 @@ pub record Allowed (b : List ℕ) (u v : ℕ) (marks : List ℕ) (r : Asked) (m 
   pub leaves : m ≡ askMarks b u v marks
 
 answer-one :
-    {says says' : Bool} {reason reason' opened opened' : ℕ}
-    → says ≡ says' → reason ≡ reason' → opened ≡ opened' → Answer says reason opened ≡ Answer says' reason' opened'
-answer-one a b c = cc
+    {says says' : Bool} {reason reason' opened opened' deciding deciding' : ℕ}
+    → says ≡ says' → reason ≡ reason' → opened ≡ opened' → deciding ≡ deciding' → Answer says reason opened deciding ≡ Answer says' reason' opened' deciding'
+answer-one a b c d = cc
 
 asked-one : (r r' : Asked) → askedOf r ≡ askedOf r' → r ≡ r'
-asked-one (Answer says reason opened) (Answer says' reason' opened') e =
-    let same : _≡_ {A = Said} (record { says = says; reason = reason; opened = opened }) (record { says = says'; reason = reason'; opened = opened' }) = cc in
-    answer-one (ap (λ (z : Said). z .says) same) (ap (λ (z : Said). z .reason) same) (ap (λ (z : Said). z .opened) same)
-asked-one (Answer says reason opened) (Refused number extra) e = let z : _≡_ {A = ℕ} 0 1 = cc in absurd (omega arith)
-asked-one (Refused number extra) (Answer says reason opened) e = let z : _≡_ {A = ℕ} 0 1 = cc in absurd (omega arith)
+asked-one (Answer says reason opened deciding) (Answer says' reason' opened' deciding') e =
+    let same : _≡_ {A = Said} (record { says = says; reason = reason; opened = opened; deciding = deciding })
+    (record { says = says'; reason = reason'; opened = opened'; deciding = deciding' }) = cc in
+    answer-one (ap (λ (z : Said). z .says) same) (ap (λ (z : Said). z .reason) same) (ap (λ (z : Said). z .opened) same) (ap (λ (z : Said). z .deciding) same)
+asked-one (Answer says reason opened deciding) (Refused number extra) e = let z : _≡_ {A = ℕ} 0 1 = cc in absurd (omega arith)
+asked-one (Refused number extra) (Answer says reason opened deciding) e = let z : _≡_ {A = ℕ} 0 1 = cc in absurd (omega arith)
 asked-one (Refused number extra) (Refused number' extra') e = cc
 
 pub asked-once : {b : List ℕ} {u v : ℕ} {marks : List ℕ} {r r' : Asked} {m m' : List ℕ} → Allowed b u v marks r m → Allowed b u v marks r' m' → (r ≡ r') × (m ≡ m')

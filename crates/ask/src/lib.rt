@@ -1,56 +1,58 @@
-// Asking a stored index: is the target reached from the source, by which rule, and how many groups were opened for it.
+// Asking a stored index: is the target reached from the source, by which rule, how many groups were opened for it, and which labelling decided.
 ghost use mathlib.Core.Path.{_≡_};
 ghost use lib.ListN.{length};
 ghost use Rattle.lineage.specs.Calls.{askAnswer, askMarks};
-ghost use Rattle.stored_header.specs.Header.{Laid};
-ghost use Rattle.ask.specs.Asked.{askedOf, lateAnswer, lateMarks};
+ghost use Rattle.ask.specs.Asked.{askedOf};
 
 pub mod question;
 
+use refusals::BAD_VERTEX;
+use refusals::NOT_SOUND;
 use stored_header::Header;
-use stored_header::Layout;
 
-// An answer: yes or no, the reason 1 to 6, and the groups opened; or a refusal with its number and its extra number.
+// An answer: yes or no, the reason 1 to 6, the groups opened, and the number, from 1, of the labelling that decided (0 where none did); or a refusal with
+// its number and its extra number.
 pub enum Asked {
     Answer {
         says: bool,
         reason: u32,
         opened: u32,
+        deciding: u32,
     },
     Refused {
-        number: usize,
-        extra: usize,
+        number: u32,
+        extra: u32,
     },
 }
 
-// A question on bytes whose header passes: refusals 13, 14 and 15, or the answer.
-fn ask_laid(index: &[u8], l: Layout, source: usize, target: usize, marks: &mut [u8]) -> Asked
-    requires { ⌜ Laid (now index) l ⌝ }
-    ensures { λ r. ⌜ askedOf r ≡ lateAnswer (now (index .entry)) source target (length (now (marks .entry))) ⌝ }
-    ensures { λ _. ⌜ now (marks .exit) ≡ lateMarks (now (index .entry)) source target (now (marks .entry)) ⌝ }
+// Whether the source reaches the target, by the index that the bytes hold: refusals 10 to 15 in order, or the answer. The marks below n then tell the groups
+// opened, by name; the refusals 10 to 14 leave them as they were, and 15 leaves them 0.
+pub fn ask(index: &[u8], source: u32, target: u32, marks: &mut [u8]) -> Asked
+    ensures { λ r. ⌜ askedOf r ≡ askAnswer (now (index .entry)) source target (length (now (marks .entry))) ⌝ }
+    ensures { λ _. ⌜ now (marks .exit) ≡ askMarks (now (index .entry)) source target (now (marks .entry)) ⌝ }
 {
+    let l = match stored_header::admit(index, marks.len()) {
+        Header::Refused { number, extra } => return Asked::Refused { number, extra },
+        Header::Passed(l) => l,
+    };
     let n = l.n;
-    if marks.len() < n {
+    let u = source as usize;
+    let v = target as usize;
+    if n <= u {
         return Asked::Refused {
-            number: 13,
-            extra: n,
-        };
-    }
-    if n <= source {
-        return Asked::Refused {
-            number: 14,
+            number: BAD_VERTEX,
             extra: 0,
         };
     }
-    if n <= target {
+    if n <= v {
         return Asked::Refused {
-            number: 14,
+            number: BAD_VERTEX,
             extra: 1,
         };
     }
     if !open::contents_sound(index, l, marks) {
         return Asked::Refused {
-            number: 15,
+            number: NOT_SOUND,
             extra: 0,
         };
     }
@@ -62,8 +64,8 @@ fn ask_laid(index: &[u8], l: Layout, source: usize, target: usize, marks: &mut [
         stored::parts::children(index, l),
         stored::parts::labels(index, l),
         l,
-        source,
-        target,
+        u,
+        v,
         &mut marks[..n],
         1,
     );
@@ -71,17 +73,6 @@ fn ask_laid(index: &[u8], l: Layout, source: usize, target: usize, marks: &mut [
         says: r.says,
         reason: r.reason,
         opened: r.opened,
-    }
-}
-
-// Whether the source reaches the target, by the index that the bytes hold: refusals 10 to 15 in order, or the answer. The marks below n then tell the groups
-// opened, by name; the refusals 10 to 14 leave them as they were, and 15 leaves them 0.
-pub fn ask(index: &[u8], source: u32, target: u32, marks: &mut [u8]) -> Asked
-    ensures { λ r. ⌜ askedOf r ≡ askAnswer (now (index .entry)) source target (length (now (marks .entry))) ⌝ }
-    ensures { λ _. ⌜ now (marks .exit) ≡ askMarks (now (index .entry)) source target (now (marks .entry)) ⌝ }
-{
-    match stored_header::read_header(index) {
-        Header::Refused(number, extra) => Asked::Refused { number, extra },
-        Header::Passed(l) => ask_laid(index, l, source as usize, target as usize, marks),
+        deciding: r.deciding,
     }
 }

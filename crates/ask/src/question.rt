@@ -4,6 +4,8 @@ ghost use mathlib.Core.Path.{_≡_};
 ghost use Prim.Native.Nat.{_+_, _≤_, _<_};
 ghost use lib.ListN.{length};
 ghost use Rattle.lineage.specs.Question.{between, answer};
+ghost use Rattle.lineage.specs.Stored.{mostLabellings};
+ghost use Rattle.numbers.specs.Bounds.{vertexBound};
 ghost use Rattle.stored.specs.Sections.{indexAt};
 ghost use Rattle.sound_places.specs.Lent.{Lent};
 ghost use Rattle.ask_walk.specs.Fit.{groupsIn, Fit};
@@ -22,7 +24,7 @@ pub struct Reply {
 
 // A reply under reasons 1 to 4: no group is opened.
 fn plain(says: bool, reason: u32, deciding: usize) -> Reply
-    requires { ⌜ deciding ≤ 5 ⌝ }
+    requires { ⌜ deciding ≤ mostLabellings ⌝ }
     ensures { λ r. ⌜ r ≡ record { says = says; reason = reason; deciding = deciding; opened = 0 } ⌝ }
 {
     Reply {
@@ -35,7 +37,7 @@ fn plain(says: bool, reason: u32, deciding: usize) -> Reply
 
 // A reply by the walk: reason 5 where it found the target, otherwise 6.
 fn by_walk(a: Seen) -> Reply
-    requires { ⌜ (a .deciding ≤ 5) × (a .opened ≤ 200000) ⌝ }
+    requires { ⌜ (a .deciding ≤ mostLabellings) × (a .opened ≤ vertexBound) ⌝ }
     ensures { λ r. ⌜ r ≡ record { says = a .found; reason = cond (a .found) 5 6; deciding = a .deciding; opened = a .opened } ⌝ }
 {
     let deciding = a.deciding as u32;
@@ -72,7 +74,7 @@ pub fn decide(
     stamp: u8,
 ) -> Reply
     requires { ⌜ Fit w k d t (now groups) (now levels) (now starts) (now children) (now labels) (length (now marks)) ⌝ }
-    requires { ⌜ (x < k) × ((length (now marks) ≤ 200000) × Under stamp (now marks)) ⌝ }
+    requires { ⌜ (x < k) × ((length (now marks) ≤ vertexBound) × Under stamp (now marks)) ⌝ }
     ensures { λ r. ⌜ answerBy r (seenAs stamp (now (marks .exit))) ≡ between (groupsIn w k d (now (groups .entry)) (now (levels .entry)) (now (starts .entry)) (now (children .entry)) (now (labels .entry))) x t (seenAs stamp (now (marks .entry))) ⌝ }
     ensures { λ _. ⌜ Under (stamp + 1) (now (marks .exit)) ⌝ }
     ensures { λ r. ⌜ (r .opened ≡ 0 → now (marks .exit) ≡ now (marks .entry)) ⌝ }

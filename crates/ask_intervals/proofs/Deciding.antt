@@ -1,12 +1,14 @@
 -- What is judged, beside the two tests by themselves: a number that is given is that of the first labelling that passes its test, since none before it decided either
 -- way; and where neither is given, no labelling passes either test.
-use mathlib.Core.Bool.{Bool, true, false, cond}
-use mathlib.Core.Path.{_≡_, refl}
+use mathlib.Core.Bool.{Bool, true, false, _||_, cond}
+use mathlib.Core.Path.{_≡_, refl, sym}
 use mathlib.Core.List.{List, [], _∷_}
 use Prim.Native.Nat.{ℕ, suc, _≤_, _<_}
 use native.Mathlib.Omega.{arith}
+use lib.Dec.{ltb}
+use borrow.Author.Tests.{lt-ltb}
 use Rattle.lineage.specs.Labels.{Labelling}
-use Rattle.lineage.specs.Question.{inside, outside, firstFrom, firstLabelling}
+use Rattle.lineage.specs.Question.{inside, outside, someLabelling, firstFrom, firstLabelling}
 use Rattle.ask_intervals.specs.declared.Judged.{Judged}
 use Rattle.ask_intervals.specs.Intervals.{judgedBy, judgedFrom, judged}
 
@@ -51,3 +53,16 @@ module _ (x t : ℕ) where
 
     pub judged-neither : j .inside ≤ 0 → j .outside ≤ 0 → (firstLabelling (inside x t) ls ≡ 0) × (firstLabelling (outside x t) ls ≡ 0)
     judged-neither a b = neither-from 0 ls (rw is at a) (rw is at b)
+
+-- a number is given exactly where some labelling passes
+module _ (p : Labelling → Bool) where
+  given-from : (n : ℕ) (ls : List Labelling) → someLabelling p ls ≡ ltb 0 (firstFrom (suc n) p ls)
+  given-from n [] = refl
+  given-from n (l ∷ ls) = at (p l) (given-from (suc n) ls)
+    where
+      at : (b : Bool) → someLabelling p ls ≡ ltb 0 (firstFrom (suc (suc n)) p ls) → (b || someLabelling p ls) ≡ ltb 0 (cond b (suc n) (firstFrom (suc (suc n)) p ls))
+      at true ih = sym (lt-ltb 0 (suc n) (omega arith))
+      at false ih = ih
+
+  pub first-given : (ls : List Labelling) → someLabelling p ls ≡ ltb 0 (firstLabelling p ls)
+  first-given ls = given-from 0 ls

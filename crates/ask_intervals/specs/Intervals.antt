@@ -1,20 +1,12 @@
--- The labels as the interval tests are lent them, and what they tell of two groups: both interval tests at once, as far as the first labelling that decides.
+-- What the labellings tell of two groups: both interval tests at once, as far as the first labelling that decides.
 use mathlib.Core.Bool.{Bool, true, false, not, cond}
 use mathlib.Core.List.{List, [], _∷_}
-use Prim.Native.Nat.{ℕ, suc, _+_, _*_, _≤_}
+use Prim.Native.Nat.{ℕ, suc, _+_, _*_}
 use lib.Dec.{eqb, leb}
-use lib.ListN.{length}
-use Rattle.lineage.specs.Numbers.{Width, numAt}
+use Rattle.lineage.specs.Numbers.{numAt}
 use Rattle.lineage.specs.Labels.{Labelling}
 use Rattle.lineage.specs.Question.{inside, outside}
 use Rattle.ask_intervals.specs.declared.Judged.{Judged}
-
--- the labels hold d labellings of k groups, within the bounds of every form
-pub record Labelled (w k d : ℕ) (labels : List ℕ) : Type 0 where
-  pub width : Width w
-  pub groups-few : k ≤ 200000
-  pub labellings-few : d ≤ 5
-  pub long : w * (d * (4 * k)) ≤ length labels
 
 -- labelling n decides: x's inner interval contains t's e, or else x's outer interval does not contain t's; or it decides neither, and the rest does
 abbrev pub judgedBy : Bool → Bool → ℕ → Judged → Judged

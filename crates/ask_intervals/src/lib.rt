@@ -5,8 +5,11 @@ ghost use Prim.Native.Nat.{_+_, _*_, _≤_, _<_};
 ghost use lib.Dec.{leb};
 ghost use lib.ListN.{length};
 ghost use Rattle.lineage.specs.Numbers.{Width, numAt};
-ghost use Rattle.stored.specs.Sections.{labelsIn};
-ghost use Rattle.ask_intervals.specs.Intervals.{Labelled, judged, undecidedBy};
+ghost use Rattle.stored.specs.Sections.{Labellings, labelsIn};
+ghost use Rattle.ask_intervals.specs.Intervals.{judged, undecidedBy};
+use stored::parts::E;
+use stored::parts::M;
+use stored::parts::S;
 
 // The number, from 1, of the first labelling that decides: in which x's inner interval contains t's e, or x's outer interval does not contain t's. The other is 0,
 // and both are where none decides.
@@ -14,13 +17,6 @@ pub struct Judged {
     pub inside: usize,
     pub outside: usize,
 }
-
-// The numbers of a triple: s, m, e.
-const S: usize = 0;
-
-const M: usize = 1;
-
-const E: usize = 2;
 
 // Whether number i of x's triple is not above number j of t's.
 fn not_above(triples: &[u8], w: usize, x: usize, i: usize, t: usize, j: usize) -> bool
@@ -50,7 +46,7 @@ fn undecided_by(triples: &[u8], w: usize, x: usize, t: usize, b: usize) -> bool
 
 // Both interval tests at once: a loop over labellings and bounds, left when one labelling decides.
 pub fn judge(labels: &[u8], w: usize, k: usize, d: usize, x: usize, t: usize) -> Judged
-    requires { ⌜ Labelled w k d (now labels) ⌝ }
+    requires { ⌜ Labellings w (now labels) k d ⌝ }
     requires { ⌜ (x < k) × (t < k) ⌝ }
     ensures { λ r. ⌜ r ≡ judged x t (labelsIn w (now (labels .entry)) k d) ⌝ }
 {

@@ -5,12 +5,13 @@ use Prim.Native.Nat.{ℕ, _*_, _≤_, _<_}
 use lib.ListN.{length, getD, replicate}
 use Rattle.lineage.specs.Numbers.{Width, numAt}
 use Rattle.lineage.specs.Question.{Answer, between}
+use Rattle.numbers.specs.Bounds.{vertexBound}
 use Rattle.ask_walk.specs.Fit.{groupsIn, Fit}
 
 -- a list of k names, each below n and at one place only
 pub record Listed (w n k : ℕ) (groups : List ℕ) : Type 0 where
   pub width : Width w
-  pub few : k ≤ 200000
+  pub few : k ≤ vertexBound
   pub long : w * k ≤ length groups
   pub low : (p : ℕ) → p < k → numAt w groups p < n
   pub once : (p q : ℕ) → p < k → q < k → numAt w groups p ≡ numAt w groups q → p ≡ q
@@ -32,7 +33,7 @@ pub record FromNames (w n : ℕ) (names before places : List ℕ) : Type 0 where
 
 -- sections that are fit for a walk towards every group, and a table of n vertices' places
 pub record Ready (w n k d : ℕ) (groups levels starts children labels places : List ℕ) : Type 0 where
-  pub few : n ≤ 200000
+  pub few : n ≤ vertexBound
   pub long : n ≤ length places
   pub low : (u : ℕ) → u < n → getD places u 0 < k
   pub fit : (t : ℕ) → t < k → Fit w k d t groups levels starts children labels n

@@ -7,6 +7,7 @@ ghost use Prim.Native.Nat.{_+_, _*_, _≤_, _<_};
 ghost use lib.Dec.{eqb};
 ghost use lib.ListN.{length, replicate};
 ghost use Rattle.lineage.specs.Question.{between, answer};
+ghost use Rattle.numbers.specs.Bounds.{vertexBound};
 ghost use Rattle.numbers.specs.Put.{put};
 ghost use Rattle.stored.specs.Sections.{indexAt};
 ghost use Rattle.sound_places.specs.Lent.{Lent};
@@ -21,8 +22,6 @@ use stored_header::Layout;
 pub mod places;
 
 const LAST_STAMP: u8 = 255;
-
-const BAD_VERTEX: u32 = 14;
 
 // A pair's reply, the stamp that its walk marked with, and the highest stamp that a mark may bear behind it.
 pub struct Next {
@@ -60,7 +59,7 @@ fn next_reply(
     used: u8,
 ) -> Next
     requires { ⌜ Fit w k d t (now groups) (now levels) (now starts) (now children) (now labels) (length (now marks)) ⌝ }
-    requires { ⌜ (x < k) × ((length (now marks) ≤ 200000) × Under (used + 1) (now marks)) ⌝ }
+    requires { ⌜ (x < k) × ((length (now marks) ≤ vertexBound) × Under (used + 1) (now marks)) ⌝ }
     ensures { λ r. ⌜ answerBy (r .reply) (seenAs (r .stamp) (now (marks .exit))) ≡ between (groupsIn w k d (now (groups .entry)) (now (levels .entry)) (now (starts .entry)) (now (children .entry)) (now (labels .entry))) x t (replicate (length (now (marks .entry))) 0) ⌝ }
     ensures { λ r. ⌜ Under (r .used + 1) (now (marks .exit)) ⌝ }
 {

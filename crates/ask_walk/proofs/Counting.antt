@@ -11,7 +11,7 @@ use lib.Seq.{getD-set-other}
 use Rattle.lineage.specs.Lists.{Every, ones}
 use Rattle.lineage.specs.Walk.{Net, Walked, marked, follow, pick, tryWith, openAt}
 use Rattle.laws.proofs.Tests.{or-false-left, clash}
-use Rattle.laws_answers.proofs.Marks.{ones-set}
+use Rattle.laws.proofs.Lists.{ones-set}
 use Rattle.ask_walk.specs.Fit.{Safe}
 
 -- the marks stay as long as they are, and gain as many as are counted

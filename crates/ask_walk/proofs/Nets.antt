@@ -11,8 +11,8 @@ use Rattle.lineage.specs.Lists.{Every}
 use Rattle.lineage.specs.Numbers.{numAt}
 use Rattle.lineage.specs.Walk.{Net, walked, openAt, tryAt}
 use Rattle.lineage.specs.Question.{inside, firstLabelling}
-use Rattle.laws_answers.proofs.Marks.{ones-set}
-use Rattle.laws_answers.proofs.Labellings.{first-given}
+use Rattle.laws.proofs.Lists.{ones-set}
+use Rattle.ask_intervals.proofs.Deciding.{first-given}
 use Rattle.numbers.proofs.Numbers.{numbers-at}
 use Rattle.stored.specs.Sections.{ChildrenOf, childrenIn, labelsIn}
 use Rattle.stored.proofs.Sections.{row-long, row-at}

@@ -14,12 +14,11 @@ use Rattle.lineage.specs.Index.{Index}
 use Rattle.lineage.specs.Walk.{Net, marked}
 use Rattle.lineage.specs.Question.{inside, outside, firstLabelling, rule2, rule3, rule4}
 use Rattle.laws.proofs.Tests.{or-left, or-right, clash, is-false}
-use Rattle.laws_answers.proofs.Labellings.{first-given}
 use Rattle.numbers.proofs.Numbers.{numbers-at}
 use Rattle.stored.specs.Sections.{labelsIn}
 use Rattle.ask_intervals.specs.declared.Judged.{Judged}
 use Rattle.ask_intervals.specs.Intervals.{judged}
-use Rattle.ask_intervals.proofs.Deciding.{judged-inside, judged-outside, judged-neither}
+use Rattle.ask_intervals.proofs.Deciding.{first-given, judged-inside, judged-outside, judged-neither}
 use Rattle.ask_walk.specs.Fit.{groupsIn, netIn, skips, Fit, Safe}
 use Rattle.ask_walk.proofs.Nets.{net-spot, net-yes, net-deciding, net-not-yes}
 

@@ -9,8 +9,7 @@ use Rattle.lineage.specs.Numbers.{numAt, numbers}
 use Rattle.lineage.specs.Index.{Index}
 use Rattle.lineage.specs.Walk.{Net, marked}
 use Rattle.lineage.specs.Question.{rule2, rule3, rule4, netOf}
-use Rattle.stored.specs.Sections.{childrenIn, labelsIn}
-use Rattle.ask_intervals.specs.Intervals.{Labelled}
+use Rattle.stored.specs.Sections.{childrenIn, Labellings, labelsIn}
 use Rattle.ask_walk.specs.Stamps.{seenAs, Under}
 
 -- how many numbers of w bytes a stretch holds, and all of them
@@ -64,7 +63,7 @@ pub record Fresh (N : Net) (w k L stamp : ℕ) (groups levels m : List ℕ) (g :
 -- each section holds its numbers, child starts rise within the children, children are places of lower levels, and each group's mark is one of its own among
 -- so many; t is a place, and the rules agree about it
 pub record Fit (w k d t : ℕ) (groups levels starts children labels : List ℕ) (marks : ℕ) : Type 0 where
-  pub labelled : Labelled w k d labels
+  pub labelled : Labellings w labels k d
   pub target-low : t < k
   pub groups-long : w * k ≤ length groups
   pub levels-long : w * k ≤ length levels

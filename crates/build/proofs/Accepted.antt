@@ -9,12 +9,13 @@ use borrow.Author.Tests.{le-ltb, eq-eqb, ne-eqb}
 use Rattle.lineage.specs.Lists.{upto, any, among, Every}
 use Rattle.lineage.specs.Graph.{Graph, Ends}
 use Rattle.lineage.specs.Labels.{Order}
-use Rattle.lineage.specs.Stored.{Form}
+use Rattle.lineage.specs.Stored.{Form, mostLabellings}
 use Rattle.lineage.specs.Calls.{Input, orderAt, ordersOf, badEdge, badOrder, built, lengthOf, buildEarly, buildLate}
 use Rattle.laws.proofs.Tests.{clash, is-false}
 use Rattle.laws.proofs.Lists.{in-any, upto-low, table-long, table-at}
 use Rattle.laws.proofs.Every.{every-at}
 use Rattle.laws.proofs.Edges.{sources-below, targets-below}
+use Rattle.stored_header.specs.Checks.{Pass}
 use Rattle.build_orders.proofs.Edges.{good-edge}
 use Rattle.build.specs.Admitted.{Admitted}
 
@@ -40,7 +41,7 @@ pub accepted : (F : Form) (B : Input) (work out : ℕ)
     → Admitted F B work
     → Every (Order (B .graph .n)) (ordersOf B)
     → lengthOf F (built B) ≤ out
-    → Every (λ c. c .applies ≡ false) (buildEarly F B work ++ buildLate F B out)
+    → Pass (buildEarly F B work ++ buildLate F B out)
 accepted F B work out A permuted room =
     let G : Graph = B .graph in
     let some : B .d ≡ 0 → ⊥ = λ z. omega (arith, A .least) in (
@@ -50,7 +51,7 @@ accepted F B work out A permuted room =
         (
           le-ltb (F .edges) (length (G .sources)) (A .edges),
           (
-            rw (ne-eqb (B .d) 0 some) (le-ltb 5 (B .d) (A .most)),
+            rw (ne-eqb (B .d) 0 some) (le-ltb mostLabellings (B .d) (A .most)),
             (
               ap not (eq-eqb (length (B .orders)) _ (A .whole)),
               (

@@ -1,6 +1,6 @@
 -- A build at a form's row, from its two halves. Where a check of 1 to 7 refuses, it refuses for all, and nothing is altered; where all pass, 8 and 9 and the build behind
 -- them decide, and the needed words are set to 0.
-use mathlib.Core.Bool.{true, false}
+use mathlib.Core.Bool.{Bool, cond}
 use mathlib.Core.Path.{_≡_, sym, ap, _∙_}
 use mathlib.Core.List.{List, [], _++_}
 use Prim.Native.Nat.{ℕ, _+_, _≤_}
@@ -9,15 +9,17 @@ use lib.ListN.{length, drop, replicate, length-drop}
 use lib.Seq.{take-all}
 use Rattle.lineage.specs.Lists.{part, cleared}
 use Rattle.lineage.specs.Stored.{Form, encode}
-use Rattle.lineage.specs.Calls.{Check, Outcome, refused, answered, outcome, anyApplies, Input, workNeeded, built, lengthOf, buildEarly, buildLate, buildAnswer, buildOutput, buildWork}
+use Rattle.lineage.specs.Calls.{Check, Outcome, refused, answered, outcome, Input, workNeeded, built, lengthOf, buildEarly, buildLate, buildAnswer, buildOutput, buildWork}
+use Rattle.numbers.specs.Bounds.{vertexBound, entryBound}
 use Rattle.numbers.specs.Regions.{Kept}
 use Rattle.stored_header.specs.declared.Row.{Row}
-use Rattle.stored_header.proofs.Checks.{refused-first, passed-first, refused-applies, passed-applies}
+use Rattle.stored_header.specs.Checks.{Pass, Comes}
+use Rattle.stored_header.proofs.Checks.{answered-pass, answered-is, refused-comes, rest-comes}
 use Rattle.build_indexed.specs.Written.{writtenAs}
 use Rattle.build.specs.Input.{boundsOf, formBy, RowFit}
 use Rattle.build.specs.Admitted.{Admitted}
 use Rattle.build.specs.Answers.{LateBuilt}
-use Rattle.build.proofs.Checks.{all-pass, passed-is, admitted}
+use Rattle.build.proofs.Checks.{admitted}
 
 -- words past the first n are kept: with those at 0 they are what they were
 cleared-kept : {w w' : List ℕ} (n : ℕ) → Kept w w' 0 n → cleared n w' ≡ cleared n w
@@ -41,21 +43,28 @@ module _ (form : ℕ) (row : Row) (B : Input) (work out : List ℕ) where
   abbrev early : List Check
   early = buildEarly F B (length work)
 
+  abbrev late : List Check
+  late = buildLate F B (length out)
+
+  answers-by : {o : Outcome ℕ} {kept stops : Bool}
+      → Comes early late (lengthOf F (built B)) o kept stops
+      → Answers F B work out o (cond kept work (cleared (workNeeded (B .graph)) work)) (cond stops out (encode F (built B) ++ drop (lengthOf F (built B)) out))
+  unfolding buildAnswer buildWork buildOutput encode
+  answers-by C = (sym (C .says), (rw (C .before), rw (C .all)))
+
   pub early-refused : {x y : ℕ} → refused x y ≡ outcome early (workNeeded (B .graph)) → Answers F B work out (refused x y) work out
-  unfolding buildAnswer buildWork buildOutput
-  early-refused {x} {y} h =
-      let late : List Check = buildLate F B (length out) in
-      let applies : anyApplies early ≡ true = refused-applies [] (workNeeded (B .graph)) early x y (sym h) in
-      let both : anyApplies (early ++ late) ≡ true = refused-applies late (workNeeded (B .graph)) early x y (sym h) in
-      (sym (refused-first late (workNeeded (B .graph)) (lengthOf F (built B)) early x y (sym h)), (rw applies, rw both))
+  early-refused h = answers-by (refused-comes (lengthOf F (built B)) (workNeeded (B .graph)) early [] late _ _ (sym h))
 
   module _ {needed : ℕ} (passed : answered needed ≡ outcome early (workNeeded (B .graph))) where
     needed-is : needed ≡ workNeeded (B .graph)
-    needed-is = passed-is early (workNeeded (B .graph)) needed (sym passed)
+    needed-is = answered-is (workNeeded (B .graph)) early needed (sym passed)
 
-    pub admitted-within : RowFit form row → Admitted (boundsOf 200000 1000000) B (length work)
+    pass : Pass early
+    pass = answered-pass (workNeeded (B .graph)) early needed (sym passed)
+
+    pub admitted-within : RowFit form row → Admitted (boundsOf vertexBound entryBound) B (length work)
     admitted-within fit =
-        let A = admitted F B (length work) (all-pass early (workNeeded (B .graph)) needed (sym passed)) in
+        let A = admitted F B (length work) pass in
         record {
           vertices = omega (arith, A .vertices, fit .vertices);
           edges = omega (arith, A .edges, fit .edges);
@@ -71,14 +80,7 @@ module _ (form : ℕ) (row : Row) (B : Input) (work out : List ℕ) where
       needed-there fit = omega (arith, needed-is, L .kept .long, admitted-within fit .room)
 
       pub late-answered : {w₂ : List ℕ} → w₂ ≡ cleared needed w₁ → Answers F B work out said w₂ out₁
-      unfolding buildAnswer buildWork buildOutput encode
+      unfolding encode buildOutput
       late-answered e =
-          let late : List Check = buildLate F B (length out) in
-          let none : anyApplies early ≡ false = passed-applies [] (workNeeded (B .graph)) early needed (sym passed) in
-          let both : anyApplies (early ++ late) ≡ anyApplies late = passed-applies late (workNeeded (B .graph)) early needed (sym passed) in (
-            L .answer ∙ sym (passed-first late (workNeeded (B .graph)) (lengthOf F (built B)) early needed (sym passed)),
-            (
-              e ∙ ap (λ (n : ℕ). cleared n w₁) needed-is ∙ cleared-kept (workNeeded (B .graph)) (L .kept) ∙ rw none,
-              L .output ∙ rw both,
-            ),
-          )
+          let (o, (w, p)) = answers-by (rest-comes (lengthOf F (built B)) early [] late pass (sym (L .answer))) in
+          (o, (e ∙ ap (λ (n : ℕ). cleared n w₁) needed-is ∙ cleared-kept (workNeeded (B .graph)) (L .kept) ∙ w, L .output ∙ p))

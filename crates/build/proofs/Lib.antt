@@ -5,3 +5,4 @@ pub mod Answered
 pub mod First
 pub mod Accepted
 pub mod Theorems
+pub mod Same

@@ -14,10 +14,11 @@ use Rattle.lineage.specs.Index.{Index, indexBy, indexOf}
 use Rattle.lineage.specs.Stored.{Form, encode}
 use Rattle.lineage.specs.Calls.{refused, answered, Input, orderAt, ordersOf, badOrder, workNeeded, built, lengthOf}
 use Rattle.laws.proofs.Lists.{in-upto, any-none}
+use Rattle.numbers.specs.Bounds.{vertexBound, entryBound}
 use Rattle.numbers.specs.Regions.{Kept}
 use Rattle.numbers.proofs.Regions.{kept-then, kept-wider}
 use Rattle.build_orders.proofs.Permutations.{order-of}
-use Rattle.build_labelled.specs.Window.{windowSize}
+use Rattle.build_labelled.specs.Window.{labelsWindow}
 use Rattle.stored_header.specs.declared.Layout.{Layout}
 use Rattle.stored_header.specs.Header.{counts, layoutBy}
 use Rattle.build_indexed.specs.Memory.{labelsFrom, condensedIn, CondensedFit, CondensedFound, Ready}
@@ -28,7 +29,7 @@ use Rattle.build.specs.Admitted.{Admitted}
 use Rattle.build.specs.Answers.{LateBuilt}
 use Rattle.build.proofs.Checks.{any-found, none-found, first-found}
 
-module _ {B : Input} (work : List ℕ) (A : Admitted (boundsOf 200000 1000000) B (length work)) where
+module _ {B : Input} (work : List ℕ) (A : Admitted (boundsOf vertexBound entryBound) B (length work)) where
   abbrev G : Graph
   G = B .graph
 
@@ -115,7 +116,7 @@ module _ {B : Input} (work : List ℕ) (A : Admitted (boundsOf 200000 1000000) B
           pub finished : (out : List ℕ) {w₃ out' : List ℕ}
               → l .total ≤ length out
               → out' ≡ encode (writtenAs form (l .width)) (indexBy (condensedIn w₂ (l .n) (l .k) (l .c) e) (map (orderAt (l .n) (B .orders)) (upto (l .d)))) ++ drop (l .total) out
-              → Kept w₂ w₃ (labelsFrom (l .n) (l .k) e) (windowSize (l .n) (l .k) (l .c))
+              → Kept w₂ w₃ (labelsFrom (l .n) (l .k) e) (labelsWindow (l .n) (l .k) (l .c))
               → LateBuilt F B work out (answered (l .total)) w₃ out'
           finished out {w₃} {out'} h put-is K' =
               let long = le-ltb (length out) (lengthOf F (built B)) (omega (arith, total-is)) in
@@ -124,8 +125,8 @@ module _ {B : Input} (work : List ℕ) (A : Admitted (boundsOf 200000 1000000) B
               (λ (z : Layout).
               out' ≡ encode (writtenAs form (z .width)) (indexBy (condensedIn w₂ (z .n) (z .k) (z .c) e) (map (orderAt (z .n) (B .orders)) (upto (z .d)))) ++ drop (z .total) out)
               l-is put-is in
-              let kept : Kept w₂ w₃ (labelsFrom n k e) (windowSize n k c) =
-              subst (λ (z : Layout). Kept w₂ w₃ (labelsFrom (z .n) (z .k) e) (windowSize (z .n) (z .k) (z .c))) l-is K' in
+              let kept : Kept w₂ w₃ (labelsFrom n k e) (labelsWindow n k c) =
+              subst (λ (z : Layout). Kept w₂ w₃ (labelsFrom (z .n) (z .k) e) (labelsWindow (z .n) (z .k) (z .c))) l-is K' in
               record {
                 answer = ap answered total-is ∙ rw (none, long);
                 output =

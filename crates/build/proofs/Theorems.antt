@@ -1,11 +1,12 @@
 -- What a build promises, by its contract alone. Two results that it allows are equal. A finished build was lent edges between vertices and d orders, and its output begins
 -- with the stored form of their index: that opens, and every question on it is answered as the edge list says; and it holds d labellings, each the one under its own order.
-use mathlib.Core.Bool.{true, false}
+use mathlib.Core.Bool.{true}
 use mathlib.Core.Logic.{_↔_}
 use mathlib.Core.Path.{_≡_, refl, sym, ap, _∙_}
 use mathlib.Core.List.{List, [], _∷_, _++_, map, map-map}
 use Prim.Native.Nat.{ℕ, _≤_, _<_}
 use native.Mathlib.Omega.{arith}
+use lib.Dec.{leb}
 use lib.ListN.{length, take, drop}
 use lib.Seq.{take-at, drop-at}
 use borrow.Author.Tests.{lt-leb}
@@ -15,13 +16,14 @@ use Rattle.lineage.specs.Labels.{Order, labelling}
 use Rattle.lineage.specs.Index.{Index, indexBy, indexOf}
 use Rattle.lineage.specs.Question.{answer}
 use Rattle.lineage.specs.Stored.{form1, Counts, countsOf, encode, countsIn}
-use Rattle.lineage.specs.Calls.{Check, answered, outcome, Input, orderAt, ordersOf, built, lengthOf, buildEarly, buildLate, buildAnswer, buildOutput, buildWork, indexIn, formChecks, contentsCheck, openAnswer, askEarly, saidOf, askAnswer}
+use Rattle.lineage.specs.Calls.{Check, check, answered, outcome, Input, orderAt, ordersOf, built, lengthOf, buildEarly, buildLate, buildAnswer, buildOutput, buildWork, indexIn, formChecks, contentsCheck, openAnswer, askEarly, saidOf, askAnswer}
 use Rattle.laws.proofs.Sound.{made-long}
 use Rattle.laws.proofs.Lists.{table-long}
 use Rattle.laws_answers.proofs.Demands.{answer-right}
 use Rattle.build_orders.proofs.Permutations.{orders-of}
 use Rattle.stored.specs.Fits.{Fits}
-use Rattle.stored_header.proofs.Checks.{passed-applies}
+use Rattle.stored_header.specs.Checks.{Pass}
+use Rattle.stored_header.proofs.Checks.{stops-early, pass-front, pass-behind, pass-both, stops-outcome, answered-pass, answered-is}
 use Rattle.stored.proofs.Encoded.{counts-read, encode-long, index-encode}
 use Rattle.open.proofs.Fits.{form1-wide, bounds-kept, yielded-fits}
 use Rattle.open.proofs.Theorem.{built-opens}
@@ -29,7 +31,7 @@ use Rattle.build.specs.declared.Built.{Built}
 use Rattle.build.specs.declared.Built.the-variants.{Total, Refused}
 use Rattle.build.specs.Admitted.{Admitted}
 use Rattle.build.specs.Answers.{builtOf}
-use Rattle.build.proofs.Checks.{all-pass, passed-is, pass-all, admitted}
+use Rattle.build.proofs.Checks.{admitted}
 use Rattle.build.proofs.Accepted.{accepted}
 
 -- What `build` may answer and leave, by its contract.
@@ -57,7 +59,7 @@ pub build-finishes : {B : Input} {work out : List ℕ} {r : Built} {work' out' :
 unfolding buildAnswer
 build-finishes {B} {work} {out} X A permuted room =
     X .answers
-    ∙ pass-all (buildEarly form1 B (length work) ++ buildLate form1 B (length out)) (lengthOf form1 (built B)) (accepted form1 B (length work) (length out) A permuted room)
+    ∙ stops-outcome (lengthOf form1 (built B)) (buildEarly form1 B (length work) ++ buildLate form1 B (length out)) 9 (accepted form1 B (length work) (length out) A permuted room)
 
 -- A finished build.
 module _ (B : Input) (work out : List ℕ) (r : Built) (work' out' : List ℕ) (X : Allowed B work out r work' out') (total : ℕ) (done : builtOf r ≡ answered total) where
@@ -71,17 +73,15 @@ module _ (B : Input) (work out : List ℕ) (r : Built) (work' out' : List ℕ) (
   unfolding buildAnswer
   said = sym (X .answers) ∙ done
 
-  passes : Every (λ c. c .applies ≡ false) checks
-  passes = all-pass checks (lengthOf form1 (built B)) total said
+  passes : Pass checks
+  passes = answered-pass (lengthOf form1 (built B)) checks total said
 
   -- what it was lent
   pub input-right : Admitted form1 B (length work)
-  input-right =
-      admitted form1 B (length work)
-      (passes .0, (passes .1 .0, (passes .1 .1 .0, (passes .1 .1 .1 .0, (passes .1 .1 .1 .1 .0, (passes .1 .1 .1 .1 .1 .0, (passes .1 .1 .1 .1 .1 .1 .0, tt)))))))
+  input-right = admitted form1 B (length work) (pass-front (buildEarly form1 B (length work)) (buildLate form1 B (length out)) passes)
 
   pub orders-right : Every (Order (G .n)) (ordersOf B)
-  orders-right = orders-of (G .n) (B .d) (B .orders) (input-right .whole) (passes .1 .1 .1 .1 .1 .1 .1 .0)
+  orders-right = orders-of (G .n) (B .d) (B .orders) (input-right .whole) (pass-behind (buildEarly form1 B (length work)) (buildLate form1 B (length out)) passes .0)
 
   orders-many : length (ordersOf B) ≡ B .d
   orders-many = table-long (orderAt (G .n) (B .orders)) (B .d)
@@ -95,14 +95,14 @@ module _ (B : Input) (work out : List ℕ) (r : Built) (work' out' : List ℕ) (
 
   -- the total length is that of the stored form
   pub total-right : length (encode form1 (built B)) ≡ total
-  total-right = encode-long fits ∙ sym (passed-is checks (lengthOf form1 (built B)) total said)
+  total-right = encode-long fits ∙ sym (answered-is (lengthOf form1 (built B)) checks total said)
 
   output-is : out' ≡ encode form1 (built B) ++ drop total out
   unfolding buildOutput
   output-is =
       X .writes
-      ∙ rw (passed-applies [] (lengthOf form1 (built B)) checks total said)
-      (ap (λ (n : ℕ). encode form1 (built B) ++ drop n out) (sym (passed-is checks (lengthOf form1 (built B)) total said)))
+      ∙ rw (stops-early checks [] 9 passes)
+      (ap (λ (n : ℕ). encode form1 (built B) ++ drop n out) (sym (answered-is (lengthOf form1 (built B)) checks total said)))
 
   -- the output begins with it, and goes on as it was
   pub build-stores : take total out' ≡ encode form1 (built B)
@@ -137,11 +137,13 @@ module _ (B : Input) (work out : List ℕ) (r : Built) (work' out' : List ℕ) (
     unfolding askAnswer openAnswer
     build-asks =
         let b : List ℕ = take total out' in
-        let p = all-pass (formChecks b marks ++ (contentsCheck b ∷ [])) (countsIn b) (countsOf (built B)) (build-opens marks room) in
+        let form : List Check = formChecks b marks in
+        let p = answered-pass (countsIn b) (form ++ (contentsCheck b ∷ [])) (countsOf (built B)) (build-opens marks room) in
         let low-source = lt-leb (countsIn b .n) u (omega (arith, stored-counts)) in
         let low-target = lt-leb (countsIn b .n) v (omega (arith, stored-counts)) in
-        pass-all (askEarly b u v marks ++ (contentsCheck b ∷ [])) (saidOf (answer (indexIn b) u v))
-        (p .0, (p .1 .0, (p .1 .1 .0, (p .1 .1 .1 .0, (low-source, (low-target, (p .1 .1 .1 .1 .0, tt)))))))
+        stops-outcome (saidOf (answer (indexIn b) u v)) (askEarly b u v marks ++ (contentsCheck b ∷ [])) 7
+        (pass-both form (check (leb (countsIn b .n) u) 14 0 ∷ check (leb (countsIn b .n) v) 14 1 ∷ contentsCheck b ∷ [])
+        (pass-front form (contentsCheck b ∷ []) p) (low-source, (low-target, pass-behind form (contentsCheck b ∷ []) p)))
         ∙ ap (λ (I : Index). answered (saidOf (answer I u v))) stored-index
 
     pub build-asks-right : (answer (built B) u v .says ≡ true) ↔ Reaches G u v

@@ -4,6 +4,7 @@ use Prim.Native.Nat.{ℕ, _^_, _≤_, _<_}
 use Rattle.lineage.specs.Numbers.{Width}
 use Rattle.lineage.specs.Stored.{Form}
 use Rattle.lineage.specs.Calls.{Input}
+use Rattle.numbers.specs.Bounds.{vertexBound, entryBound}
 use Rattle.build_orders.specs.Input.{graphOf}
 use Rattle.stored_header.specs.declared.Row.{Row}
 
@@ -23,5 +24,5 @@ formBy number row = record { number = number; width = row .width; vertices = row
 pub record RowFit (number : ℕ) (row : Row) : Type 0 where
   pub number-small : number < 2 ^ 32
   pub width : Width (row .width)
-  pub vertices : row .vertices ≤ 200000
-  pub edges : row .edges ≤ 1000000
+  pub vertices : row .vertices ≤ vertexBound
+  pub edges : row .edges ≤ entryBound

@@ -17,19 +17,19 @@ use Rattle.laws.proofs.Parts.{part-length}
 use Rattle.laws.proofs.Starts.{values-are, starts-are}
 use Rattle.build_rows.specs.Rows.{turnedRow}
 use Rattle.build_children.specs.Places.{childPlaces, parentPlaces}
-use Rattle.build_children.specs.Window.{childrenAt, windowSize, ChildrenFit, ChildrenAt, ParentsAt, ChildrenFound}
+use Rattle.build_children.specs.Window.{childrenAt, childrenWindow, ChildrenFit, ChildrenAt, ParentsAt, ChildrenFound}
 use Rattle.build_children.proofs.Rows.{rows-same, rows-turned, among-those, those-upto, turned-those}
 use Rattle.build_children.proofs.Named.{children-are}
 
 -- the children of k groups and their parents, in a window for e edges
-pub record ChildrenStored (children : List (List ℕ)) (w : List ℕ) (base k e c : ℕ) : Type 0 where
-  pub rows : ChildrenAt w base k e c (λ p. getD children p [])
-  pub starts : part w (childrenAt base k e) (k + 1) ≡ startsFrom 0 children
-  pub values : part w (childrenAt base k e + k + 1) c ≡ joined children
+pub record ChildrenStored (children : List (List ℕ)) (work : List ℕ) (base k e c : ℕ) : Type 0 where
+  pub rows : ChildrenAt work base k e c (λ p. getD children p [])
+  pub starts : part work (childrenAt base k e) (k + 1) ≡ startsFrom 0 children
+  pub values : part work (childrenAt base k e + k + 1) c ≡ joined children
   pub count : c ≡ length (joined children)
-  pub parents : ParentsAt w base k c (λ q. those (λ p. childOf children p q) (upto k))
+  pub parents : ParentsAt work base k c (λ q. those (λ p. childOf children p q) (upto k))
 
-module _ {G : Graph} {w w' : List ℕ} {place k base c : ℕ} (fit : ChildrenFit G w place k base) (found : ChildrenFound G w w' place k base c) where
+module _ {G : Graph} {work work' : List ℕ} {place k base c : ℕ} (fit : ChildrenFit G work place k base) (found : ChildrenFound G work work' place k base c) where
   abbrev groups : List ℕ
   groups = groupList (namesOf G)
 
@@ -38,39 +38,39 @@ module _ {G : Graph} {w w' : List ℕ} {place k base c : ℕ} (fit : ChildrenFit
 
   module _
       (all : length groups ≡ k)
-      (places : (v : ℕ) → v < G .n → getD (part w place (G .n)) v 0 ≡ placeOf groups (getD (namesOf G) v 0))
+      (places : (v : ℕ) → v < G .n → getD (part work place (G .n)) v 0 ≡ placeOf groups (getD (namesOf G) v 0))
     where
-      children-at : (p : ℕ) → p < k → childPlaces G (part w place (G .n)) k p ≡ getD children p []
-      children-at = subst (λ m. (p : ℕ) → p < m → childPlaces G (part w place (G .n)) m p ≡ getD children p []) all (children-are G (fit .ends) (part w place (G .n)) places)
+      children-at : (p : ℕ) → p < k → childPlaces G (part work place (G .n)) k p ≡ getD children p []
+      children-at = subst (λ m. (p : ℕ) → p < m → childPlaces G (part work place (G .n)) m p ≡ getD children p []) all (children-are G (fit .ends) (part work place (G .n)) places)
 
       children-all : length children ≡ k
       children-all = children-long G (fit .ends) ∙ all
 
-      laid : ChildrenAt w' base k (length (G .sources)) c (λ p. getD children p [])
+      laid : ChildrenAt work' base k (length (G .sources)) c (λ p. getD children p [])
       laid = rows-same (found .children) children-at
 
-      parents-at : (q : ℕ) → parentPlaces G (part w place (G .n)) k q ≡ those (λ p. childOf children p q) (upto k)
+      parents-at : (q : ℕ) → parentPlaces G (part work place (G .n)) k q ≡ those (λ p. childOf children p q) (upto k)
       parents-at q =
-          those-upto (λ p. among q (childPlaces G (part w place (G .n)) k p)) (λ p. childOf children p q) k
+          those-upto (λ p. among q (childPlaces G (part work place (G .n)) k p)) (λ p. childOf children p q) k
           (λ p h i. rw (children-at p h) at i) (λ p h i. rw (children-at p h) i)
 
       -- the rows laid out are the children, their regions the two sections that hold them, and the other rows the parents
-      pub children-stored : ChildrenStored children w' base k (length (G .sources)) c
+      pub children-stored : ChildrenStored children work' base k (length (G .sources)) c
       children-stored = record {
         rows = laid;
-        starts = starts-are children children-all laid (part-length w' starts (k + 1) (omega (arith, room)) ∙ add-one k);
+        starts = starts-are children children-all laid (part-length work' starts (k + 1) (omega (arith, room)) ∙ add-one k);
         values = values;
-        count = sym (part-length w' (starts + k + 1) c (omega (arith, room, found .few))) ∙ ap length values;
+        count = sym (part-length work' (starts + k + 1) c (omega (arith, room, found .few))) ∙ ap length values;
         parents = rows-same (found .parents) (λ q h. parents-at q);
       }
         where
           starts : ℕ
           starts = childrenAt base k (length (G .sources))
 
-          room : base + windowSize k (length (G .sources)) ≤ length w'
+          room : base + childrenWindow k (length (G .sources)) ≤ length work'
           room = omega (arith, fit .room, found .kept .long)
 
-          values : part w' (starts + k + 1) c ≡ joined children
+          values : part work' (starts + k + 1) c ≡ joined children
           values = values-are children children-all laid
 
 -- parents turned over an order of the places: each group's children, in that order

@@ -18,29 +18,29 @@ use Rattle.numbers.proofs.Regions.{kept-then, kept-wider, kept-apart, apart-wit
 use Rattle.build_rows.specs.Rows.{mapped, turnedRow, singles, strippedRow}
 use Rattle.build_rows.specs.Fit.{PairsFit, RowsFit, TurnFit}
 use Rattle.build_children.specs.Places.{childPlaces}
-use Rattle.build_children.specs.Window.{sequenceAt, childrenAt, windowSize, ChildrenFit, ChildrenAt, ParentsAt, ChildrenFound}
+use Rattle.build_children.specs.Window.{sequenceAt, childrenAt, childrenWindow, ChildrenFit, ChildrenAt, ParentsAt, ChildrenFound}
 use Rattle.build_children.proofs.Rows.{upto-order, rows-same, rows-turned, those-below}
 use Rattle.build_children.proofs.Places.{comingFrom, coming-low, stripped-children, turned-parents}
 
 -- passes have written in the window, and the sequence is there
-record Sequenced (w₀ w : List ℕ) (base k e : ℕ) : Type 0 where
-  kept : Kept w₀ w base (windowSize k e)
-  sequence : part w (sequenceAt base k e) k ≡ upto k
+record Sequenced (work₀ work : List ℕ) (base k e : ℕ) : Type 0 where
+  kept : Kept work₀ work base (childrenWindow k e)
+  sequence : part work (sequenceAt base k e) k ≡ upto k
 
 -- a pass writes the parents' area, or the children's
-below-sequence : {w₀ w w' : List ℕ} {base k e : ℕ} (c : ℕ) → c ≤ e → Sequenced w₀ w base k e → Kept w w' base (k + 1 + c) → Sequenced w₀ w' base k e
+below-sequence : {work₀ work work' : List ℕ} {base k e : ℕ} (c : ℕ) → c ≤ e → Sequenced work₀ work base k e → Kept work work' base (k + 1 + c) → Sequenced work₀ work' base k e
 below-sequence {base = base} {k} {e} c h s K = record {
-  kept = kept-then (s .kept) (kept-wider base (windowSize k e) (omega arith) (omega arith) K);
+  kept = kept-then (s .kept) (kept-wider base (childrenWindow k e) (omega arith) (omega arith) K);
   sequence = K .above (sequenceAt base k e) k (omega arith) ∙ s .sequence;
 }
 
-above-sequence : {w₀ w w' : List ℕ} {base k e : ℕ} → Sequenced w₀ w base k e → Kept w w' (childrenAt base k e) (k + 1 + e) → Sequenced w₀ w' base k e
+above-sequence : {work₀ work work' : List ℕ} {base k e : ℕ} → Sequenced work₀ work base k e → Kept work work' (childrenAt base k e) (k + 1 + e) → Sequenced work₀ work' base k e
 above-sequence {base = base} {k} {e} s K = record {
-  kept = kept-then (s .kept) (kept-wider base (windowSize k e) (omega arith) (omega arith) K);
+  kept = kept-then (s .kept) (kept-wider base (childrenWindow k e) (omega arith) (omega arith) K);
   sequence = K .below (sequenceAt base k e) k (omega arith) ∙ s .sequence;
 }
 
-module _ {G : Graph} {w₀ : List ℕ} {place k base : ℕ} (fit : ChildrenFit G w₀ place k base) where
+module _ {G : Graph} {work₀ : List ℕ} {place k base : ℕ} (fit : ChildrenFit G work₀ place k base) where
   abbrev n : ℕ
   n = G .n
 
@@ -54,19 +54,19 @@ module _ {G : Graph} {w₀ : List ℕ} {place k base : ℕ} (fit : ChildrenFit G
   starts = childrenAt base k e
 
   abbrev P : List ℕ
-  P = part w₀ place n
+  P = part work₀ place n
 
   -- the window lies in the buffer, and the table of places is as it was
-  long : {w : List ℕ} → Sequenced w₀ w base k e → base + windowSize k e ≤ length w
+  long : {work : List ℕ} → Sequenced work₀ work base k e → base + childrenWindow k e ≤ length work
   long s = omega (arith, fit .room, s .kept .long)
 
-  place-same : {w : List ℕ} → Sequenced w₀ w base k e → part w place n ≡ P
+  place-same : {work : List ℕ} → Sequenced work₀ work base k e → part work place n ≡ P
   place-same s = kept-apart (s .kept) (fit .place-there .apart)
 
   -- rows in the children's area can be turned
   turn-fits :
-      {w : List ℕ} (c : ℕ) {row : ℕ → List ℕ} → Sequenced w₀ w base k e → c ≤ e → ChildrenAt w base k e c row
-      → Below k (part w (starts + k + 1) c) → TurnFit w starts (starts + k + 1) c k sequence base
+      {work : List ℕ} (c : ℕ) {row : ℕ → List ℕ} → Sequenced work₀ work base k e → c ≤ e → ChildrenAt work base k e c row
+      → Below k (part work (starts + k + 1) c) → TurnFit work starts (starts + k + 1) c k sequence base
   turn-fits c s h r low = record {
     rows-fit = record {
       values-fit = record {
@@ -83,11 +83,11 @@ module _ {G : Graph} {w₀ : List ℕ} {place k base : ℕ} (fit : ChildrenFit G
   }
 
   -- 0, .. , k - 1 is written
-  module _ {w₁ : List ℕ} (counting : Kept w₀ w₁ sequence k) (counted : part w₁ sequence k ≡ upto k) where
-    sequenced₁ : Sequenced w₀ w₁ base k e
-    sequenced₁ = record { kept = kept-wider base (windowSize k e) (omega arith) (omega arith) counting; sequence = counted }
+  module _ {work₁ : List ℕ} (counting : Kept work₀ work₁ sequence k) (counted : part work₁ sequence k ≡ upto k) where
+    sequenced₁ : Sequenced work₀ work₁ base k e
+    sequenced₁ = record { kept = kept-wider base (childrenWindow k e) (omega arith) (omega arith) counting; sequence = counted }
 
-    pub edges-fit : PairsFit (G .targets) (G .sources) w₁ place n k starts
+    pub edges-fit : PairsFit (G .targets) (G .sources) work₁ place n k starts
     edges-fit = record {
       keys-fit = record {
         keys-low = targets-below G (fit .ends);
@@ -105,31 +105,31 @@ module _ {G : Graph} {w₀ : List ℕ} {place k base : ℕ} (fit : ChildrenFit G
 
     -- the edges are laid out by target
     module _
-        {w₂ : List ℕ} (laying : Kept w₁ w₂ starts (k + 1 + length (G .targets)))
-        (edges : Rows (part w₂ starts (k + 1)) (part w₂ (starts + k + 1) (length (G .targets))) k (row (mapped (part w₁ place n) (G .targets)) (mapped (part w₁ place n) (G .sources))))
+        {work₂ : List ℕ} (laying : Kept work₁ work₂ starts (k + 1 + length (G .targets)))
+        (edges : Rows (part work₂ starts (k + 1)) (part work₂ (starts + k + 1) (length (G .targets))) k (row (mapped (part work₁ place n) (G .targets)) (mapped (part work₁ place n) (G .sources))))
       where
-        sequenced₂ : Sequenced w₀ w₂ base k e
-        sequenced₂ = above-sequence sequenced₁ (subst (λ m. Kept w₁ w₂ starts (k + 1 + m)) (sym (fit .ends .paired)) laying)
+        sequenced₂ : Sequenced work₀ work₂ base k e
+        sequenced₂ = above-sequence sequenced₁ (subst (λ m. Kept work₁ work₂ starts (k + 1 + m)) (sym (fit .ends .paired)) laying)
 
-        edges-are : ChildrenAt w₂ base k e e (comingFrom G P)
+        edges-are : ChildrenAt work₂ base k e e (comingFrom G P)
         edges-are =
-            subst (λ m. Rows (part w₂ starts (k + 1)) (part w₂ (starts + k + 1) m) k (comingFrom G P)) (sym (fit .ends .paired))
-            (subst (λ z. Rows (part w₂ starts (k + 1)) (part w₂ (starts + k + 1) (length (G .targets))) k (comingFrom G z)) (place-same sequenced₁) edges)
+            subst (λ m. Rows (part work₂ starts (k + 1)) (part work₂ (starts + k + 1) m) k (comingFrom G P)) (sym (fit .ends .paired))
+            (subst (λ z. Rows (part work₂ starts (k + 1)) (part work₂ (starts + k + 1) (length (G .targets))) k (comingFrom G z)) (place-same sequenced₁) edges)
 
-        pub edges-turn : TurnFit w₂ starts (starts + k + 1) e k sequence base
+        pub edges-turn : TurnFit work₂ starts (starts + k + 1) e k sequence base
         edges-turn =
             turn-fits e sequenced₂ (omega arith) edges-are
-            (values-below edges-are k (λ q p h i. coming-low G P k (rw (part-length w₀ place n (fit .place-there .fits)) (sources-below G (fit .ends))) (fit .place-low) q p i))
+            (values-below edges-are k (λ q p h i. coming-low G P k (rw (part-length work₀ place n (fit .place-there .fits)) (sources-below G (fit .ends))) (fit .place-low) q p i))
 
         -- and turned
         module _
-            {w₃ : List ℕ} (turning : Kept w₂ w₃ base (k + 1 + e))
-            (turned : ParentsAt w₃ base k e (turnedRow (rowAt (part w₂ starts (k + 1)) (part w₂ (starts + k + 1) e)) (part w₂ sequence k)))
+            {work₃ : List ℕ} (turning : Kept work₂ work₃ base (k + 1 + e))
+            (turned : ParentsAt work₃ base k e (turnedRow (rowAt (part work₂ starts (k + 1)) (part work₂ (starts + k + 1) e)) (part work₂ sequence k)))
           where
-            sequenced₃ : Sequenced w₀ w₃ base k e
+            sequenced₃ : Sequenced work₀ work₃ base k e
             sequenced₃ = below-sequence e (omega arith) sequenced₂ turning
 
-            pub turned-strip : RowsFit w₃ base (base + k + 1) e k starts
+            pub turned-strip : RowsFit work₃ base (base + k + 1) e k starts
             turned-strip = record {
               values-fit = record {
                 values-there = record { fits = omega (arith, long sequenced₃); apart = under (omega arith) };
@@ -142,28 +142,28 @@ module _ {G : Graph} {w₀ : List ℕ} {place k base : ℕ} (fit : ChildrenFit G
 
             -- and stripped
             module _
-                {w₄ : List ℕ} {c : ℕ} (stripping : Kept w₃ w₄ starts (k + 1 + e)) (few : c ≤ e)
-                (stripped : ChildrenAt w₄ base k e c (strippedRow (rowAt (part w₃ base (k + 1)) (part w₃ (base + k + 1) e))))
+                {work₄ : List ℕ} {c : ℕ} (stripping : Kept work₃ work₄ starts (k + 1 + e)) (few : c ≤ e)
+                (stripped : ChildrenAt work₄ base k e c (strippedRow (rowAt (part work₃ base (k + 1)) (part work₃ (base + k + 1) e))))
               where
-                sequenced₄ : Sequenced w₀ w₄ base k e
+                sequenced₄ : Sequenced work₀ work₄ base k e
                 sequenced₄ = above-sequence sequenced₃ stripping
 
-                turned-are : ParentsAt w₃ base k e (turnedRow (comingFrom G P) (upto k))
+                turned-are : ParentsAt work₃ base k e (turnedRow (comingFrom G P) (upto k))
                 turned-are = rows-turned edges-are (upto-order k) (rw (sequenced₂ .sequence) at turned)
 
-                children-are : ChildrenAt w₄ base k e c (childPlaces G P k)
+                children-are : ChildrenAt work₄ base k e c (childPlaces G P k)
                 children-are = rows-same stripped (λ p h. ap (singles p p) (turned-are .row-is p h) ∙ stripped-children G P k p)
 
-                pub children-turn : TurnFit w₄ starts (starts + k + 1) c k sequence base
+                pub children-turn : TurnFit work₄ starts (starts + k + 1) c k sequence base
                 children-turn = turn-fits c sequenced₄ few children-are (those-below (isChild G P) (upto k) (upto-order k) children-are)
 
                 -- and turned again
                 pub found :
-                    {w₅ : List ℕ} → Kept w₄ w₅ base (k + 1 + c)
-                    → ParentsAt w₅ base k c (turnedRow (rowAt (part w₄ starts (k + 1)) (part w₄ (starts + k + 1) c)) (part w₄ sequence k))
-                    → ChildrenFound G w₀ w₅ place k base c
-                found {w₅} K r =
-                    let s : Sequenced w₀ w₅ base k e = below-sequence c few sequenced₄ K in
+                    {work₅ : List ℕ} → Kept work₄ work₅ base (k + 1 + c)
+                    → ParentsAt work₅ base k c (turnedRow (rowAt (part work₄ starts (k + 1)) (part work₄ (starts + k + 1) c)) (part work₄ sequence k))
+                    → ChildrenFound G work₀ work₅ place k base c
+                found {work₅} K r =
+                    let s : Sequenced work₀ work₅ base k e = below-sequence c few sequenced₄ K in
                     record {
                       kept = s .kept;
                       few = few;

@@ -17,30 +17,30 @@ sequenceAt base k e = base + k + 1 + e
 abbrev pub childrenAt : ℕ → ℕ → ℕ → ℕ
 childrenAt base k e = sequenceAt base k e + k
 
-abbrev pub windowSize : ℕ → ℕ → ℕ
-windowSize k e = 3 * k + 2 + 2 * e
+abbrev pub childrenWindow : ℕ → ℕ → ℕ
+childrenWindow k e = 3 * k + 2 + 2 * e
 
 -- edges between vertices; for each vertex a place below k, outside the window; and the window lies in the buffer
-pub record ChildrenFit (G : Graph) (w : List ℕ) (place k base : ℕ) : Type 0 where
+pub record ChildrenFit (G : Graph) (work : List ℕ) (place k base : ℕ) : Type 0 where
   pub ends : Ends G
-  pub place-there : Outside w place (G .n) base (windowSize k (length (G .sources)))
-  pub place-low : Below k (part w place (G .n))
-  pub room : base + windowSize k (length (G .sources)) ≤ length w
+  pub place-there : Outside work place (G .n) base (childrenWindow k (length (G .sources)))
+  pub place-low : Below k (part work place (G .n))
+  pub room : base + childrenWindow k (length (G .sources)) ≤ length work
   pub few-edges : length (G .sources) < 2 ^ 32
   pub few-groups : k ≤ 2 ^ 32
 
 -- the rows of children, c in all, in a window for e edges
 abbrev pub ChildrenAt : List ℕ → ℕ → ℕ → ℕ → ℕ → (ℕ → List ℕ) → Type 0
-ChildrenAt w base k e c row = Rows (part w (childrenAt base k e) (k + 1)) (part w (childrenAt base k e + k + 1) c) k row
+ChildrenAt work base k e c row = Rows (part work (childrenAt base k e) (k + 1)) (part work (childrenAt base k e + k + 1) c) k row
 
 -- the rows of parents
 abbrev pub ParentsAt : List ℕ → ℕ → ℕ → ℕ → (ℕ → List ℕ) → Type 0
-ParentsAt w base k c row = Rows (part w base (k + 1)) (part w (base + k + 1) c) k row
+ParentsAt work base k c row = Rows (part work base (k + 1)) (part work (base + k + 1) c) k row
 
 -- what the pass leaves: nothing but the window differs, and in it lie the sequence, the children and the parents, c in all
-pub record ChildrenFound (G : Graph) (w w' : List ℕ) (place k base c : ℕ) : Type 0 where
-  pub kept : Kept w w' base (windowSize k (length (G .sources)))
+pub record ChildrenFound (G : Graph) (work work' : List ℕ) (place k base c : ℕ) : Type 0 where
+  pub kept : Kept work work' base (childrenWindow k (length (G .sources)))
   pub few : c ≤ length (G .sources)
-  pub sequence : part w' (sequenceAt base k (length (G .sources))) k ≡ upto k
-  pub children : ChildrenAt w' base k (length (G .sources)) c (childPlaces G (part w place (G .n)) k)
-  pub parents : ParentsAt w' base k c (parentPlaces G (part w place (G .n)) k)
+  pub sequence : part work' (sequenceAt base k (length (G .sources))) k ≡ upto k
+  pub children : ChildrenAt work' base k (length (G .sources)) c (childPlaces G (part work place (G .n)) k)
+  pub parents : ParentsAt work' base k c (parentPlaces G (part work place (G .n)) k)

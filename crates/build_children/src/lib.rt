@@ -7,24 +7,24 @@ ghost use Rattle.build_children.specs.Window.{ChildrenFit, ChildrenFound
 pub fn children(
     sources: &[u32],
     targets: &[u32],
-    w: &mut [u32],
+    work: &mut [u32],
     place: usize,
     n: usize,
     k: usize,
     base: usize,
 ) -> usize
-    requires { ⌜ ChildrenFit (record { n = n; sources = now sources; targets = now targets }) (now w) place k base ⌝ }
-    ensures { λ c. ⌜ ChildrenFound (record { n = n; sources = now (sources .entry); targets = now (targets .entry) }) (now (w .entry)) (now (w .exit)) place k base c ⌝ }
+    requires { ⌜ ChildrenFit (record { n = n; sources = now sources; targets = now targets }) (now work) place k base ⌝ }
+    ensures { λ c. ⌜ ChildrenFound (record { n = n; sources = now (sources .entry); targets = now (targets .entry) }) (now (work .entry)) (now (work .exit)) place k base c ⌝ }
 {
     let e = sources.len();
     let parents = base + k + 1;
     let sequence = parents + e;
     let starts = sequence + k;
     let children = starts + k + 1;
-    build_rows::count_up(w, sequence, k);
-    build_rows::rows(targets, sources, w, place, n, k, starts);
-    build_turning::turn(w, starts, children, e, k, sequence, base);
-    let c = build_stripping::strip(w, base, parents, e, k, starts);
-    build_turning::turn(w, starts, children, c, k, sequence, base);
+    build_rows::count_up(work, sequence, k);
+    build_rows::rows(targets, sources, work, place, n, k, starts);
+    build_turning::turn(work, starts, children, e, k, sequence, base);
+    let c = build_stripping::strip(work, base, parents, e, k, starts);
+    build_turning::turn(work, starts, children, c, k, sequence, base);
     c
 }

@@ -13,27 +13,28 @@ use Rattle.laws.specs.Rising.{Distinct}
 use Rattle.laws.proofs.Visited.{distinct}
 use Rattle.laws.proofs.TwoPasses.{passes-made}
 use Rattle.laws.proofs.Parts.{part-length}
+use Rattle.laws.specs.Visits.{Lows}
 use Rattle.numbers.specs.Regions.{Kept, under, over}
 use Rattle.numbers.proofs.Regions.{kept-then, kept-wider}
 use Rattle.build_traversal.specs.Lows.{Traversed}
 use Rattle.build_traversal.proofs.Lows.{lows-at}
-use Rattle.build_groups.specs.Trees.{Lows, treeNames}
+use Rattle.build_groups.specs.Trees.{treeNames}
 use Rattle.build_groups.specs.Fit.{NamesFit, ListFit}
 use Rattle.build_groups.specs.Places.{placesOf}
 use Rattle.build_groups.proofs.Forests.{lows-begin}
 use Rattle.build_groups.proofs.Vertices.{order₂}
 use Rattle.build_groups.proofs.TreeNames.{names-are, names-named}
-use Rattle.build_condense.specs.Window.{traversalAt, windowSize, CondenseFit, GroupsFound}
+use Rattle.build_condense.specs.Window.{traversalAt, groupsWindow, CondenseFit, GroupsFound}
 
 module _
-    {G : Graph} {w₀ w₁ : List ℕ} (fit : CondenseFit G w₀) (going : Kept w₀ w₁ 0 (windowSize (G .n) (length (G .sources))))
-    (gone : Traversed (pass₂ G) w₁ (traversalAt (G .n) (length (G .sources))) (G .n) (G .n))
+    {G : Graph} {work₀ work₁ : List ℕ} (fit : CondenseFit G work₀) (going : Kept work₀ work₁ 0 (groupsWindow (G .n) (length (G .sources))))
+    (gone : Traversed (pass₂ G) work₁ (traversalAt (G .n) (length (G .sources))) (G .n) (G .n))
   where
     abbrev n : ℕ
     n = G .n
 
     abbrev size : ℕ
-    size = windowSize n (length (G .sources))
+    size = groupsWindow n (length (G .sources))
 
     abbrev out : ℕ
     out = traversalAt n (length (G .sources)) + 4 * n
@@ -50,30 +51,30 @@ module _
     vertices : Order n (finished (pass₂ G))
     vertices = order₂ (fit .ends) passes
 
-    lows-are : Lows (pass₂ G) (part w₁ low n)
+    lows-are : Lows (pass₂ G) (part work₁ low n)
     lows-are = rw (gone .low) (lows-at (pass₂ G) once)
 
-    long₁ : size ≤ length w₁
+    long₁ : size ≤ length work₁
     long₁ = omega (arith, fit .room, going .long)
 
-    pub names-fit : NamesFit w₁ out low n 0
+    pub names-fit : NamesFit work₁ out low n 0
     names-fit = record {
       out-there = record { fits = omega (arith, long₁); apart = over (omega arith) };
       low-there = record { fits = omega (arith, long₁); apart = over (omega arith) };
       order = rw (gone .out) vertices;
-      begins = λ q h. lows-begin (pass₂ G) (part w₁ low n) once lows-are q (omega (arith, vertices .long));
+      begins = λ q h. lows-begin (pass₂ G) (part work₁ low n) once lows-are q (omega (arith, vertices .long));
       room = omega (arith, long₁);
     }
 
     -- the vertices are named
-    module _ {w₂ : List ℕ} (naming : Kept w₁ w₂ 0 n) (named : part w₂ 0 n ≡ treeNames (part w₁ out n) (part w₁ low n)) where
-      names : part w₂ 0 n ≡ namesOf G
-      names = named ∙ ap (λ z. treeNames z (part w₁ low n)) (gone .out) ∙ names-are (fit .ends) passes (part w₁ low n) lows-are
+    module _ {work₂ : List ℕ} (naming : Kept work₁ work₂ 0 n) (named : part work₂ 0 n ≡ treeNames (part work₁ out n) (part work₁ low n)) where
+      names : part work₂ 0 n ≡ namesOf G
+      names = named ∙ ap (λ z. treeNames z (part work₁ low n)) (gone .out) ∙ names-are (fit .ends) passes (part work₁ low n) lows-are
 
-      long₂ : size ≤ length w₂
+      long₂ : size ≤ length work₂
       long₂ = omega (arith, long₁, naming .long)
 
-      pub list-fit : ListFit w₂ 0 n n
+      pub list-fit : ListFit work₂ 0 n n
       list-fit = record {
         names-there = record { fits = omega (arith, long₂); apart = under (omega arith) };
         named = rw names (names-named G (fit .ends));
@@ -83,16 +84,16 @@ module _
 
       -- and the names listed
       pub groups-found :
-          {w₃ : List ℕ} {k : ℕ} → Kept w₂ w₃ n (n + n) → k ≤ n → part w₃ n k ≡ groupList (part w₂ 0 n) → part w₃ (n + n) n ≡ placesOf (part w₂ 0 n)
-          → GroupsFound G w₀ w₃ k
-      groups-found {w₃} {k} listing few listed placed =
-          let groups : part w₃ n k ≡ groupList (namesOf G) = listed ∙ ap groupList names in
+          {work₃ : List ℕ} {k : ℕ} → Kept work₂ work₃ n (n + n) → k ≤ n → part work₃ n k ≡ groupList (part work₂ 0 n) → part work₃ (n + n) n ≡ placesOf (part work₂ 0 n)
+          → GroupsFound G work₀ work₃ k
+      groups-found {work₃} {k} listing few listed placed =
+          let groups : part work₃ n k ≡ groupList (namesOf G) = listed ∙ ap groupList names in
           let twice : n + n ≡ 2 * n = omega arith in
           record {
             kept = kept-then going (kept-then (kept-wider 0 size (omega arith) (omega arith) naming) (kept-wider 0 size (omega arith) (omega arith) listing));
             few = few;
             names = listing .below 0 n (omega arith) ∙ names;
             groups = groups;
-            count = sym (part-length w₃ n k (omega (arith, long₂, listing .long))) ∙ ap length groups;
-            places = subst (λ at. part w₃ at n ≡ placesOf (part w₂ 0 n)) twice placed ∙ ap placesOf names;
+            count = sym (part-length work₃ n k (omega (arith, long₂, listing .long))) ∙ ap length groups;
+            places = subst (λ at. part work₃ at n ≡ placesOf (part work₂ 0 n)) twice placed ∙ ap placesOf names;
           }

@@ -17,7 +17,7 @@ use Rattle.numbers.proofs.Regions.{kept-then, kept-wider}
 use Rattle.build_traversal.specs.Lows.{Traversed}
 use Rattle.build_orders.specs.Input.{graphOf}
 use Rattle.build_groups.proofs.Vertices.{order₁}
-use Rattle.build_condense.specs.Window.{traversalAt, windowSize, PassFit, CondenseFit}
+use Rattle.build_condense.specs.Window.{traversalAt, groupsWindow, PassFit, CondenseFit}
 
 -- the graph with its edges turned
 abbrev turned : Graph → Graph
@@ -33,7 +33,7 @@ ends-turned ends = record {
 order-turned : {n : ℕ} (xs : List ℕ) → Order n xs → Order n (reverse xs)
 order-turned xs o = record { long = length-reverse xs ∙ o .long; all = λ v h. rw among-reverse (o .all v h) }
 
-module _ {G : Graph} {w₀ : List ℕ} (fit : CondenseFit G w₀) where
+module _ {G : Graph} {work₀ : List ℕ} (fit : CondenseFit G work₀) where
   abbrev n : ℕ
   n = G .n
 
@@ -44,11 +44,11 @@ module _ {G : Graph} {w₀ : List ℕ} (fit : CondenseFit G w₀) where
   order = base + 6 * n
 
   abbrev size : ℕ
-  size = windowSize n (length (G .sources))
+  size = groupsWindow n (length (G .sources))
 
   -- 0, .. , n - 1 is written
-  module _ {w₁ : List ℕ} (counting : Kept w₀ w₁ 0 n) (counted : part w₁ 0 n ≡ upto n) where
-    pub first-fit : PassFit G w₁ 0 base
+  module _ {work₁ : List ℕ} (counting : Kept work₀ work₁ 0 n) (counted : part work₁ 0 n ≡ upto n) where
+    pub first-fit : PassFit G work₁ 0 base
     first-fit = record {
       ends = fit .ends;
       self = counted;
@@ -62,28 +62,28 @@ module _ {G : Graph} {w₀ : List ℕ} (fit : CondenseFit G w₀) where
 
     -- the first traversal is done
     module _
-        {w₂ : List ℕ} (going : Kept w₁ w₂ n (base + 5 * n))
-        (gone : Traversed (traverse (row (G .sources) (G .targets)) (suc n) (part w₁ 0 n) []) w₂ base n n)
+        {work₂ : List ℕ} (going : Kept work₁ work₂ n (base + 5 * n))
+        (gone : Traversed (traverse (row (G .sources) (G .targets)) (suc n) (part work₁ 0 n) []) work₂ base n n)
       where
-        first-is : part w₂ (base + 4 * n) n ≡ finished (pass₁ G)
+        first-is : part work₂ (base + 4 * n) n ≡ finished (pass₁ G)
         unfolding pass₁
         first-is = gone .out ∙ ap (λ roots. finished (traverse (row (G .sources) (G .targets)) (suc n) roots [])) counted
 
-        long₂ : size ≤ length w₂
+        long₂ : size ≤ length work₂
         long₂ = omega (arith, fit .room, counting .long, going .long)
 
-        pub finished-there : Outside w₂ (base + 4 * n) n order n
+        pub finished-there : Outside work₂ (base + 4 * n) n order n
         finished-there = record { fits = omega (arith, long₂); apart = under (omega arith) }
 
-        pub order-room : order + n ≤ length w₂
+        pub order-room : order + n ≤ length work₂
         order-room = omega (arith, long₂)
 
         -- its order of finishing is turned round
-        module _ {w₃ : List ℕ} (turning : Kept w₂ w₃ order n) (turning-is : part w₃ order n ≡ reverse (part w₂ (base + 4 * n) n)) where
-          order-is : part w₃ order n ≡ reverse (finished (pass₁ G))
+        module _ {work₃ : List ℕ} (turning : Kept work₂ work₃ order n) (turning-is : part work₃ order n ≡ reverse (part work₂ (base + 4 * n) n)) where
+          order-is : part work₃ order n ≡ reverse (finished (pass₁ G))
           order-is = turning-is ∙ ap reverse first-is
 
-          pub second-fit : PassFit (turned G) w₃ order base
+          pub second-fit : PassFit (turned G) work₃ order base
           second-fit = record {
             ends = ends-turned (fit .ends);
             self = turning .below 0 n (omega arith) ∙ going .below 0 n (omega arith) ∙ counted;
@@ -97,15 +97,15 @@ module _ {G : Graph} {w₀ : List ℕ} (fit : CondenseFit G w₀) where
 
           -- the second traversal is done
           pub passes-done :
-              {w₄ : List ℕ} → Kept w₃ w₄ n (base + 5 * n)
-              → Traversed (traverse (row (G .targets) (G .sources)) (suc n) (part w₃ order n) []) w₄ base n n
-              → Kept w₀ w₄ 0 size × Traversed (pass₂ G) w₄ base n n
+              {work₄ : List ℕ} → Kept work₃ work₄ n (base + 5 * n)
+              → Traversed (traverse (row (G .targets) (G .sources)) (suc n) (part work₃ order n) []) work₄ base n n
+              → Kept work₀ work₄ 0 size × Traversed (pass₂ G) work₄ base n n
           unfolding pass₂
-          passes-done {w₄} again done = (
+          passes-done {work₄} again done = (
             kept-then
                 (kept-wider 0 size (omega arith) (omega arith) counting)
                 (kept-then
                 (kept-wider 0 size (omega arith) (omega arith) going)
                 (kept-then (kept-wider 0 size (omega arith) (omega arith) turning) (kept-wider 0 size (omega arith) (omega arith) again))),
-            subst (λ roots. Traversed (traverse (row (G .targets) (G .sources)) (suc n) roots []) w₄ base n n) order-is done,
+            subst (λ roots. Traversed (traverse (row (G .targets) (G .sources)) (suc n) roots []) work₄ base n n) order-is done,
           )

@@ -27,7 +27,7 @@ use Rattle.build_traversal.specs.Fit.{TraverseFit}
 use Rattle.build_traversal.proofs.Reach.{Inside, rows-low, traverse-visits, traverse-same, finished-roots}
 use Rattle.build_condense.specs.Window.{PassFit}
 
-module _ {G : Graph} {w₀ : List ℕ} {roots base : ℕ} (fit : PassFit G w₀ roots base) where
+module _ {G : Graph} {work₀ : List ℕ} {roots base : ℕ} (fit : PassFit G work₀ roots base) where
   abbrev n : ℕ
   n = G .n
 
@@ -37,7 +37,7 @@ module _ {G : Graph} {w₀ : List ℕ} {roots base : ℕ} (fit : PassFit G w₀ 
   abbrev next : ℕ → List ℕ
   next = row (G .sources) (G .targets)
 
-  pub rows-fit : PairsFit (G .sources) (G .targets) w₀ 0 n n n
+  pub rows-fit : PairsFit (G .sources) (G .targets) work₀ 0 n n n
   rows-fit = record {
     keys-fit = record {
       keys-low = sources-below G (fit .ends);
@@ -53,30 +53,30 @@ module _ {G : Graph} {w₀ : List ℕ} {roots base : ℕ} (fit : PassFit G w₀ 
   next-low : Inside n next
   next-low p q i = fit .ends .targets-low p q (edge-rows (G .sources) (G .targets) .holds p q .0 i)
 
-  roots-low : (q : ℕ) → among q (part w₀ roots n) ≡ true → q < n
-  roots-low = order-low n (part w₀ roots n) (fit .order)
+  roots-low : (q : ℕ) → among q (part work₀ roots n) ≡ true → q < n
+  roots-low = order-low n (part work₀ roots n) (fit .order)
 
   -- the rows are laid out
   module _
-      {w₁ : List ℕ} (laying : Kept w₀ w₁ n (n + 1 + e))
-      (laid : RowsAt w₁ n n e (row (mapped (part w₀ 0 n) (G .sources)) (mapped (part w₀ 0 n) (G .targets))))
+      {work₁ : List ℕ} (laying : Kept work₀ work₁ n (n + 1 + e))
+      (laid : RowsAt work₁ n n e (row (mapped (part work₀ 0 n) (G .sources)) (mapped (part work₀ 0 n) (G .targets))))
     where
-      edges : RowsAt w₁ n n e next
+      edges : RowsAt work₁ n n e next
       edges =
-          let self : (xs : List ℕ) → Below n xs → mapped (part w₀ 0 n) xs ≡ xs = λ xs low. ap (λ z. mapped z xs) (fit .self) ∙ mapped-self n xs low in
+          let self : (xs : List ℕ) → Below n xs → mapped (part work₀ 0 n) xs ≡ xs = λ xs low. ap (λ z. mapped z xs) (fit .self) ∙ mapped-self n xs low in
           rw (self (G .sources) (sources-below G (fit .ends)), self (G .targets) (targets-below G (fit .ends))) at laid
 
-      roots-same : part w₁ roots n ≡ part w₀ roots n
+      roots-same : part work₁ roots n ≡ part work₀ roots n
       roots-same = kept-apart laying (apart-within n (n + 1 + e) (omega arith) (omega (arith, fit .rows-room)) (fit .roots-there .apart))
 
-      entries-low : Below n (part w₁ (n + n + 1) e)
+      entries-low : Below n (part work₁ (n + n + 1) e)
       entries-low = values-below edges n (λ x v h. next-low x v)
 
-      pub traverse-fit : TraverseFit w₁ n (n + n + 1) e roots n n base
+      pub traverse-fit : TraverseFit work₁ n (n + n + 1) e roots n n base
       traverse-fit = record {
         laid = edges .laid;
         values-low = entries-low;
-        roots-low = rw roots-same (in-below n (part w₀ roots n) roots-low);
+        roots-low = rw roots-same (in-below n (part work₀ roots n) roots-low);
         starts-there = record { fits = omega (arith, fit .rows-room, fit .room, laying .long); apart = under (omega (arith, fit .rows-room)) };
         values-there = record { fits = omega (arith, fit .rows-room, fit .room, laying .long); apart = under (omega (arith, fit .rows-room)) };
         roots-there = record {
@@ -91,25 +91,25 @@ module _ {G : Graph} {w₀ : List ℕ} {roots base : ℕ} (fit : PassFit G w₀ 
 
       -- and gone through
       abbrev forest : Forest
-      forest = traverse next (suc n) (part w₀ roots n) []
+      forest = traverse next (suc n) (part work₀ roots n) []
 
-      forest-is : traverse (rowsIn w₁ n (n + n + 1) e n) (suc n) (part w₁ roots n) [] ≡ forest
+      forest-is : traverse (rowsIn work₁ n (n + n + 1) e n) (suc n) (part work₁ roots n) [] ≡ forest
       forest-is =
           rw roots-same
-          (traverse-same n (part w₀ roots n) (edges .row-is) (rows-low (part w₁ n (n + 1)) (part w₁ (n + n + 1) e) entries-low) next-low roots-low)
+          (traverse-same n (part work₀ roots n) (edges .row-is) (rows-low (part work₁ n (n + 1)) (part work₁ (n + n + 1) e) entries-low) next-low roots-low)
 
       all-finished : length (finished forest) ≡ n
-      all-finished = finished-roots n (part w₀ roots n) next-low roots-low (traverse-visits n (part w₀ roots n) next-low roots-low) (fit .order .all)
+      all-finished = finished-roots n (part work₀ roots n) next-low roots-low (traverse-visits n (part work₀ roots n) next-low roots-low) (fit .order .all)
 
       pub passed :
-          {w₂ : List ℕ} {r : ℕ} → Kept w₁ w₂ base (6 * n) → Traversed (traverse (rowsIn w₁ n (n + n + 1) e n) (suc n) (part w₁ roots n) []) w₂ base n r
-          → Kept w₀ w₂ n (base + 5 * n) × Traversed forest w₂ base n n
-      passed {w₂} {r} going gone =
-          let traversed : Traversed forest w₂ base n r = subst (λ f. Traversed f w₂ base n r) forest-is gone in
-          let room : base + 6 * n ≤ length w₂ = omega (arith, fit .room, laying .long, going .long) in
+          {work₂ : List ℕ} {r : ℕ} → Kept work₁ work₂ base (6 * n) → Traversed (traverse (rowsIn work₁ n (n + n + 1) e n) (suc n) (part work₁ roots n) []) work₂ base n r
+          → Kept work₀ work₂ n (base + 5 * n) × Traversed forest work₂ base n n
+      passed {work₂} {r} going gone =
+          let traversed : Traversed forest work₂ base n r = subst (λ f. Traversed f work₂ base n r) forest-is gone in
+          let room : base + 6 * n ≤ length work₂ = omega (arith, fit .room, laying .long, going .long) in
           let all : r ≡ n =
-          sym (part-length w₂ (base + 4 * n) r (omega (arith, traversed .most))) ∙ ap length (traversed .out) ∙ all-finished in (
+          sym (part-length work₂ (base + 4 * n) r (omega (arith, traversed .most))) ∙ ap length (traversed .out) ∙ all-finished in (
             kept-then (kept-wider n (base + 5 * n) (omega arith) (omega (arith, fit .rows-room)) laying)
                 (kept-wider n (base + 5 * n) (omega (arith, fit .rows-room)) (omega arith) going),
-            subst (λ z. Traversed forest w₂ base n z) all traversed,
+            subst (λ z. Traversed forest work₂ base n z) all traversed,
           )

@@ -27,24 +27,24 @@ lasts-more n i xs long h =
     ∙ reverse-cons (getD xs j 0) (drop (suc j) xs)
     ∙ ap (λ z. reverse (drop z xs) ++ (getD xs j 0 ∷ [])) after
 
-module _ {w₀ : List ℕ} {from n base : ℕ} (there : Outside w₀ from n base n) where
+module _ {work₀ : List ℕ} {from n base : ℕ} (there : Outside work₀ from n base n) where
   abbrev numbers : List ℕ
-  numbers = part w₀ from n
+  numbers = part work₀ from n
 
   long : length numbers ≡ n
-  long = part-length w₀ from n (there .fits)
+  long = part-length work₀ from n (there .fits)
 
-  pub reversing-none : Written w₀ w₀ base n 0 (lasts n 0 numbers)
-  reversing-none = rw (lasts-none n numbers long) (written-none w₀ base n)
+  pub reversing-none : Written work₀ work₀ base n 0 (lasts n 0 numbers)
+  reversing-none = rw (lasts-none n numbers long) (written-none work₀ base n)
 
   pub reversing-more :
-      {w : List ℕ} {i : ℕ} → i < n → base + n ≤ length w₀ → Written w₀ w base n i (lasts n i numbers)
-      → Written w₀ (set w (base + i) (getD w (from + (n - 1 - i)) 0)) base n (i + 1) (lasts n (i + 1) numbers)
+      {work : List ℕ} {i : ℕ} → i < n → base + n ≤ length work₀ → Written work₀ work base n i (lasts n i numbers)
+      → Written work₀ (set work (base + i) (getD work (from + (n - 1 - i)) 0)) base n (i + 1) (lasts n (i + 1) numbers)
   reversing-more {i = i} h room r =
       rw (read-at there (r .kept) (n - 1 - i) (omega arith), lasts-more n i numbers long h) (written-more (getD numbers (n - 1 - i) 0) h room r)
 
-  pub reversing-all : {w : List ℕ} {i : ℕ} → i ≡ n → Written w₀ w base n i (lasts n i numbers) → Kept w₀ w base n × (part w base n ≡ reverse numbers)
-  reversing-all {w} {i} e r =
+  pub reversing-all : {work : List ℕ} {i : ℕ} → i ≡ n → Written work₀ work base n i (lasts n i numbers) → Kept work₀ work base n × (part work base n ≡ reverse numbers)
+  reversing-all {work} {i} e r =
       let (kept, holds) = written-all (λ z. lasts n z numbers) e r in
       let none : n - n ≡ 0 = omega arith in
       (kept, holds ∙ ap (λ z. reverse (drop z numbers)) none)

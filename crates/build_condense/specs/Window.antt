@@ -20,33 +20,33 @@ use Rattle.build_groups.specs.Places.{placesOf}
 abbrev pub traversalAt : ℕ → ℕ → ℕ
 traversalAt n e = 2 * n + 1 + e
 
-abbrev pub windowSize : ℕ → ℕ → ℕ
-windowSize n e = 9 * n + 1 + e
+abbrev pub groupsWindow : ℕ → ℕ → ℕ
+groupsWindow n e = 9 * n + 1 + e
 
 -- one traversal of all vertices along the edges: the first n words are 0, .. , n - 1; the roots are an order of the vertices, and lie outside what is written; the rows
 -- end before the regions of the traversal begin
-pub record PassFit (G : Graph) (w : List ℕ) (roots base : ℕ) : Type 0 where
+pub record PassFit (G : Graph) (work : List ℕ) (roots base : ℕ) : Type 0 where
   pub ends : Ends G
-  pub self : part w 0 (G .n) ≡ upto (G .n)
-  pub order : Order (G .n) (part w roots (G .n))
-  pub roots-there : Outside w roots (G .n) (G .n) (base + 5 * G .n)
+  pub self : part work 0 (G .n) ≡ upto (G .n)
+  pub order : Order (G .n) (part work roots (G .n))
+  pub roots-there : Outside work roots (G .n) (G .n) (base + 5 * G .n)
   pub rows-room : traversalAt (G .n) (length (G .sources)) ≤ base
-  pub room : base + 6 * G .n ≤ length w
+  pub room : base + 6 * G .n ≤ length work
   pub few-edges : length (G .sources) < 2 ^ 32
   pub few-vertices : G .n < 2 ^ 32
 
 -- edges between vertices, and the window lies in the buffer
-pub record CondenseFit (G : Graph) (w : List ℕ) : Type 0 where
+pub record CondenseFit (G : Graph) (work : List ℕ) : Type 0 where
   pub ends : Ends G
-  pub room : windowSize (G .n) (length (G .sources)) ≤ length w
+  pub room : groupsWindow (G .n) (length (G .sources)) ≤ length work
   pub few-edges : length (G .sources) < 2 ^ 32
   pub few-vertices : G .n < 2 ^ 32
 
 -- what is found, of k groups: nothing but the window differs; the name of each vertex's group, all names rising, and the place of each vertex's group
-pub record GroupsFound (G : Graph) (w w' : List ℕ) (k : ℕ) : Type 0 where
-  pub kept : Kept w w' 0 (windowSize (G .n) (length (G .sources)))
+pub record GroupsFound (G : Graph) (work work' : List ℕ) (k : ℕ) : Type 0 where
+  pub kept : Kept work work' 0 (groupsWindow (G .n) (length (G .sources)))
   pub few : k ≤ G .n
-  pub names : part w' 0 (G .n) ≡ namesOf G
-  pub groups : part w' (G .n) k ≡ groupList (namesOf G)
+  pub names : part work' 0 (G .n) ≡ namesOf G
+  pub groups : part work' (G .n) k ≡ groupList (namesOf G)
   pub count : k ≡ length (groupList (namesOf G))
-  pub places : part w' (2 * G .n) (G .n) ≡ placesOf (namesOf G)
+  pub places : part work' (2 * G .n) (G .n) ≡ placesOf (namesOf G)

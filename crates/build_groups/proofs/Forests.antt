@@ -17,9 +17,9 @@ use Rattle.laws.proofs.Tests.{clash}
 use Rattle.laws.proofs.Lists.{there, in-getD, in-left, position-past}
 use Rattle.laws.specs.Rising.{Distinct}
 use Rattle.laws.proofs.Rising.{distinct-apart, distinct-right, position-getD}
-use Rattle.laws.specs.Visits.{before}
+use Rattle.laws.specs.Visits.{before, Lows}
 use Rattle.laws.proofs.Ranks.{behind, run, subtree-self}
-use Rattle.build_groups.specs.Trees.{Lows, treesFrom, treesOf}
+use Rattle.build_groups.specs.Trees.{treesFrom, treesOf}
 use Rattle.build_groups.proofs.Trees.{trees-step}
 
 -- what was finished before the root of the first tree was entered, and before what stands in a later tree was

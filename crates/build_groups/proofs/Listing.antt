@@ -44,40 +44,40 @@ position-upto p (suc n) v h t = at (ℕ-discrete v n) (position-upto p n v)
         ap (position v) split ∙ position-left v (those p (upto n)) (those p (n ∷ [])) (those-keep p v (upto n) t (in-upto n v l)) ∙ ih l t
 
 -- v vertices are gone through, and k of them are their own name
-pub record Listing (w₀ w : List ℕ) (names n base v k : ℕ) : Type 0 where
-  pub kept : Kept w₀ w base (n + n)
+pub record Listing (work₀ work : List ℕ) (names n base v k : ℕ) : Type 0 where
+  pub kept : Kept work₀ work base (n + n)
   pub few : k ≤ v
-  pub listed : part w base k ≡ those (λ x. eqb (getD (part w₀ names n) x 0) x) (upto v)
-  pub placed : (u : ℕ) → u < v → getD (part w (base + n) n) u 0 ≡ placeOf (groupList (part w₀ names n)) (getD (part w₀ names n) u 0)
+  pub listed : part work base k ≡ those (λ x. eqb (getD (part work₀ names n) x 0) x) (upto v)
+  pub placed : (u : ℕ) → u < v → getD (part work (base + n) n) u 0 ≡ placeOf (groupList (part work₀ names n)) (getD (part work₀ names n) u 0)
 
-pub listing-none : (w : List ℕ) (names n base : ℕ) → Listing w w names n base 0 0
+pub listing-none : (work : List ℕ) (names n base : ℕ) → Listing work work names n base 0 0
 unfolding part
-listing-none w names n base = record { kept = kept-same w base (n + n); few = omega arith; listed = refl; placed = λ u h. absurd (not-suc-le-zero h) }
+listing-none work names n base = record { kept = kept-same work base (n + n); few = omega arith; listed = refl; placed = λ u h. absurd (not-suc-le-zero h) }
 
 -- the vertex at hand, and where its turn reads and writes
-pub record Vertex (w : List ℕ) (names n base v k : ℕ) : Type 0 where
-  pub name-in : names + v < length w
-  pub low : getD w (names + v) 0 ≤ v
+pub record Vertex (work : List ℕ) (names n base v k : ℕ) : Type 0 where
+  pub name-in : names + v < length work
+  pub low : getD work (names + v) 0 ≤ v
   pub few : k ≤ v
-  pub room : base + (n + n) ≤ length w
+  pub room : base + (n + n) ≤ length work
 
-module _ {w₀ w : List ℕ} {names n base v k : ℕ} (f : ListFit w₀ names n base) (i : Listing w₀ w names n base v k) (h : v < n) where
+module _ {work₀ work : List ℕ} {names n base v k : ℕ} (f : ListFit work₀ names n base) (i : Listing work₀ work names n base v k) (h : v < n) where
   abbrev given : List ℕ
-  given = part w₀ names n
+  given = part work₀ names n
 
   abbrev own : ℕ → Bool
   own x = eqb (getD given x 0) x
 
   long : length given ≡ n
-  long = part-length w₀ names n (f .names-there .fits)
+  long = part-length work₀ names n (f .names-there .fits)
 
-  name-is : getD w (names + v) 0 ≡ getD given v 0
+  name-is : getD work (names + v) 0 ≡ getD given v 0
   name-is = read-at (f .names-there) (i .kept) v h
 
-  room : base + (n + n) ≤ length w
+  room : base + (n + n) ≤ length work
   room = omega (arith, f .room, i .kept .long)
 
-  pub listing-vertex : Vertex w names n base v k
+  pub listing-vertex : Vertex work names n base v k
   listing-vertex = record {
     name-in = omega (arith, f .names-there .fits, i .kept .long);
     low = omega (arith, name-is, f .named .low v (omega (arith, long)));
@@ -87,7 +87,7 @@ module _ {w₀ w : List ℕ} {names n base v k : ℕ} (f : ListFit w₀ names n 
 
   -- as many as are listed
   count : k ≡ length (those own (upto v))
-  count = sym (part-length w base k (omega (arith, room, i .few))) ∙ ap length (i .listed)
+  count = sym (part-length work base k (omega (arith, room, i .few))) ∙ ap length (i .listed)
 
   -- one vertex more in the places' region
   placed-more :
@@ -113,63 +113,63 @@ module _ {w₀ w : List ℕ} {names n base v k : ℕ} (f : ListFit w₀ names n 
 
   -- it is its own name: it is listed, and its place is how many were listed before it
   pub listing-own :
-      {w' : List ℕ} {k' : ℕ} → getD w (names + v) 0 ≡ v → w' ≡ set (set w (base + k) (getD w (names + v) 0)) (base + n + v) k → k' ≡ k + 1
-      → Listing w₀ w' names n base (v + 1) k'
+      {work' : List ℕ} {k' : ℕ} → getD work (names + v) 0 ≡ v → work' ≡ set (set work (base + k) (getD work (names + v) 0)) (base + n + v) k → k' ≡ k + 1
+      → Listing work₀ work' names n base (v + 1) k'
   listing-own e ew ek =
-      let name : ℕ = getD w (names + v) 0 in
+      let name : ℕ = getD work (names + v) 0 in
       let own-v : own v ≡ true = eq-eqb (getD given v 0) v (sym name-is ∙ e) in
       let few = i .few in
       rw (ew, ek) (record {
-        kept = kept-then (kept-more k name (omega arith) (i .kept)) (kept-set (set w (base + k) name) base (n + n) (base + n + v) k (omega arith) (omega arith));
+        kept = kept-then (kept-more k name (omega arith) (i .kept)) (kept-set (set work (base + k) name) base (n + n) (base + n + v) k (omega arith) (omega arith));
         few = omega arith;
         listed =
-            part-over (set w (base + k) name) base (k + 1) (base + n + v) k (omega arith)
-            ∙ part-longer w base k name (omega (arith, room))
+            part-over (set work (base + k) name) base (k + 1) (base + n + v) k (omega arith)
+            ∙ part-longer work base k name (omega (arith, room))
             ∙ ap (λ z. z ++ (name ∷ [])) (i .listed)
             ∙ ap (λ z. those own (upto v) ++ (z ∷ [])) e
             ∙ sym (split ∙ ap (those own (upto v) ++_) (those-yes own v [] own-v));
         placed =
-            rw (part-set (set w (base + k) name) (base + n) n v k h, part-under w (base + n) n (base + k) name (omega arith))
-            (placed-more (part w (base + n) n) k (part-length w (base + n) n (omega (arith, room))) (i .placed) (place-own (sym name-is ∙ e)));
+            rw (part-set (set work (base + k) name) (base + n) n v k h, part-under work (base + n) n (base + k) name (omega arith))
+            (placed-more (part work (base + n) n) k (part-length work (base + n) n (omega (arith, room))) (i .placed) (place-own (sym name-is ∙ e)));
       })
 
   -- it is not: its name is below it, and has its place
   pub listing-other :
-      {w' : List ℕ} {k' : ℕ} → (getD w (names + v) 0 ≡ v → ⊥) → w' ≡ set w (base + n + v) (getD w (base + n + getD w (names + v) 0) 0) → k' ≡ k
-      → Listing w₀ w' names n base (v + 1) k'
+      {work' : List ℕ} {k' : ℕ} → (getD work (names + v) 0 ≡ v → ⊥) → work' ≡ set work (base + n + v) (getD work (base + n + getD work (names + v) 0) 0) → k' ≡ k
+      → Listing work₀ work' names n base (v + 1) k'
   listing-other ne ew ek =
       let a : ℕ = getD given v 0 in
       let below : a < v = let l = f .named .low v (omega (arith, long)) in lt-of-le-ne l (λ z. ne (name-is ∙ z)) in
       let no-v : own v ≡ false = ne-eqb a v (λ z. ne (name-is ∙ z)) in
-      let x : ℕ = getD w (base + n + getD w (names + v) 0) 0 in
+      let x : ℕ = getD work (base + n + getD work (names + v) 0) 0 in
       let place-is : x ≡ placeOf (groupList given) a =
-      ap (λ z. getD w (base + n + z) 0) name-is ∙ part-at w (base + n) n a (omega arith) ∙ i .placed a below ∙ ap (placeOf (groupList given)) (f .named .own v (omega (arith, long))) in
+      ap (λ z. getD work (base + n + z) 0) name-is ∙ part-at work (base + n) n a (omega arith) ∙ i .placed a below ∙ ap (placeOf (groupList given)) (f .named .own v (omega (arith, long))) in
       rw (ew, ek) (record {
-        kept = kept-then (i .kept) (kept-set w base (n + n) (base + n + v) x (omega arith) (omega arith));
+        kept = kept-then (i .kept) (kept-set work base (n + n) (base + n + v) x (omega arith) (omega arith));
         few = omega (arith, i .few);
         listed =
-            part-over w base k (base + n + v) x (omega (arith, i .few))
+            part-over work base k (base + n + v) x (omega (arith, i .few))
             ∙ i .listed
             ∙ sym (split ∙ ap (those own (upto v) ++_) (those-no own v [] no-v) ∙ append-nil (those own (upto v)));
         placed =
-            rw (part-set w (base + n) n v x h) (placed-more (part w (base + n) n) x (part-length w (base + n) n (omega (arith, room))) (i .placed) place-is);
+            rw (part-set work (base + n) n v x h) (placed-more (part work (base + n) n) x (part-length work (base + n) n (omega (arith, room))) (i .placed) place-is);
       })
 
 pub listing-all :
-    {w₀ w : List ℕ} {names n base v k : ℕ} → ListFit w₀ names n base → v ≡ n → Listing w₀ w names n base v k
-    → Kept w₀ w base (n + n) × ((k ≤ n) × ((part w base k ≡ groupList (part w₀ names n)) × (part w (base + n) n ≡ placesOf (part w₀ names n))))
+    {work₀ work : List ℕ} {names n base v k : ℕ} → ListFit work₀ names n base → v ≡ n → Listing work₀ work names n base v k
+    → Kept work₀ work base (n + n) × ((k ≤ n) × ((part work base k ≡ groupList (part work₀ names n)) × (part work (base + n) n ≡ placesOf (part work₀ names n))))
 unfolding groupList placesOf
-listing-all {w₀} {w} {names} {n} {base} {v} {k} f e i =
-    let given : List ℕ = part w₀ names n in
-    let long : length given ≡ n = part-length w₀ names n (f .names-there .fits) in (
+listing-all {work₀} {work} {names} {n} {base} {v} {k} f e i =
+    let given : List ℕ = part work₀ names n in
+    let long : length given ≡ n = part-length work₀ names n (f .names-there .fits) in (
       i .kept,
       (
         omega (arith, i .few),
         (
           i .listed ∙ ap (λ z. those (λ x. eqb (getD given x 0) x) (upto z)) (e ∙ sym long),
-          sym (subst (λ z. map (λ u. placeOf (groupList given) (getD given u 0)) (upto z) ≡ part w (base + n) n) (sym long)
-              (table-is (λ u. placeOf (groupList given) (getD given u 0)) (part w (base + n) n) n 0
-              (part-length w (base + n) n (omega (arith, f .room, i .kept .long))) (λ u h. sym (i .placed u (omega arith))))),
+          sym (subst (λ z. map (λ u. placeOf (groupList given) (getD given u 0)) (upto z) ≡ part work (base + n) n) (sym long)
+              (table-is (λ u. placeOf (groupList given) (getD given u 0)) (part work (base + n) n) n 0
+              (part-length work (base + n) n (omega (arith, f .room, i .kept .long))) (λ u h. sym (i .placed u (omega arith))))),
         ),
       ),
     )

@@ -4,27 +4,27 @@ use mathlib.Core.List.{List}
 use Prim.Native.Nat.{ℕ, _+_, _<_}
 use native.Mathlib.Omega.{arith}
 use lib.ListN.{length, getD, set}
-use Rattle.build_orders.proofs.Stamping.{Stamping, stamping-more}
-use Rattle.build_groups.specs.Fit.{RunFit}
 use Rattle.laws.proofs.Parts.{part-at, part-length}
+use Rattle.numbers.proofs.Stamping.{Stamping, stamping-more}
 use Rattle.numbers.proofs.Regions.{read-at}
+use Rattle.build_groups.specs.Fit.{RunFit}
 
 -- the vertex at hand, and where its turn reads and writes
-pub record Vertex (w : List ℕ) (at base n i : ℕ) : Type 0 where
-  pub vertex-in : at + i < length w
-  pub low : getD w (at + i) 0 < n
-  pub name-in : base + getD w (at + i) 0 < length w
+pub record Vertex (work : List ℕ) (at base n i : ℕ) : Type 0 where
+  pub vertex-in : at + i < length work
+  pub low : getD work (at + i) 0 < n
+  pub name-in : base + getD work (at + i) 0 < length work
 
 module _
-    {w₀ w : List ℕ} {at size name base n i : ℕ} (f : RunFit w₀ at size base n) (s : Stamping w₀ w w₀ base n name at i) (h : i < size)
+    {work₀ work : List ℕ} {at size name base n i : ℕ} (f : RunFit work₀ at size base n) (s : Stamping work₀ work work₀ base n name at i) (h : i < size)
   where
-    same : getD w (at + i) 0 ≡ getD w₀ (at + i) 0
-    same = read-at (f .run-there) (s .kept) i h ∙ sym (part-at w₀ at size i h)
+    same : getD work (at + i) 0 ≡ getD work₀ (at + i) 0
+    same = read-at (f .run-there) (s .kept) i h ∙ sym (part-at work₀ at size i h)
 
-    low : getD w₀ (at + i) 0 < n
-    low = rw (part-at w₀ at size i h) (f .run-low i (omega (arith, part-length w₀ at size (f .run-there .fits))))
+    low : getD work₀ (at + i) 0 < n
+    low = rw (part-at work₀ at size i h) (f .run-low i (omega (arith, part-length work₀ at size (f .run-there .fits))))
 
-    pub run-vertex : Vertex w at base n i
+    pub run-vertex : Vertex work at base n i
     run-vertex =
         let long = s .kept .long in
         record {
@@ -33,5 +33,5 @@ module _
           name-in = omega (arith, same, low, f .room);
         }
 
-    pub run-more : Stamping w₀ (set w (base + getD w (at + i) 0) name) w₀ base n name at (i + 1)
-    run-more = stamping-more (f .room) (omega (arith, f .run-there .fits)) s low (ap (λ z. set w (base + z) name) same)
+    pub run-more : Stamping work₀ (set work (base + getD work (at + i) 0) name) work₀ base n name at (i + 1)
+    run-more = stamping-more (f .room) (omega (arith, f .run-there .fits)) s low (ap (λ z. set work (base + z) name) same)

@@ -18,8 +18,9 @@ use Rattle.laws.proofs.Names.{name-smallest, name-low, name-own, names-long, na
 use Rattle.laws.proofs.Visited.{distinct}
 use Rattle.laws.proofs.Trees.{joined-trees}
 use Rattle.laws.proofs.TwoPasses.{name-is-least}
+use Rattle.laws.specs.Visits.{Lows}
 use Rattle.build_rows.proofs.Orders.{order-low}
-use Rattle.build_groups.specs.Trees.{Lows, leastOf, nameIn, treeNames}
+use Rattle.build_groups.specs.Trees.{leastOf, nameIn, treeNames}
 use Rattle.build_groups.specs.Fit.{Named}
 use Rattle.build_groups.proofs.Naming.{name-here, name-there}
 use Rattle.build_groups.proofs.Forests.{trees-are}

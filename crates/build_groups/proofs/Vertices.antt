@@ -4,32 +4,16 @@ use mathlib.Core.Bool.{true}
 use mathlib.Core.Path.{_≡_}
 use mathlib.Core.List.{List, []}
 use Prim.Native.Nat.{ℕ, _<_}
-use native.Mathlib.Omega.{arith}
-use Rattle.lineage.specs.Lists.{upto, among}
+use Rattle.lineage.specs.Lists.{among}
 use Rattle.lineage.specs.Graph.{Graph, Ends}
 use Rattle.lineage.specs.Labels.{Order, Forest, finished}
 use Rattle.laws.specs.Visits.{Visits}
 use Rattle.laws.specs.Passes.{TwoPasses}
-use Rattle.laws.proofs.Lists.{in-upto, upto-low, length-upto, among-reverse}
+use Rattle.laws.proofs.Lists.{in-upto, upto-low, among-reverse}
 use Rattle.laws.proofs.Edges.{edge-turned}
-use Rattle.laws.specs.Rising.{Distinct}
-use Rattle.laws.proofs.Rising.{rises-upto, rises-distinct, pigeonhole}
 use Rattle.laws.proofs.Visited.{held, listed, distinct, from-todo}
 use Rattle.laws.proofs.Closed.{leads-keeps}
-use Rattle.build_rows.proofs.Orders.{order-low}
-
--- all numbers below n, and no other, each once
-pub order-from : (n : ℕ) (xs : List ℕ) → Distinct xs → ((v : ℕ) → among v xs ≡ true → v < n) → ((v : ℕ) → v < n → among v xs ≡ true) → Order n xs
-order-from n xs once low all = record {
-  long =
-      omega (
-        arith,
-        length-upto n,
-        pigeonhole xs (upto n) once (λ v i. in-upto n v (low v i)),
-        pigeonhole (upto n) xs (rises-distinct (upto n) (rises-upto n)) (λ v i. all v (upto-low n v i)),
-      );
-  all = all;
-}
+use Rattle.build_rows.proofs.Orders.{order-low, order-from}
 
 module _
     (n : ℕ) {next : ℕ → List ℕ} {todo : List ℕ} {f : Forest} (r : Visits next todo [] f)

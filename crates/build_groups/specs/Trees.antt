@@ -1,17 +1,10 @@
 -- A traversal told by two lists: the vertices as they are finished, and for each of them 1 + how many were finished before it was entered. Its trees stand side by
 -- side in the first list, each with its root last, and the root's number in the second list tells where its tree begins.
 use mathlib.Core.Bool.{true, false}
-use mathlib.Core.Path.{_≡_}
 use mathlib.Core.List.{List, [], _∷_, map}
-use Prim.Native.Nat.{ℕ, zero, suc, _-_, _<_}
+use Prim.Native.Nat.{ℕ, zero, suc, _-_}
 use lib.ListN.{length, getD}
 use Rattle.lineage.specs.Lists.{upto, among, least, part}
-use Rattle.lineage.specs.Labels.{Forest, finished}
-use Rattle.laws.specs.Visits.{before}
-
--- the list is the second list of a traversal
-abbrev pub Lows : Forest → List ℕ → Type 0
-Lows f low = (r : ℕ) → r < length (finished f) → getD low r 0 ≡ suc (length (before (getD (finished f) r 0) f))
 
 -- going left from q, past one tree after another; f bounds the steps, ts are the trees to the right of q
 abbrev pub treesFrom : List ℕ → List ℕ → ℕ → ℕ → List (List ℕ) → List (List ℕ)

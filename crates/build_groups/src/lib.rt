@@ -1,91 +1,84 @@
 // Names, group list and places from a traversal whose trees are the groups.
 ghost use mathlib.Core.Path.{_≡_};
-ghost use Prim.Native.Nat.{_+_, _≤_, _<_, min};
+ghost use Prim.Native.Nat.{_+_, _≤_, _<_};
 ghost use lib.ListN.{length};
 ghost use Rattle.lineage.specs.Lists.{part};
 ghost use Rattle.lineage.specs.Graph.{groupList};
 ghost use Rattle.numbers.specs.Regions.{Kept};
-ghost use Rattle.build_orders.specs.Stamped.{Stamped};
+ghost use Rattle.numbers.specs.Stamped.{Stamped};
 ghost use Rattle.build_groups.specs.Trees.{leastOf, treeNames};
 ghost use Rattle.build_groups.specs.Fit.{RunFit, NamesFit, ListFit};
 ghost use Rattle.build_groups.specs.Places.{placesOf};
 
-// The lesser of two numbers.
-pub fn lesser(a: u32, b: u32) -> u32
-    ensures { λ r. ⌜ r ≡ min a b ⌝ }
-{
-    if a <= b { a } else { b }
-}
-
 // The least of the size words from at on.
-fn least_word(w: &[u32], at: usize, size: usize) -> u32
+fn least_word(work: &[u32], at: usize, size: usize) -> u32
     requires { ⌜ 0 < size ⌝ }
-    requires { ⌜ at + size ≤ length (now w) ⌝ }
-    ensures { λ r. ⌜ r ≡ leastOf (part (now (w .entry)) at size) ⌝ }
+    requires { ⌜ at + size ≤ length (now work) ⌝ }
+    ensures { λ r. ⌜ r ≡ leastOf (part (now (work .entry)) at size) ⌝ }
 {
-    let mut least = w[at];
+    let mut least = work[at];
     let mut i = 0;
     while i < size {
-        least = lesser(least, w[at + i]);
+        least = numbers::lesser_word(least, work[at + i]);
         i += 1;
     }
     least
 }
 
 // Names each vertex of the run of size words from at on.
-fn name_run(w: &mut [u32], at: usize, size: usize, name: u32, base: usize, n: usize)
-    requires { ⌜ RunFit (now w) at size base n ⌝ }
-    ensures { λ _. ⌜ Kept (now (w .entry)) (now (w .exit)) base n ⌝ }
-    ensures { λ _. ⌜ Stamped name (part (now (w .entry)) at size) (part (now (w .entry)) base n) (part (now (w .exit)) base n) ⌝ }
+fn name_run(work: &mut [u32], at: usize, size: usize, name: u32, base: usize, n: usize)
+    requires { ⌜ RunFit (now work) at size base n ⌝ }
+    ensures { λ _. ⌜ Kept (now (work .entry)) (now (work .exit)) base n ⌝ }
+    ensures { λ _. ⌜ Stamped name (part (now (work .entry)) at size) (part (now (work .entry)) base n) (part (now (work .exit)) base n) ⌝ }
 {
     let mut i = 0;
     while i < size {
-        let v = w[at + i] as usize;
-        w[base + v] = name;
+        let v = work[at + i] as usize;
+        work[base + v] = name;
         i += 1;
     }
 }
 
 // For each vertex the least vertex of its tree. The last tree ends with its root, and the root's number tells where the tree begins; what stands to the left of it is
 // the trees before.
-pub fn names(w: &mut [u32], out: usize, low: usize, n: usize, base: usize)
-    requires { ⌜ NamesFit (now w) out low n base ⌝ }
-    ensures { λ _. ⌜ Kept (now (w .entry)) (now (w .exit)) base n ⌝ }
-    ensures { λ _. ⌜ part (now (w .exit)) base n ≡ treeNames (part (now (w .entry)) out n) (part (now (w .entry)) low n) ⌝ }
+pub fn names(work: &mut [u32], out: usize, low: usize, n: usize, base: usize)
+    requires { ⌜ NamesFit (now work) out low n base ⌝ }
+    ensures { λ _. ⌜ Kept (now (work .entry)) (now (work .exit)) base n ⌝ }
+    ensures { λ _. ⌜ part (now (work .exit)) base n ≡ treeNames (part (now (work .entry)) out n) (part (now (work .entry)) low n) ⌝ }
 {
     let mut q = n;
     while 0 < q {
         let root = q - 1;
-        let begin = w[low + root] as usize - 1;
+        let begin = work[low + root] as usize - 1;
         let at = out + begin;
         let size = q - begin;
-        let name = least_word(w, at, size);
-        name_run(w, at, size, name, base, n);
+        let name = least_word(work, at, size);
+        name_run(work, at, size, name, base, n);
         q = begin;
     }
 }
 
 // All names, rising, in the first n words of the window; in the next n of each vertex the place of its group. Returns how many names there are. A name is met before
 // the other vertices of its group, so its place is known by then.
-pub fn group_list(w: &mut [u32], names: usize, n: usize, base: usize) -> usize
-    requires { ⌜ ListFit (now w) names n base ⌝ }
-    ensures { λ _. ⌜ Kept (now (w .entry)) (now (w .exit)) base (n + n) ⌝ }
+pub fn group_list(work: &mut [u32], names: usize, n: usize, base: usize) -> usize
+    requires { ⌜ ListFit (now work) names n base ⌝ }
+    ensures { λ _. ⌜ Kept (now (work .entry)) (now (work .exit)) base (n + n) ⌝ }
     ensures { λ r. ⌜ r ≤ n ⌝ }
-    ensures { λ r. ⌜ part (now (w .exit)) base r ≡ groupList (part (now (w .entry)) names n) ⌝ }
-    ensures { λ _. ⌜ part (now (w .exit)) (base + n) n ≡ placesOf (part (now (w .entry)) names n) ⌝ }
+    ensures { λ r. ⌜ part (now (work .exit)) base r ≡ groupList (part (now (work .entry)) names n) ⌝ }
+    ensures { λ _. ⌜ part (now (work .exit)) (base + n) n ≡ placesOf (part (now (work .entry)) names n) ⌝ }
 {
     let places = base + n;
     let mut k = 0;
     let mut v = 0;
     while v < n {
-        let name = w[names + v];
+        let name = work[names + v];
         let own = name as usize;
         if own == v {
-            w[base + k] = name;
-            w[places + v] = k as u32;
+            work[base + k] = name;
+            work[places + v] = k as u32;
             k += 1;
         } else {
-            w[places + v] = w[places + own];
+            work[places + v] = work[places + own];
         }
         v += 1;
     }

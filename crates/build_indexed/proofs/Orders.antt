@@ -8,7 +8,8 @@ use lib.ListN.{length}
 use Rattle.lineage.specs.Lists.{part}
 use Rattle.lineage.specs.Numbers.{written}
 use Rattle.lineage.specs.Labels.{Labelling}
-use Rattle.lineage.specs.Stored.{labelNumbers}
+use Rattle.lineage.specs.Stored.{labelNumbers, mostLabellings}
+use Rattle.numbers.specs.Bounds.{vertexBound}
 use Rattle.numbers.specs.Put.{put}
 use Rattle.build_orders.proofs.Permutations.{order-room}
 use Rattle.build_labelled.specs.Window.{byRankAt, windowLabelling, Labelled}
@@ -18,11 +19,11 @@ use Rattle.build_writing.specs.Words.{labellingIn}
 use Rattle.build_writing.specs.Fit.{LabellingFit}
 use Rattle.build_indexed.specs.Memory.{childrenFrom, labelsFrom, labellingBlock, Ready, OrderLabelled}
 
-module _ {l : Layout} {e : ℕ} {orders w : List ℕ} (fit : Ready l e orders w) where
+module _ {l : Layout} {e : ℕ} {orders work : List ℕ} (fit : Ready l e orders work) where
   -- order j lies in the order list
-  pub order-small : (j : ℕ) → j < l .d → j * l .n ≤ 1000000
+  pub order-small : (j : ℕ) → j < l .d → j * l .n ≤ mostLabellings * vertexBound
   order-small j h =
-      let few : j ≤ 5 = omega (arith, fit .most) in
+      let few : j ≤ mostLabellings = omega (arith, fit .most) in
       mul-le-mul few (fit .vertices)
 
   -- the regions that code has reckoned
@@ -30,20 +31,20 @@ module _ {l : Layout} {e : ℕ} {orders w : List ℕ} (fit : Ready l e orders w)
       {children base byRank : ℕ} (children-is : children ≡ childrenFrom (l .n) (l .k) e) (base-is : base ≡ labelsFrom (l .n) (l .k) e)
       (ranks-is : byRank ≡ byRankAt (labelsFrom (l .n) (l .k) e) (l .n) (l .k) (l .c))
     where
-      pub label-fits : (j : ℕ) → j < l .d → LabelFit orders w (j * l .n) (l .n) (l .k) (l .c) 0 (2 * l .n) (3 * l .n) children base
+      pub label-fits : (j : ℕ) → j < l .d → LabelFit orders work (j * l .n) (l .n) (l .k) (l .c) 0 (2 * l .n) (3 * l .n) children base
       label-fits j h =
           rw (children-is, base-is)
           (record { inside = omega (arith, order-room j (l .d) (l .n) h, fit .whole); order = fit .permuted j h; groups = fit .stored .fit })
 
       module _
-          {w' : List ℕ} (j : ℕ) (made : Labelled (part orders (j * l .n) (l .n)) w w' (l .n) (l .k) (l .c) 0 children base)
+          {work' : List ℕ} (j : ℕ) (made : Labelled (part orders (j * l .n) (l .n)) work work' (l .n) (l .k) (l .c) 0 children base)
         where
-          pub order-labelled : OrderLabelled l e orders w w' j
+          pub order-labelled : OrderLabelled l e orders work work' j
           order-labelled = rw (children-is, base-is) at made
 
           pub labelling-fits : (out' : List ℕ) (at : ℕ)
               → at + l .width * (4 * l .k) ≤ length out'
-              → LabellingFit out' at (l .width) w' (base + 2 * l .k) (base + l .k) base byRank (l .k)
+              → LabellingFit out' at (l .width) work' (base + 2 * l .k) (base + l .k) base byRank (l .k)
           labelling-fits out' at h =
               let room = fit .stored .fit .vertices .room in
               let long = order-labelled .kept .long in
@@ -57,11 +58,11 @@ module _ {l : Layout} {e : ℕ} {orders w : List ℕ} (fit : Ready l e orders w)
                 few = omega (arith, fit .vertices, fit .stored .few-groups);
               }
 
-          labelling-there : labellingIn w' (base + 2 * l .k) (base + l .k) base byRank (l .k) ≡ windowLabelling w' (labelsFrom (l .n) (l .k) e) (l .n) (l .k) (l .c)
+          labelling-there : labellingIn work' (base + 2 * l .k) (base + l .k) base byRank (l .k) ≡ windowLabelling work' (labelsFrom (l .n) (l .k) e) (l .n) (l .k) (l .c)
           labelling-there = rw (base-is, ranks-is)
 
           pub order-written : (out' r : List ℕ) (at : ℕ)
-              → r ≡ put out' at (written (l .width) (labelNumbers (l .k) (labellingIn w' (base + 2 * l .k) (base + l .k) base byRank (l .k))))
-              → r ≡ put out' at (written (l .width) (labellingBlock l e orders w j))
+              → r ≡ put out' at (written (l .width) (labelNumbers (l .k) (labellingIn work' (base + 2 * l .k) (base + l .k) base byRank (l .k))))
+              → r ≡ put out' at (written (l .width) (labellingBlock l e orders work j))
           order-written out' r at h =
               h ∙ ap (λ (z : Labelling). put out' at (written (l .width) (labelNumbers (l .k) z))) (labelling-there ∙ order-labelled .made)

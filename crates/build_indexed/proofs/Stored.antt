@@ -23,7 +23,7 @@ use Rattle.build_labelled.specs.Window.{childrenBy}
 use Rattle.build_labelled.proofs.Stored.{children-are, stored-fits}
 use Rattle.build_indexed.specs.Memory.{childrenFrom, condensedIn, GroupsStored, CondensedFit, CondensedFound}
 
-module _ {G : Graph} {w₀ w₁ : List ℕ} {k : ℕ} (fit : CondensedFit G w₀) (found : GroupsFound G w₀ w₁ k) where
+module _ {G : Graph} {work₀ work₁ : List ℕ} {k : ℕ} (fit : CondensedFit G work₀) (found : GroupsFound G work₀ work₁ k) where
   abbrev n : ℕ
   n = G .n
 
@@ -42,41 +42,41 @@ module _ {G : Graph} {w₀ w₁ : List ℕ} {k : ℕ} (fit : CondensedFit G w₀
   all : length groups ≡ k
   all = sym (found .count)
 
-  room : workNeeded G ≤ length w₁
+  room : workNeeded G ≤ length work₁
   room = omega (arith, fit .room, found .kept .long)
 
   -- each vertex has the place of its group, below k
-  places : (v : ℕ) → v < n → getD (part w₁ (2 * n) n) v 0 ≡ placeOf groups (getD names v 0)
+  places : (v : ℕ) → v < n → getD (part work₁ (2 * n) n) v 0 ≡ placeOf groups (getD names v 0)
   places v h = ap (λ (z : List ℕ). getD z v 0) (found .places) ∙ place-at names v (omega (arith, names-long G (fit .ends)))
 
-  places-low : (v : ℕ) → v < n → getD (part w₁ (2 * n) n) v 0 < k
+  places-low : (v : ℕ) → v < n → getD (part work₁ (2 * n) n) v 0 < k
   places-low v h =
       omega (arith, places v h, place-low (groups-sound G (fit .ends)) v (omega (arith, names-long G (fit .ends))), children-long G (fit .ends), all)
 
-  pub children-fit : ChildrenFit G w₁ (2 * n) k (3 * n)
+  pub children-fit : ChildrenFit G work₁ (2 * n) k (3 * n)
   children-fit = record {
     ends = fit .ends;
     place-there = record { fits = omega (arith, room); apart = under (omega arith) };
-    place-low = λ v h. places-low v (omega (arith, part-length w₁ (2 * n) n (omega (arith, room))));
+    place-low = λ v h. places-low v (omega (arith, part-length work₁ (2 * n) n (omega (arith, room))));
     room = omega (arith, room, found .few);
     few-edges = omega (arith, fit .edges);
     few-groups = omega (arith, fit .vertices, found .few);
   }
 
-  module _ {w₂ : List ℕ} {c : ℕ} (laid : ChildrenFound G w₁ w₂ (2 * n) k (3 * n) c) where
-    stored : ChildrenStored children w₂ (3 * n) k e c
+  module _ {work₂ : List ℕ} {c : ℕ} (laid : ChildrenFound G work₁ work₂ (2 * n) k (3 * n) c) where
+    stored : ChildrenStored children work₂ (3 * n) k e c
     stored = children-stored children-fit laid all places
 
-    names-are : part w₂ 0 n ≡ names
+    names-are : part work₂ 0 n ≡ names
     names-are = laid .kept .below 0 n (omega arith) ∙ found .names
 
-    groups-are : part w₂ n k ≡ groups
+    groups-are : part work₂ n k ≡ groups
     groups-are = laid .kept .below n k (omega (arith, found .few)) ∙ found .groups
 
-    children-same : childrenBy w₂ (childrenFrom n k e) k c ≡ children
+    children-same : childrenBy work₂ (childrenFrom n k e) k c ≡ children
     children-same = children-are G (fit .ends) all stored
 
-    groups-stored : GroupsStored w₂ n k c e
+    groups-stored : GroupsStored work₂ n k c e
     groups-stored = record {
       few-groups = found .few;
       few-children = laid .few;
@@ -91,11 +91,11 @@ module _ {G : Graph} {w₀ w₁ : List ℕ} {k : ℕ} (fit : CondensedFit G w₀
       values = stored .values ∙ ap joined (sym children-same);
     }
 
-    condensed-is : condensedIn w₂ n k c e ≡ condense G
+    condensed-is : condensedIn work₂ n k c e ≡ condense G
     unfolding condense
     condensed-is = rw (names-are, groups-are, children-same)
 
-    pub condensed-found : CondensedFound G w₀ w₂ k c
+    pub condensed-found : CondensedFound G work₀ work₂ k c
     condensed-found = record {
       kept =
           kept-then (kept-wider 0 (workNeeded G) (omega arith) (omega arith) (found .kept))

@@ -20,7 +20,7 @@ use Rattle.laws.proofs.Every.{every-mapped}
 use Rattle.numbers.specs.Put.{put}
 use Rattle.numbers.specs.Regions.{Kept}
 use Rattle.build_labels.specs.Fit.{UpFit}
-use Rattle.build_labelled.specs.Window.{byRankAt, levelsAt, windowSize, groupsBy, childrenBy}
+use Rattle.build_labelled.specs.Window.{byRankAt, levelsAt, labelsWindow, groupsBy, childrenBy}
 use Rattle.build_labelled.specs.Fit.{LabelFit}
 use Rattle.build_labelled.proofs.Again.{levels-fit, levels-beside}
 use Rattle.stored_header.specs.declared.Layout.{Layout}
@@ -36,29 +36,29 @@ use Rattle.build_indexed.specs.Memory.{childrenFrom, labelsFrom, condens
 use Rattle.build_indexed.proofs.Orders.{label-fits}
 use Rattle.build_indexed.proofs.Turns.{total-at}
 
-module _ {l : Layout} {e : ℕ} {orders w₀ : List ℕ} (fit : Ready l e orders w₀) where
+module _ {l : Layout} {e : ℕ} {orders work₀ : List ℕ} (fit : Ready l e orders work₀) where
   abbrev groups : List ℕ
-  groups = groupsBy w₀ 0 (l .n)
+  groups = groupsBy work₀ 0 (l .n)
 
   abbrev children : List (List ℕ)
-  children = childrenBy w₀ (childrenFrom (l .n) (l .k) e) (l .k) (l .c)
+  children = childrenBy work₀ (childrenFrom (l .n) (l .k) e) (l .k) (l .c)
 
   -- the index, its labellings one by one
   abbrev I : Index
   I = record {
-    names = part w₀ 0 (l .n);
+    names = part work₀ 0 (l .n);
     groups = groups;
     levels = levelsOf children;
     children = children;
-    labels = map (labellingUnder l e orders w₀) (upto (l .d));
+    labels = map (labellingUnder l e orders work₀) (upto (l .d));
   }
 
-  index-is : indexBy (condensedIn w₀ (l .n) (l .k) (l .c) e) (map (orderAt (l .n) orders) (upto (l .d))) ≡ I
+  index-is : indexBy (condensedIn work₀ (l .n) (l .k) (l .c) e) (map (orderAt (l .n) orders) (upto (l .d))) ≡ I
   unfolding indexBy
   index-is = rw (fit .stored .groups, map-map (labelling groups children) (orderAt (l .n) orders) (upto (l .d)))
 
-  names-long : length (part w₀ 0 (l .n)) ≡ l .n
-  names-long = part-length w₀ 0 (l .n) (omega (arith, fit .stored .fit .vertices .room))
+  names-long : length (part work₀ 0 (l .n)) ≡ l .n
+  names-long = part-length work₀ 0 (l .n) (omega (arith, fit .stored .fit .vertices .room))
 
   all : length groups ≡ l .k
   all = fit .stored .fit .vertices .all
@@ -67,7 +67,7 @@ module _ {l : Layout} {e : ℕ} {orders w₀ : List ℕ} (fit : Ready l e orders
   children-long = fit .stored .fit .sound .children-long
 
   -- every group has its level, its children and its labels
-  full : (j : ℕ) → j < l .d → Full (length groups) (labellingUnder l e orders w₀ j)
+  full : (j : ℕ) → j < l .d → Full (length groups) (labellingUnder l e orders work₀ j)
   full j h =
       let S = labelling-sound (fit .stored .fit .sound) (orderAt (l .n) orders j) (rw names-long (fit .permuted j h)) in
       record { s = S .s-long ∙ children-long; m = S .m-long ∙ children-long; e = S .e-long ∙ children-long; byRank = S .at-long ∙ children-long }
@@ -76,21 +76,21 @@ module _ {l : Layout} {e : ℕ} {orders w₀ : List ℕ} (fit : Ready l e orders
   whole = record {
     levels = levels-long children ∙ children-long;
     children = children-long;
-    labels = every-mapped (Full (length groups)) (labellingUnder l e orders w₀) (upto (l .d)) (λ j i. full j (upto-low (l .d) j i));
+    labels = every-mapped (Full (length groups)) (labellingUnder l e orders work₀) (upto (l .d)) (λ j i. full j (upto-low (l .d) j i));
   }
 
   counts-are : countsOf I ≡ counts (l .n) (l .k) (l .c) (l .d)
   counts-are =
       let entries : length (joined children) ≡ l .c =
-      sym (ap length (fit .stored .values)) ∙ part-length w₀ (childrenFrom (l .n) (l .k) e + l .k + 1) (l .c) (omega (arith, fit .stored .fit .children-there .values .fits)) in
-      rw (names-long, all, entries, table-long (labellingUnder l e orders w₀) (l .d))
+      sym (ap length (fit .stored .values)) ∙ part-length work₀ (childrenFrom (l .n) (l .k) e + l .k + 1) (l .c) (omega (arith, fit .stored .fit .children-there .values .fits)) in
+      rw (names-long, all, entries, table-long (labellingUnder l e orders work₀) (l .d))
 
   -- its labels
-  section-is : joined (map (labellingBlock l e orders w₀) (upto (l .d))) ≡ labelSection I
+  section-is : joined (map (labellingBlock l e orders work₀) (upto (l .d))) ≡ labelSection I
   section-is =
       ap joined
-      (sym (map-map (labelNumbers (l .k)) (labellingUnder l e orders w₀) (upto (l .d)))
-      ∙ ap (λ (k : ℕ). map (labelNumbers k) (map (labellingUnder l e orders w₀) (upto (l .d)))) (sym all))
+      (sym (map-map (labelNumbers (l .k)) (labellingUnder l e orders work₀) (upto (l .d)))
+      ∙ ap (λ (k : ℕ). map (labelNumbers k) (map (labellingUnder l e orders work₀) (upto (l .d)))) (sym all))
 
   module _ (form : ℕ) where
     abbrev F : Form
@@ -115,7 +115,7 @@ module _ {l : Layout} {e : ℕ} {orders w₀ : List ℕ} (fit : Ready l e orders
     total-is : lengthOf F I ≡ l .total
     total-is = ap (λ (a : Counts). getD (offsets (l .width) (a .n) (a .k) (a .c) (a .d)) 6 0) counts-are ∙ sym (ap (λ (z : Layout). z .total) (fit .laid))
 
-    pub index-total : lengthOf F (indexBy (condensedIn w₀ (l .n) (l .k) (l .c) e) (map (orderAt (l .n) orders) (upto (l .d)))) ≡ l .total
+    pub index-total : lengthOf F (indexBy (condensedIn work₀ (l .n) (l .k) (l .c) e) (map (orderAt (l .n) orders) (upto (l .d)))) ≡ l .total
     index-total = ap (lengthOf F) index-is ∙ total-is
 
     labels-is : l .labels ≡ getD (offsets (l .width) (countsOf I .n) (countsOf I .k) (countsOf I .c) (countsOf I .d)) 5 0
@@ -124,25 +124,25 @@ module _ {l : Layout} {e : ℕ} {orders w₀ : List ℕ} (fit : Ready l e orders
   -- the regions that code has reckoned, and the last labelling in its window
   module _
       {children-at base : ℕ} (children-is : children-at ≡ childrenFrom (l .n) (l .k) e) (base-is : base ≡ labelsFrom (l .n) (l .k) e)
-      {w₁ : List ℕ} (made : OrderLabelled l e orders w₀ w₁ (l .d - 1))
+      {work₁ : List ℕ} (made : OrderLabelled l e orders work₀ work₁ (l .d - 1))
     where
-      last-fits : LabelFit orders w₀ ((l .d - 1) * l .n) (l .n) (l .k) (l .c) 0 (2 * l .n) (3 * l .n) (childrenFrom (l .n) (l .k) e) (labelsFrom (l .n) (l .k) e)
+      last-fits : LabelFit orders work₀ ((l .d - 1) * l .n) (l .n) (l .k) (l .c) 0 (2 * l .n) (3 * l .n) (childrenFrom (l .n) (l .k) e) (labelsFrom (l .n) (l .k) e)
       last-fits = label-fits fit refl refl refl (l .d - 1) (omega (arith, fit .least))
 
-      pub levels-there : UpFit w₁ (byRankAt base (l .n) (l .k) (l .c)) (l .k) children-at (children-at + l .k + 1) (l .c) (levelsAt base (l .k))
+      pub levels-there : UpFit work₁ (byRankAt base (l .n) (l .k) (l .c)) (l .k) children-at (children-at + l .k + 1) (l .c) (levelsAt base (l .k))
       levels-there = rw (children-is, base-is) (levels-fit last-fits made)
 
       module _
-          {w₂ : List ℕ} (K : Kept w₁ w₂ (levelsAt base (l .k)) (l .k))
-          (levels : part w₂ (levelsAt base (l .k)) (l .k) ≡ levelsOf (childrenBy w₁ children-at (l .k) (l .c)))
+          {work₂ : List ℕ} (K : Kept work₁ work₂ (levelsAt base (l .k)) (l .k))
+          (levels : part work₂ (levelsAt base (l .k)) (l .k) ≡ levelsOf (childrenBy work₁ children-at (l .k) (l .c)))
         where
-          beside : OrderLabelled l e orders w₀ w₂ (l .d - 1) × (part w₂ (levelsAt (labelsFrom (l .n) (l .k) e) (l .k)) (l .k) ≡ levelsOf children)
+          beside : OrderLabelled l e orders work₀ work₂ (l .d - 1) × (part work₂ (levelsAt (labelsFrom (l .n) (l .k) e) (l .k)) (l .k) ≡ levelsOf children)
           beside = levels-beside last-fits made (rw base-is at K) (rw (base-is, children-is) at levels)
 
-          pub index-kept : Kept w₀ w₂ (labelsFrom (l .n) (l .k) e) (windowSize (l .n) (l .k) (l .c))
+          pub index-kept : Kept work₀ work₂ (labelsFrom (l .n) (l .k) e) (labelsWindow (l .n) (l .k) (l .c))
           index-kept = beside .0 .kept
 
-          pub groups-fit : (form : ℕ) {out₁ : List ℕ} → form < 2 ^ 32 → l .total ≤ length out₁ → GroupsFit out₁ form l w₂ 0 (l .n) (base + 3 * l .k) children-at (children-at + l .k + 1)
+          pub groups-fit : (form : ℕ) {out₁ : List ℕ} → form < 2 ^ 32 → l .total ≤ length out₁ → GroupsFit out₁ form l work₂ 0 (l .n) (base + 3 * l .k) children-at (children-at + l .k + 1)
           groups-fit form small long =
               let room = fit .stored .fit .vertices .room in
               let same = index-kept .long in
@@ -159,7 +159,7 @@ module _ {l : Layout} {e : ℕ} {orders w₀ : List ℕ} (fit : Ready l e orders
               }
 
           -- the five sections before the labels, from their regions
-          sections-are : groupSections w₂ l 0 (l .n) (base + 3 * l .k) children-at (children-at + l .k + 1) ≡ firstSections I
+          sections-are : groupSections work₂ l 0 (l .n) (base + 3 * l .k) children-at (children-at + l .k + 1) ≡ firstSections I
           sections-are =
               let names = index-kept .below 0 (l .n) (omega arith) in
               let list = index-kept .below (l .n) (l .k) (omega (arith, fit .stored .few-groups)) ∙ fit .stored .groups in
@@ -169,10 +169,10 @@ module _ {l : Layout} {e : ℕ} {orders w₀ : List ℕ} (fit : Ready l e orders
 
           pub index-written : (form : ℕ) (out₀ out₁ out₂ : List ℕ)
               → l .total ≤ length out₀
-              → out₁ ≡ put out₀ (l .labels) (written (l .width) (joined (map (labellingBlock l e orders w₀) (upto (l .d)))))
+              → out₁ ≡ put out₀ (l .labels) (written (l .width) (joined (map (labellingBlock l e orders work₀) (upto (l .d)))))
               → out₂
-              ≡ put out₁ 0 (written 4 (headerOf form l) ++ joined (map (written (l .width)) (groupSections w₂ l 0 (l .n) (base + 3 * l .k) children-at (children-at + l .k + 1))))
-              → out₂ ≡ encode (writtenAs form (l .width)) (indexBy (condensedIn w₀ (l .n) (l .k) (l .c) e) (map (orderAt (l .n) orders) (upto (l .d)))) ++ drop (l .total) out₀
+              ≡ put out₁ 0 (written 4 (headerOf form l) ++ joined (map (written (l .width)) (groupSections work₂ l 0 (l .n) (base + 3 * l .k) children-at (children-at + l .k + 1))))
+              → out₂ ≡ encode (writtenAs form (l .width)) (indexBy (condensedIn work₀ (l .n) (l .k) (l .c) e) (map (orderAt (l .n) orders) (upto (l .d)))) ++ drop (l .total) out₀
           index-written form out₀ out₁ out₂ room e₁ e₂ =
               e₂
               ∙ ap₂ (λ (z bytes : List ℕ). put z 0 bytes)

@@ -14,8 +14,9 @@ use Rattle.lineage.specs.Lists.{joined, part}
 use Rattle.lineage.specs.Numbers.{Width}
 use Rattle.lineage.specs.Graph.{Graph, Ends, Condensed, condense, groupList}
 use Rattle.lineage.specs.Labels.{Order, Labelling, labelling}
-use Rattle.lineage.specs.Stored.{startsFrom, labelNumbers}
+use Rattle.lineage.specs.Stored.{startsFrom, labelNumbers, mostLabellings}
 use Rattle.lineage.specs.Calls.{orderAt, workNeeded}
+use Rattle.numbers.specs.Bounds.{vertexBound, entryBound}
 use Rattle.numbers.specs.Regions.{Kept}
 use Rattle.build_children.specs.Window.{childrenAt}
 use Rattle.build_labelled.specs.Window.{groupsBy, childrenBy, Labelled}
@@ -30,53 +31,53 @@ childrenFrom n k e = childrenAt (3 * n) k e
 abbrev pub labelsFrom : ℕ → ℕ → ℕ → ℕ
 labelsFrom n k e = childrenFrom n k e + k + 1 + e
 
--- names, group list and children as they lie in w
+-- names, group list and children as they lie in work
 abbrev pub condensedIn : List ℕ → (n k c e : ℕ) → Condensed
-condensedIn w n k c e = record { names = part w 0 n; groups = part w n k; children = childrenBy w (childrenFrom n k e) k c }
+condensedIn work n k c e = record { names = part work 0 n; groups = part work n k; children = childrenBy work (childrenFrom n k e) k c }
 
--- groups and children lie in w, to be labelled and to be written
-pub record GroupsStored (w : List ℕ) (n k c e : ℕ) : Type 0 where
+-- groups and children lie in work, to be labelled and to be written
+pub record GroupsStored (work : List ℕ) (n k c e : ℕ) : Type 0 where
   pub few-groups : k ≤ n
   pub few-children : c ≤ e
-  pub fit : GroupsFit w n k c 0 (2 * n) (3 * n) (childrenFrom n k e) (labelsFrom n k e)
-  pub groups : part w n k ≡ groupList (part w 0 n)
-  pub starts : part w (childrenFrom n k e) (k + 1) ≡ startsFrom 0 (childrenBy w (childrenFrom n k e) k c)
-  pub values : part w (childrenFrom n k e + k + 1) c ≡ joined (childrenBy w (childrenFrom n k e) k c)
+  pub fit : GroupsFit work n k c 0 (2 * n) (3 * n) (childrenFrom n k e) (labelsFrom n k e)
+  pub groups : part work n k ≡ groupList (part work 0 n)
+  pub starts : part work (childrenFrom n k e) (k + 1) ≡ startsFrom 0 (childrenBy work (childrenFrom n k e) k c)
+  pub values : part work (childrenFrom n k e + k + 1) c ≡ joined (childrenBy work (childrenFrom n k e) k c)
 
 -- edges between vertices, within the bounds of every form, and the needed words
-pub record CondensedFit (G : Graph) (w : List ℕ) : Type 0 where
+pub record CondensedFit (G : Graph) (work : List ℕ) : Type 0 where
   pub ends : Ends G
-  pub vertices : G .n ≤ 200000
-  pub edges : length (G .sources) ≤ 1000000
-  pub room : workNeeded G ≤ length w
+  pub vertices : G .n ≤ vertexBound
+  pub edges : length (G .sources) ≤ entryBound
+  pub room : workNeeded G ≤ length work
 
 -- what is found: k groups and c child entries, in the needed words
-pub record CondensedFound (G : Graph) (w w' : List ℕ) (k c : ℕ) : Type 0 where
-  pub kept : Kept w w' 0 (workNeeded G)
-  pub stored : GroupsStored w' (G .n) k c (length (G .sources))
-  pub is : condensedIn w' (G .n) k c (length (G .sources)) ≡ condense G
+pub record CondensedFound (G : Graph) (work work' : List ℕ) (k c : ℕ) : Type 0 where
+  pub kept : Kept work work' 0 (workNeeded G)
+  pub stored : GroupsStored work' (G .n) k c (length (G .sources))
+  pub is : condensedIn work' (G .n) k c (length (G .sources)) ≡ condense G
 
--- a layout within the bounds of every form, orders of its n vertices, and its groups in w
-pub record Ready (l : Layout) (e : ℕ) (orders w : List ℕ) : Type 0 where
+-- a layout within the bounds of every form, orders of its n vertices, and its groups in work
+pub record Ready (l : Layout) (e : ℕ) (orders work : List ℕ) : Type 0 where
   pub width : Width (l .width)
   pub laid : l ≡ layoutBy (l .width) (counts (l .n) (l .k) (l .c) (l .d))
-  pub vertices : l .n ≤ 200000
-  pub edges : e ≤ 1000000
+  pub vertices : l .n ≤ vertexBound
+  pub edges : e ≤ entryBound
   pub least : 1 ≤ l .d
-  pub most : l .d ≤ 5
+  pub most : l .d ≤ mostLabellings
   pub whole : length orders ≡ l .d * l .n
   pub permuted : (j : ℕ) → j < l .d → Order (l .n) (orderAt (l .n) orders j)
-  pub stored : GroupsStored w (l .n) (l .k) (l .c) e
+  pub stored : GroupsStored work (l .n) (l .k) (l .c) e
 
--- the labelling under order j of the groups that lie in w, and its numbers
-abbrev pub labellingUnder : Layout → ℕ → (orders w : List ℕ) → ℕ → Labelling
-labellingUnder l e orders w j =
-    labelling (groupsBy w 0 (l .n)) (childrenBy w (childrenFrom (l .n) (l .k) e) (l .k) (l .c)) (orderAt (l .n) orders j)
+-- the labelling under order j of the groups that lie in work, and its numbers
+abbrev pub labellingUnder : Layout → ℕ → (orders work : List ℕ) → ℕ → Labelling
+labellingUnder l e orders work j =
+    labelling (groupsBy work 0 (l .n)) (childrenBy work (childrenFrom (l .n) (l .k) e) (l .k) (l .c)) (orderAt (l .n) orders j)
 
-abbrev pub labellingBlock : Layout → ℕ → (orders w : List ℕ) → ℕ → List ℕ
-labellingBlock l e orders w j = labelNumbers (l .k) (labellingUnder l e orders w j)
+abbrev pub labellingBlock : Layout → ℕ → (orders work : List ℕ) → ℕ → List ℕ
+labellingBlock l e orders work j = labelNumbers (l .k) (labellingUnder l e orders work j)
 
 -- what is left by the labelling under order j
-abbrev pub OrderLabelled : Layout → ℕ → (orders w w' : List ℕ) → ℕ → Type 0
-OrderLabelled l e orders w w' j =
-    Labelled (orderAt (l .n) orders j) w w' (l .n) (l .k) (l .c) 0 (childrenFrom (l .n) (l .k) e) (labelsFrom (l .n) (l .k) e)
+abbrev pub OrderLabelled : Layout → ℕ → (orders work work' : List ℕ) → ℕ → Type 0
+OrderLabelled l e orders work work' j =
+    Labelled (orderAt (l .n) orders j) work work' (l .n) (l .k) (l .c) 0 (childrenFrom (l .n) (l .k) e) (labelsFrom (l .n) (l .k) e)

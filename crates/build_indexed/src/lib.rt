@@ -9,9 +9,10 @@ ghost use Rattle.lineage.specs.Numbers.{written};
 ghost use Rattle.lineage.specs.Index.{indexBy};
 ghost use Rattle.lineage.specs.Stored.{encode};
 ghost use Rattle.lineage.specs.Calls.{orderAt};
+ghost use Rattle.numbers.specs.Bounds.{vertexBound, entryBound};
 ghost use Rattle.numbers.specs.Put.{put};
 ghost use Rattle.numbers.specs.Regions.{Kept};
-ghost use Rattle.build_labelled.specs.Window.{byRankAt, windowSize};
+ghost use Rattle.build_labelled.specs.Window.{byRankAt, labelsWindow};
 ghost use Rattle.build_orders.specs.Input.{graphOf};
 ghost use Rattle.build_indexed.specs.Written.{writtenAs};
 ghost use Rattle.build_indexed.specs.Memory.{childrenFrom, labelsFrom, condensedIn, labellingBlock, CondensedFit, CondensedFound, Ready, OrderLabelled};
@@ -23,18 +24,18 @@ pub struct Sizes {
 }
 
 // Finds the groups and their children: names, group list and places in the first 3n words, then the rows of parents and of children.
-pub fn condensed(n: usize, sources: &[u32], targets: &[u32], w: &mut [u32]) -> Sizes
-    requires { ⌜ CondensedFit (graphOf n (now sources) (now targets)) (now w) ⌝ }
-    ensures { λ r. ⌜ CondensedFound (graphOf n (now (sources .entry)) (now (targets .entry))) (now (w .entry)) (now (w .exit)) (r .k) (r .c) ⌝ }
+pub fn condensed(n: usize, sources: &[u32], targets: &[u32], work: &mut [u32]) -> Sizes
+    requires { ⌜ CondensedFit (graphOf n (now sources) (now targets)) (now work) ⌝ }
+    ensures { λ r. ⌜ CondensedFound (graphOf n (now (sources .entry)) (now (targets .entry))) (now (work .entry)) (now (work .exit)) (r .k) (r .c) ⌝ }
 {
-    let k = build_condense::condense(n, sources, targets, w);
-    let c = build_children::children(sources, targets, w, 2 * n, n, k, 3 * n);
+    let k = build_condense::condense(n, sources, targets, work);
+    let c = build_children::children(sources, targets, work, 2 * n, n, k, 3 * n);
     Sizes { k, c }
 }
 
 // Where the children lie: behind names, group list, places and parents.
 fn children_from(n: usize, k: usize, edges: usize) -> usize
-    requires { ⌜ (n ≤ 200000) × ((k ≤ n) × (edges ≤ 1000000)) ⌝ }
+    requires { ⌜ (n ≤ vertexBound) × ((k ≤ n) × (edges ≤ entryBound)) ⌝ }
     ensures { λ r. ⌜ r ≡ childrenFrom n k edges ⌝ }
 {
     3 * n + k + 1 + edges + k
@@ -42,7 +43,7 @@ fn children_from(n: usize, k: usize, edges: usize) -> usize
 
 // Where a labelling is made: behind the children.
 fn labels_from(n: usize, k: usize, edges: usize) -> usize
-    requires { ⌜ (n ≤ 200000) × ((k ≤ n) × (edges ≤ 1000000)) ⌝ }
+    requires { ⌜ (n ≤ vertexBound) × ((k ≤ n) × (edges ≤ entryBound)) ⌝ }
     ensures { λ r. ⌜ r ≡ labelsFrom n k edges ⌝ }
 {
     children_from(n, k, edges) + k + 1 + edges
@@ -50,7 +51,7 @@ fn labels_from(n: usize, k: usize, edges: usize) -> usize
 
 // Where the places by rank of a labelling lie.
 fn by_rank_from(n: usize, k: usize, c: usize, edges: usize) -> usize
-    requires { ⌜ (n ≤ 200000) × ((k ≤ n) × ((c ≤ edges) × (edges ≤ 1000000))) ⌝ }
+    requires { ⌜ (n ≤ vertexBound) × ((k ≤ n) × ((c ≤ edges) × (edges ≤ entryBound))) ⌝ }
     ensures { λ r. ⌜ r ≡ byRankAt (labelsFrom n k edges) n k c ⌝ }
 {
     labels_from(n, k, edges) + n + k + k + 1 + c + 4 * k
@@ -64,12 +65,12 @@ fn write_order(
     edges: usize,
     orders: &[u32],
     j: usize,
-    w: &mut [u32],
+    work: &mut [u32],
 )
-    requires { ⌜ Ready l edges (now orders) (now w) ⌝ }
+    requires { ⌜ Ready l edges (now orders) (now work) ⌝ }
     requires { ⌜ (j < l .d) × (at + l .width * (4 * l .k) ≤ length (now out)) ⌝ }
-    ensures { λ _. ⌜ OrderLabelled l edges (now (orders .entry)) (now (w .entry)) (now (w .exit)) j ⌝ }
-    ensures { λ _. ⌜ now (out .exit) ≡ put (now (out .entry)) at (written (l .width) (labellingBlock l edges (now (orders .entry)) (now (w .entry)) j)) ⌝ }
+    ensures { λ _. ⌜ OrderLabelled l edges (now (orders .entry)) (now (work .entry)) (now (work .exit)) j ⌝ }
+    ensures { λ _. ⌜ now (out .exit) ≡ put (now (out .entry)) at (written (l .width) (labellingBlock l edges (now (orders .entry)) (now (work .entry)) j)) ⌝ }
 {
     let n = l.n;
     let k = l.k;
@@ -77,12 +78,24 @@ fn write_order(
     let children = children_from(n, k, edges);
     let base = labels_from(n, k, edges);
     let by_rank = by_rank_from(n, k, c, edges);
-    build_labelled::label(orders, j * n, w, n, k, c, 0, 2 * n, 3 * n, children, base);
+    build_labelled::label(
+        orders,
+        j * n,
+        work,
+        n,
+        k,
+        c,
+        0,
+        2 * n,
+        3 * n,
+        children,
+        base,
+    );
     build_writing::write_labelling(
         out,
         at,
         l.width,
-        w,
+        work,
         base + 2 * k,
         base + k,
         base,
@@ -92,17 +105,17 @@ fn write_order(
 }
 
 // Labels the groups under one order after the other, and writes each labelling behind the one before it, at the offset of the labels.
-fn write_labels(out: &mut [u8], l: Layout, edges: usize, orders: &[u32], w: &mut [u32])
-    requires { ⌜ Ready l edges (now orders) (now w) ⌝ }
+fn write_labels(out: &mut [u8], l: Layout, edges: usize, orders: &[u32], work: &mut [u32])
+    requires { ⌜ Ready l edges (now orders) (now work) ⌝ }
     requires { ⌜ l .total ≤ length (now out) ⌝ }
-    ensures { λ _. ⌜ OrderLabelled l edges (now (orders .entry)) (now (w .entry)) (now (w .exit)) (l .d - 1) ⌝ }
-    ensures { λ _. ⌜ now (out .exit) ≡ put (now (out .entry)) (l .labels) (written (l .width) (joined (map (labellingBlock l edges (now (orders .entry)) (now (w .entry))) (upto (l .d))))) ⌝ }
+    ensures { λ _. ⌜ OrderLabelled l edges (now (orders .entry)) (now (work .entry)) (now (work .exit)) (l .d - 1) ⌝ }
+    ensures { λ _. ⌜ now (out .exit) ≡ put (now (out .entry)) (l .labels) (written (l .width) (joined (map (labellingBlock l edges (now (orders .entry)) (now (work .entry))) (upto (l .d))))) ⌝ }
 {
     let step = numbers::bytes_of(l.width, 4 * l.k);
     let mut at = l.labels;
     let mut j = 0;
     while j < l.d {
-        write_order(out, at, l, edges, orders, j, w);
+        write_order(out, at, l, edges, orders, j, work);
         at += step;
         j += 1;
     }
@@ -116,26 +129,26 @@ pub fn write_index(
     l: Layout,
     edges: usize,
     orders: &[u32],
-    w: &mut [u32],
+    work: &mut [u32],
 )
     requires { ⌜ form < 2 ^ 32 ⌝ }
-    requires { ⌜ Ready l edges (now orders) (now w) ⌝ }
+    requires { ⌜ Ready l edges (now orders) (now work) ⌝ }
     requires { ⌜ l .total ≤ length (now out) ⌝ }
-    ensures { λ _. ⌜ now (out .exit) ≡ encode (writtenAs form (l .width)) (indexBy (condensedIn (now (w .entry)) (l .n) (l .k) (l .c) edges) (map (orderAt (l .n) (now (orders .entry))) (upto (l .d)))) ++ drop (l .total) (now (out .entry)) ⌝ }
-    ensures { λ _. ⌜ Kept (now (w .entry)) (now (w .exit)) (labelsFrom (l .n) (l .k) edges) (windowSize (l .n) (l .k) (l .c)) ⌝ }
+    ensures { λ _. ⌜ now (out .exit) ≡ encode (writtenAs form (l .width)) (indexBy (condensedIn (now (work .entry)) (l .n) (l .k) (l .c) edges) (map (orderAt (l .n) (now (orders .entry))) (upto (l .d)))) ++ drop (l .total) (now (out .entry)) ⌝ }
+    ensures { λ _. ⌜ Kept (now (work .entry)) (now (work .exit)) (labelsFrom (l .n) (l .k) edges) (labelsWindow (l .n) (l .k) (l .c)) ⌝ }
 {
     let n = l.n;
     let k = l.k;
     let c = l.c;
     let children = children_from(n, k, edges);
     let base = labels_from(n, k, edges);
-    write_labels(out, l, edges, orders, w);
-    build_labelled::levels(w, n, k, c, children, base);
+    write_labels(out, l, edges, orders, work);
+    build_labelled::levels(work, n, k, c, children, base);
     build_writing::write_groups(
         out,
         form,
         l,
-        w,
+        work,
         0,
         n,
         base + 3 * k,

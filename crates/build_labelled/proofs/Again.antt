@@ -10,23 +10,23 @@ use Rattle.lineage.specs.Labels.{labelling}
 use Rattle.numbers.specs.Regions.{Kept}
 use Rattle.numbers.proofs.Regions.{kept-then, kept-wider, kept-apart, outside-kept}
 use Rattle.build_labels.specs.Fit.{UpFit}
-use Rattle.build_labelled.specs.Window.{byRankAt, levelsAt, windowSize, childrenBy, Labelled}
+use Rattle.build_labelled.specs.Window.{byRankAt, levelsAt, labelsWindow, childrenBy, Labelled}
 use Rattle.build_labelled.specs.Fit.{GroupsFit, LabelFit}
 use Rattle.build_labelled.proofs.Regions.{rows-within, starts-same, values-same, children-same}
 use Rattle.build_labelled.proofs.Forest.{labelling-is, up-fits}
 
 -- something was written in the window
 module _
-    {w w' : List ℕ} {n k c names place parents children base : ℕ} (fit : GroupsFit w n k c names place parents children base) (K : Kept w w' base (windowSize n k c))
+    {work work' : List ℕ} {n k c names place parents children base : ℕ} (fit : GroupsFit work n k c names place parents children base) (K : Kept work work' base (labelsWindow n k c))
   where
-    names-same : part w' names n ≡ part w names n
+    names-same : part work' names n ≡ part work names n
     names-same = kept-apart K (fit .vertices .names-there .apart)
 
-    place-same : part w' place n ≡ part w place n
+    place-same : part work' place n ≡ part work place n
     place-same = kept-apart K (fit .vertices .place-there .apart)
 
     -- the groups are still there
-    pub groups-kept : GroupsFit w' n k c names place parents children base
+    pub groups-kept : GroupsFit work' n k c names place parents children base
     groups-kept = record {
       vertices = record {
         names-there = outside-kept (fit .vertices .names-there) K;
@@ -46,7 +46,7 @@ module _
     }
 
     -- what is labelled now is labelled as if nothing had been written
-    pub labelled-since : {order w'' : List ℕ} → Labelled order w' w'' n k c names children base → Labelled order w w'' n k c names children base
+    pub labelled-since : {order work'' : List ℕ} → Labelled order work' work'' n k c names children base → Labelled order work work'' n k c names children base
     labelled-since {order} l = record {
       kept = kept-then K (l .kept);
       made = l .made ∙ ap₂ (λ names below. labelling (groupList names) below order) names-same (children-same (fit .children-there) K);
@@ -54,18 +54,18 @@ module _
 
 -- a labelling is there: the levels can be found, and it stays beside them
 module _
-    {orders w w' : List ℕ} {at n k c names place parents children base : ℕ} (fit : LabelFit orders w at n k c names place parents children base)
-    (l : Labelled (part orders at n) w w' n k c names children base)
+    {orders work work' : List ℕ} {at n k c names place parents children base : ℕ} (fit : LabelFit orders work at n k c names place parents children base)
+    (l : Labelled (part orders at n) work work' n k c names children base)
   where
-    pub levels-fit : UpFit w' (byRankAt base n k c) k children (children + k + 1) c (levelsAt base k)
+    pub levels-fit : UpFit work' (byRankAt base n k c) k children (children + k + 1) c (levelsAt base k)
     levels-fit = up-fits fit (l .kept) (ap (λ z. z .byRank) (l .made ∙ labelling-is fit)) (omega arith) (omega arith)
 
     pub levels-beside :
-        {w'' : List ℕ} → Kept w' w'' (levelsAt base k) k → part w'' (levelsAt base k) k ≡ levelsOf (childrenBy w' children k c)
-        → Labelled (part orders at n) w w'' n k c names children base × (part w'' (levelsAt base k) k ≡ levelsOf (childrenBy w children k c))
+        {work'' : List ℕ} → Kept work' work'' (levelsAt base k) k → part work'' (levelsAt base k) k ≡ levelsOf (childrenBy work' children k c)
+        → Labelled (part orders at n) work work'' n k c names children base × (part work'' (levelsAt base k) k ≡ levelsOf (childrenBy work children k c))
     levels-beside K levels = (
       record {
-        kept = kept-then (l .kept) (kept-wider base (windowSize n k c) (omega arith) (omega arith) K);
+        kept = kept-then (l .kept) (kept-wider base (labelsWindow n k c) (omega arith) (omega arith) K);
         made =
             (λ i. record {
               s = K .below (base + 2 * k) k (omega arith) i;

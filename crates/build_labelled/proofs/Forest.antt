@@ -23,22 +23,22 @@ use Rattle.build_traversal.proofs.Lows.{lows-at}
 use Rattle.build_labels.specs.Labels.{ranksOf, innersOf, childrenIn}
 use Rattle.build_labels.specs.Fit.{UpFit}
 use Rattle.build_labels.proofs.Labelled.{labels-are, forest-order, forest-falls}
-use Rattle.build_labelled.specs.Window.{byRankAt, windowSize, groupsBy, childrenBy}
+use Rattle.build_labelled.specs.Window.{byRankAt, labelsWindow, groupsBy, childrenBy}
 use Rattle.build_labelled.specs.Fit.{LabelFit}
 use Rattle.build_labelled.proofs.Regions.{outside-within, starts-same, values-same}
 
-module _ {orders w : List ℕ} {at n k c names place parents children base : ℕ} (fit : LabelFit orders w at n k c names place parents children base) where
+module _ {orders work : List ℕ} {at n k c names place parents children base : ℕ} (fit : LabelFit orders work at n k c names place parents children base) where
   abbrev pub below : List (List ℕ)
-  below = childrenBy w children k c
+  below = childrenBy work children k c
 
   abbrev pub ranked : List ℕ
-  ranked = inOrder (part orders at n) (groupsBy w names n)
+  ranked = inOrder (part orders at n) (groupsBy work names n)
 
   abbrev pub forest : Forest
   forest = forestOf below ranked
 
   abbrev row : ℕ → List ℕ
-  row = rowsIn w children (children + k + 1) c k
+  row = rowsIn work children (children + k + 1) c k
 
   -- a row of children for each place
   pub below-long : length below ≡ k
@@ -49,14 +49,14 @@ module _ {orders w : List ℕ} {at n k c names place parents children base : ℕ
   unfolding childrenIn
   child-at p q h i = rw (table-at row k p [] h) i
 
-  values-low : Below k (part w (children + k + 1) c)
+  values-low : Below k (part work (children + k + 1) c)
   values-low =
       rows-below (fit .groups .children-laid) k
       (λ p h. in-below k (row p) (λ q i. omega (arith, below-long, child-in (fit .groups .sound) p q (omega (arith, below-long)) (child-at p q h i))))
 
   -- all places are finished, children first
-  vertices : Order (length (part w names n)) (part orders at n)
-  vertices = rw (part-length w names n (fit .groups .vertices .names-there .fits)) (fit .order)
+  vertices : Order (length (part work names n)) (part orders at n)
+  vertices = rw (part-length work names n (fit .groups .vertices .names-there .fits)) (fit .order)
 
   pub finished-order : Order k (finished forest)
   finished-order = subst (λ m. Order m (finished forest)) below-long (forest-order (fit .groups .sound) (part orders at n) vertices)
@@ -66,7 +66,7 @@ module _ {orders w : List ℕ} {at n k c names place parents children base : ℕ
 
   -- the labelling
   pub labelling-is :
-      labelling (groupsBy w names n) below (part orders at n)
+      labelling (groupsBy work names n) below (part orders at n)
       ≡ record {
         s = map (outer below (ranksOf k (finished forest)) k) (upto k);
         m = innersOf k (finished forest) (lows 0 forest);
@@ -80,10 +80,10 @@ module _ {orders w : List ℕ} {at n k c names place parents children base : ℕ
 
   -- the places by rank are there: k words before them can be filled upwards
   pub up-fits :
-      {w' : List ℕ} {base' : ℕ} → Kept w w' base (windowSize n k c) → part w' (byRankAt base n k c) k ≡ finished forest → base ≤ base' → base' + k ≤ byRankAt base n k c
-      → UpFit w' (byRankAt base n k c) k children (children + k + 1) c base'
+      {work' : List ℕ} {base' : ℕ} → Kept work work' base (labelsWindow n k c) → part work' (byRankAt base n k c) k ≡ finished forest → base ≤ base' → base' + k ≤ byRankAt base n k c
+      → UpFit work' (byRankAt base n k c) k children (children + k + 1) c base'
   up-fits K by-rank l h =
-      let room : base + windowSize n k c ≤ length w = fit .groups .vertices .room in
+      let room : base + labelsWindow n k c ≤ length work = fit .groups .vertices .room in
       record {
         out-there = record { fits = omega (arith, K .long); apart = over h };
         starts-there = outside-within (K .long) l (omega arith) (fit .groups .children-there .starts);

@@ -13,8 +13,8 @@ use Rattle.build_labelled.specs.Window.{childrenBy, LabelsMade}
 use Rattle.build_labelled.specs.Fit.{LabelsFit}
 use Rattle.build_labelled.proofs.Regions.{starts-same, values-same, children-same}
 
-module _ {w₀ : List ℕ} {out k c children base : ℕ} (fit : LabelsFit w₀ out k c children base) where
-  pub ranks-fit : RanksFit w₀ out (out + k) k base
+module _ {work₀ : List ℕ} {out k c children base : ℕ} (fit : LabelsFit work₀ out k c children base) where
+  pub ranks-fit : RanksFit work₀ out (out + k) k base
   ranks-fit = record {
     out-there = fit .out-there;
     low-there = fit .low-there;
@@ -24,11 +24,11 @@ module _ {w₀ : List ℕ} {out k c children base : ℕ} (fit : LabelsFit w₀ o
   }
 
   -- e and m are written
-  module _ {w₁ : List ℕ} (ranking : Kept w₀ w₁ base (k + k)) (e : part w₁ base k ≡ ranksOf k (part w₀ out k)) where
-    out-same : part w₁ out k ≡ part w₀ out k
+  module _ {work₁ : List ℕ} (ranking : Kept work₀ work₁ base (k + k)) (e : part work₁ base k ≡ ranksOf k (part work₀ out k)) where
+    out-same : part work₁ out k ≡ part work₀ out k
     out-same = kept-apart ranking (fit .out-there .apart)
 
-    pub outer-fits : OuterFit w₁ out base k children (children + k + 1) c (base + 2 * k)
+    pub outer-fits : OuterFit work₁ out base k children (children + k + 1) c (base + 2 * k)
     outer-fits = record {
       up = record {
         out-there = outside-kept (fit .up .out-there) ranking;
@@ -47,8 +47,8 @@ module _ {w₀ : List ℕ} {out k c children base : ℕ} (fit : LabelsFit w₀ o
 
     -- and s
     pub made :
-        {w₂ : List ℕ} → part w₁ (base + k) k ≡ innersOf k (part w₀ out k) (part w₀ (out + k) k) → Kept w₁ w₂ (base + 2 * k) k
-        → part w₂ (base + 2 * k) k ≡ map (outer (childrenBy w₁ children k c) (part w₁ base k) k) (upto k) → LabelsMade w₀ w₂ out k c children base
+        {work₂ : List ℕ} → part work₁ (base + k) k ≡ innersOf k (part work₀ out k) (part work₀ (out + k) k) → Kept work₁ work₂ (base + 2 * k) k
+        → part work₂ (base + 2 * k) k ≡ map (outer (childrenBy work₁ children k c) (part work₁ base k) k) (upto k) → LabelsMade work₀ work₂ out k c children base
     made m K s = record {
       kept = kept-then (kept-wider base (3 * k) (omega arith) (omega arith) ranking) (kept-wider base (3 * k) (omega arith) (omega arith) K);
       e = K .below base k (omega arith) ∙ e;

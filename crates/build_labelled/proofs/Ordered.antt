@@ -17,25 +17,25 @@ use Rattle.build_rows.proofs.Orders.{order-low}
 use Rattle.build_orders.specs.Fit.{RankedFit, RootsFit}
 use Rattle.build_orders.specs.Roots.{rowEmpty}
 use Rattle.build_orders.proofs.Sequence.{places-order}
-use Rattle.build_labelled.specs.Window.{rootsAt, orderedAt, windowSize, groupsBy, OrderRows}
+use Rattle.build_labelled.specs.Window.{rootsAt, orderedAt, labelsWindow, groupsBy, OrderRows}
 use Rattle.build_labelled.specs.Fit.{PlacesFit, OrderFit}
 use Rattle.build_labelled.proofs.Regions.{outside-within, starts-same, values-same}
 
 -- the places as an order of the vertices has them are an order of the places
 pub ranked-order :
-    {w : List ℕ} {n k c names place base : ℕ} → PlacesFit w n k c names place base → (order : List ℕ) → Order n order → Order k (inOrder order (groupsBy w names n))
-ranked-order {w} {n} {names = names} fit order o =
-    subst (λ m. Order m (inOrder order (groupsBy w names n))) (fit .all)
-    (places-order (part w names n) order (rw (part-length w names n (fit .names-there .fits)) o))
+    {work : List ℕ} {n k c names place base : ℕ} → PlacesFit work n k c names place base → (order : List ℕ) → Order n order → Order k (inOrder order (groupsBy work names n))
+ranked-order {work} {n} {names = names} fit order o =
+    subst (λ m. Order m (inOrder order (groupsBy work names n))) (fit .all)
+    (places-order (part work names n) order (rw (part-length work names n (fit .names-there .fits)) o))
 
-module _ {orders w₀ : List ℕ} {at n k c names place parents base : ℕ} (fit : OrderFit orders w₀ at n k c names place parents base) where
+module _ {orders work₀ : List ℕ} {at n k c names place parents base : ℕ} (fit : OrderFit orders work₀ at n k c names place parents base) where
   abbrev ranked : List ℕ
-  ranked = inOrder (part orders at n) (groupsBy w₀ names n)
+  ranked = inOrder (part orders at n) (groupsBy work₀ names n)
 
   order : Order k ranked
   order = ranked-order (fit .vertices) (part orders at n) (fit .order)
 
-  pub ranked-fits : RankedFit orders w₀ at n names place base
+  pub ranked-fits : RankedFit orders work₀ at n names place base
   ranked-fits = record {
     inside = fit .inside;
     order = fit .order;
@@ -46,17 +46,17 @@ module _ {orders w₀ : List ℕ} {at n k c names place parents base : ℕ} (fit
   }
 
   -- the places are written in the order
-  module _ {w₁ : List ℕ} {r : ℕ} (ranking : Kept w₀ w₁ base n) (most : r ≤ n) (written : part w₁ base r ≡ ranked) where
-    long₁ : base + windowSize n k c ≤ length w₁
+  module _ {work₁ : List ℕ} {r : ℕ} (ranking : Kept work₀ work₁ base n) (most : r ≤ n) (written : part work₁ base r ≡ ranked) where
+    long₁ : base + labelsWindow n k c ≤ length work₁
     long₁ = omega (arith, fit .vertices .room, ranking .long)
 
     count : r ≡ k
-    count = sym (part-length w₁ base r (omega (arith, long₁))) ∙ ap length written ∙ order .long
+    count = sym (part-length work₁ base r (omega (arith, long₁))) ∙ ap length written ∙ order .long
 
-    sequence : part w₁ base k ≡ ranked
-    sequence = subst (λ m. part w₁ base m ≡ ranked) count written
+    sequence : part work₁ base k ≡ ranked
+    sequence = subst (λ m. part work₁ base m ≡ ranked) count written
 
-    pub roots-fit : RootsFit w₁ parents k base (rootsAt base n)
+    pub roots-fit : RootsFit work₁ parents k base (rootsAt base n)
     roots-fit = record {
       starts-there = outside-within (ranking .long) (omega arith) (omega arith) (fit .parents-there .starts);
       sequence-there = record { fits = omega (arith, long₁); apart = under (omega (arith, count)) };
@@ -66,19 +66,19 @@ module _ {orders w₀ : List ℕ} {at n k c names place parents base : ℕ} (fit
 
     -- and those of them whose row of parents is empty
     module _
-        {w₂ : List ℕ} {q : ℕ} (rooting : Kept w₁ w₂ (rootsAt base n) k) (few : q ≤ k)
-        (roots : part w₂ (rootsAt base n) q ≡ those (rowEmpty (part w₁ parents (k + 1))) (part w₁ base k))
+        {work₂ : List ℕ} {q : ℕ} (rooting : Kept work₁ work₂ (rootsAt base n) k) (few : q ≤ k)
+        (roots : part work₂ (rootsAt base n) q ≡ those (rowEmpty (part work₁ parents (k + 1))) (part work₁ base k))
       where
-        kept₁ : Kept w₀ w₁ base (windowSize n k c)
-        kept₁ = kept-wider base (windowSize n k c) (omega arith) (omega arith) ranking
+        kept₁ : Kept work₀ work₁ base (labelsWindow n k c)
+        kept₁ = kept-wider base (labelsWindow n k c) (omega arith) (omega arith) ranking
 
-        kept₂ : Kept w₀ w₂ base (windowSize n k c)
-        kept₂ = kept-then kept₁ (kept-wider base (windowSize n k c) (omega arith) (omega arith) rooting)
+        kept₂ : Kept work₀ work₂ base (labelsWindow n k c)
+        kept₂ = kept-then kept₁ (kept-wider base (labelsWindow n k c) (omega arith) (omega arith) rooting)
 
-        sequence-same : part w₂ base k ≡ ranked
+        sequence-same : part work₂ base k ≡ ranked
         sequence-same = rooting .below base k (omega (arith, count)) ∙ sequence
 
-        pub turn-fits : TurnFit w₂ parents (parents + k + 1) c k base (orderedAt base n k)
+        pub turn-fits : TurnFit work₂ parents (parents + k + 1) c k base (orderedAt base n k)
         turn-fits = record {
           rows-fit = record {
             values-fit = record {
@@ -96,11 +96,11 @@ module _ {orders w₀ : List ℕ} {at n k c names place parents base : ℕ} (fit
 
         -- and the rows
         pub ordered :
-            {w₃ : List ℕ} → Kept w₂ w₃ (orderedAt base n k) (k + 1 + c)
-            → RowsAt w₃ (orderedAt base n k) k c (turnedRow (rowsIn w₂ parents (parents + k + 1) c k) (part w₂ base k))
-            → OrderRows (part orders at n) w₀ w₃ n k c names parents base q
+            {work₃ : List ℕ} → Kept work₂ work₃ (orderedAt base n k) (k + 1 + c)
+            → RowsAt work₃ (orderedAt base n k) k c (turnedRow (rowsIn work₂ parents (parents + k + 1) c k) (part work₂ base k))
+            → OrderRows (part orders at n) work₀ work₃ n k c names parents base q
         ordered turning rows = record {
-          kept = kept-then kept₂ (kept-wider base (windowSize n k c) (omega arith) (omega arith) turning);
+          kept = kept-then kept₂ (kept-wider base (labelsWindow n k c) (omega arith) (omega arith) turning);
           few = few;
           roots =
               turning .below (rootsAt base n) q (omega arith)

@@ -1,13 +1,12 @@
 -- The groups of a graph as the passes before leave them, all below the window: names and places of the vertices, then the parents and the children of each group, laid
 -- out from `from` on for e edges. They can be labelled, and what is labelled is the graph's.
-use mathlib.Core.Path.{_≡_, ap₂, _∙_}
+use mathlib.Core.Path.{_≡_, _∙_}
 use mathlib.Core.List.{List}
 use Prim.Native.Nat.{ℕ, _+_, _^_, _≤_, _<_}
 use native.Mathlib.Omega.{arith}
 use lib.ListN.{length}
 use Rattle.lineage.specs.Lists.{part}
 use Rattle.lineage.specs.Graph.{Graph, Ends, namesOf, groupList, childrenOf}
-use Rattle.lineage.specs.Labels.{labelling}
 use Rattle.laws.proofs.Names.{names-long}
 use Rattle.laws.proofs.Condensed.{children-long, groups-sound}
 use Rattle.laws.proofs.Starts.{rows-are}
@@ -17,23 +16,23 @@ use Rattle.build_groups.proofs.Listing.{place-at}
 use Rattle.build_children.specs.Window.{childrenAt}
 use Rattle.build_children.proofs.Found.{ChildrenStored}
 use Rattle.build_labels.specs.Labels.{childrenIn}
-use Rattle.build_labelled.specs.Window.{windowSize, windowLabelling, childrenBy, Labelled}
+use Rattle.build_labelled.specs.Window.{labelsWindow, childrenBy}
 use Rattle.build_labelled.specs.Fit.{GroupsFit}
 
 module _
-    (G : Graph) (ends : Ends G) {w : List ℕ} {from k e c : ℕ} (all : length (groupList (namesOf G)) ≡ k)
-    (stored : ChildrenStored (childrenOf G (namesOf G) (groupList (namesOf G))) w from k e c)
+    (G : Graph) (ends : Ends G) {work : List ℕ} {from k e c : ℕ} (all : length (groupList (namesOf G)) ≡ k)
+    (stored : ChildrenStored (childrenOf G (namesOf G) (groupList (namesOf G))) work from k e c)
   where
     -- the children that lie in the buffer
-    pub children-are : childrenBy w (childrenAt from k e) k c ≡ childrenOf G (namesOf G) (groupList (namesOf G))
+    pub children-are : childrenBy work (childrenAt from k e) k c ≡ childrenOf G (namesOf G) (groupList (namesOf G))
     unfolding childrenIn
     children-are = rows-are (childrenOf G (namesOf G) (groupList (namesOf G))) (children-long G ends ∙ all) (stored .rows)
 
     -- the groups can be labelled
     pub stored-fits :
-        {names place base : ℕ} → part w names (G .n) ≡ namesOf G → part w place (G .n) ≡ placesOf (namesOf G)
-        → names + G .n ≤ base → place + G .n ≤ base → c ≤ e → childrenAt from k e + k + 1 + c ≤ base → base + windowSize (G .n) k c ≤ length w → k < 2 ^ 32 → c < 2 ^ 32
-        → GroupsFit w (G .n) k c names place from (childrenAt from k e) base
+        {names place base : ℕ} → part work names (G .n) ≡ namesOf G → part work place (G .n) ≡ placesOf (namesOf G)
+        → names + G .n ≤ base → place + G .n ≤ base → c ≤ e → childrenAt from k e + k + 1 + c ≤ base → base + labelsWindow (G .n) k c ≤ length work → k < 2 ^ 32 → c < 2 ^ 32
+        → GroupsFit work (G .n) k c names place from (childrenAt from k e) base
     stored-fits names-are places-are names-low place-low most rows-low room few-groups few-children = record {
       vertices = record {
         names-there = record { fits = omega arith; apart = under names-low };
@@ -50,9 +49,3 @@ module _
       few-groups = few-groups;
       few-children = few-children;
     }
-
-    -- and what is labelled is the graph's labelling
-    pub labelling-stored :
-        {order w' : List ℕ} {names base : ℕ} → part w names (G .n) ≡ namesOf G → Labelled order w w' (G .n) k c names (childrenAt from k e) base
-        → windowLabelling w' base (G .n) k c ≡ labelling (groupList (namesOf G)) (childrenOf G (namesOf G) (groupList (namesOf G))) order
-    labelling-stored {order} names-are l = l .made ∙ ap₂ (λ names children. labelling (groupList names) children order) names-are children-are

@@ -12,51 +12,51 @@ use Rattle.laws.specs.Laid.{Below, Laid}
 use Rattle.numbers.specs.Regions.{Outside}
 use Rattle.build_rows.specs.Rows.{RowsAt}
 use Rattle.build_labels.specs.Fit.{UpFit}
-use Rattle.build_labelled.specs.Window.{windowSize, groupsBy, childrenBy}
+use Rattle.build_labelled.specs.Window.{labelsWindow, groupsBy, childrenBy}
 
 -- k rows of c values, the values behind the starts, outside a window
-pub record RowsOutside (w : List ℕ) (at k c base size : ℕ) : Type 0 where
-  pub starts : Outside w at (k + 1) base size
-  pub values : Outside w (at + k + 1) c base size
+pub record RowsOutside (work : List ℕ) (at k c base size : ℕ) : Type 0 where
+  pub starts : Outside work at (k + 1) base size
+  pub values : Outside work (at + k + 1) c base size
 
 -- of each of n vertices the name and the place of its group, of k
-pub record PlacesFit (w : List ℕ) (n k c names place base : ℕ) : Type 0 where
-  pub names-there : Outside w names n base (windowSize n k c)
-  pub place-there : Outside w place n base (windowSize n k c)
-  pub places : (v : ℕ) → v < n → getD (part w place n) v 0 ≡ placeOf (groupsBy w names n) (getD (part w names n) v 0)
-  pub all : length (groupsBy w names n) ≡ k
-  pub room : base + windowSize n k c ≤ length w
+pub record PlacesFit (work : List ℕ) (n k c names place base : ℕ) : Type 0 where
+  pub names-there : Outside work names n base (labelsWindow n k c)
+  pub place-there : Outside work place n base (labelsWindow n k c)
+  pub places : (v : ℕ) → v < n → getD (part work place n) v 0 ≡ placeOf (groupsBy work names n) (getD (part work names n) v 0)
+  pub all : length (groupsBy work names n) ≡ k
+  pub room : base + labelsWindow n k c ≤ length work
 
 -- an order of the vertices at `at`, and k rows of c places
-pub record OrderFit (orders w : List ℕ) (at n k c names place parents base : ℕ) : Type 0 where
+pub record OrderFit (orders work : List ℕ) (at n k c names place parents base : ℕ) : Type 0 where
   pub inside : at + n ≤ length orders
   pub order : Order n (part orders at n)
-  pub vertices : PlacesFit w n k c names place base
-  pub parents-there : RowsOutside w parents k c base (windowSize n k c)
-  pub parents-laid : Laid (part w parents (k + 1)) (part w (parents + k + 1) c) k
-  pub parents-low : Below k (part w (parents + k + 1) c)
+  pub vertices : PlacesFit work n k c names place base
+  pub parents-there : RowsOutside work parents k c base (labelsWindow n k c)
+  pub parents-laid : Laid (part work parents (k + 1)) (part work (parents + k + 1) c) k
+  pub parents-low : Below k (part work (parents + k + 1) c)
   pub few : c < 2 ^ 32
 
 -- k places by rank and, behind them, a number for each; and their children, which all have a lower rank
-pub record LabelsFit (w : List ℕ) (out k c children base : ℕ) : Type 0 where
-  pub up : UpFit w out k children (children + k + 1) c (base + 2 * k)
-  pub out-there : Outside w out k base (k + k)
-  pub low-there : Outside w (out + k) k base (k + k)
-  pub children-there : RowsOutside w children k c base (k + k)
+pub record LabelsFit (work : List ℕ) (out k c children base : ℕ) : Type 0 where
+  pub up : UpFit work out k children (children + k + 1) c (base + 2 * k)
+  pub out-there : Outside work out k base (k + k)
+  pub low-there : Outside work (out + k) k base (k + k)
+  pub children-there : RowsOutside work children k c base (k + k)
 
 -- the groups of n vertices: names, places, and the rows of children and of parents, c of each; names and children are sound, so no group is below itself
-pub record GroupsFit (w : List ℕ) (n k c names place parents children base : ℕ) : Type 0 where
-  pub vertices : PlacesFit w n k c names place base
-  pub children-there : RowsOutside w children k c base (windowSize n k c)
-  pub children-laid : Laid (part w children (k + 1)) (part w (children + k + 1) c) k
-  pub sound : SoundGroups (part w names n) (groupsBy w names n) (levelsOf (childrenBy w children k c)) (childrenBy w children k c)
-  pub parents-there : RowsOutside w parents k c base (windowSize n k c)
-  pub parents-are : RowsAt w parents k c (λ q. those (λ p. childOf (childrenBy w children k c) p q) (upto k))
+pub record GroupsFit (work : List ℕ) (n k c names place parents children base : ℕ) : Type 0 where
+  pub vertices : PlacesFit work n k c names place base
+  pub children-there : RowsOutside work children k c base (labelsWindow n k c)
+  pub children-laid : Laid (part work children (k + 1)) (part work (children + k + 1) c) k
+  pub sound : SoundGroups (part work names n) (groupsBy work names n) (levelsOf (childrenBy work children k c)) (childrenBy work children k c)
+  pub parents-there : RowsOutside work parents k c base (labelsWindow n k c)
+  pub parents-are : RowsAt work parents k c (λ q. those (λ p. childOf (childrenBy work children k c) p q) (upto k))
   pub few-groups : k < 2 ^ 32
   pub few-children : c < 2 ^ 32
 
 -- and an order of the vertices at `at`
-pub record LabelFit (orders w : List ℕ) (at n k c names place parents children base : ℕ) : Type 0 where
+pub record LabelFit (orders work : List ℕ) (at n k c names place parents children base : ℕ) : Type 0 where
   pub inside : at + n ≤ length orders
   pub order : Order n (part orders at n)
-  pub groups : GroupsFit w n k c names place parents children base
+  pub groups : GroupsFit work n k c names place parents children base

@@ -34,36 +34,36 @@ byRankAt base n k c = walkAt base n k c + 4 * k
 abbrev pub levelsAt : ℕ → ℕ → ℕ
 levelsAt base k = base + 3 * k
 
-abbrev pub windowSize : ℕ → ℕ → ℕ → ℕ
-windowSize n k c = n + 8 * k + 1 + c
+abbrev pub labelsWindow : ℕ → ℕ → ℕ → ℕ
+labelsWindow n k c = n + 8 * k + 1 + c
 
 -- the labelling that lies in a window: e, m and s by place, and the places by rank
 abbrev pub windowLabelling : List ℕ → ℕ → ℕ → ℕ → ℕ → Labelling
-windowLabelling w base n k c =
-    record { s = part w (base + 2 * k) k; m = part w (base + k) k; e = part w base k; byRank = part w (byRankAt base n k c) k }
+windowLabelling work base n k c =
+    record { s = part work (base + 2 * k) k; m = part work (base + k) k; e = part work base k; byRank = part work (byRankAt base n k c) k }
 
--- the group list of the names that lie in w, and the children whose rows do, their values behind the starts
+-- the group list of the names that lie in work, and the children whose rows do, their values behind the starts
 abbrev pub groupsBy : List ℕ → ℕ → ℕ → List ℕ
-groupsBy w names n = groupList (part w names n)
+groupsBy work names n = groupList (part work names n)
 
 abbrev pub childrenBy : List ℕ → ℕ → ℕ → ℕ → List (List ℕ)
-childrenBy w children k c = childrenIn w children (children + k + 1) c k
+childrenBy work children k c = childrenIn work children (children + k + 1) c k
 
 -- what an order is made into: of the places as the order has them those whose row of parents is empty, q in all, and the parents' rows turned over them
-pub record OrderRows (order w w' : List ℕ) (n k c names parents base q : ℕ) : Type 0 where
-  pub kept : Kept w w' base (windowSize n k c)
+pub record OrderRows (order work work' : List ℕ) (n k c names parents base q : ℕ) : Type 0 where
+  pub kept : Kept work work' base (labelsWindow n k c)
   pub few : q ≤ k
-  pub roots : part w' (rootsAt base n) q ≡ those (rowEmpty (part w parents (k + 1))) (inOrder order (groupsBy w names n))
-  pub rows : RowsAt w' (orderedAt base n k) k c (turnedRow (rowsIn w parents (parents + k + 1) c k) (inOrder order (groupsBy w names n)))
+  pub roots : part work' (rootsAt base n) q ≡ those (rowEmpty (part work parents (k + 1))) (inOrder order (groupsBy work names n))
+  pub rows : RowsAt work' (orderedAt base n k) k c (turnedRow (rowsIn work parents (parents + k + 1) c k) (inOrder order (groupsBy work names n)))
 
 -- what a traversal is made into: e, m and s
-pub record LabelsMade (w w' : List ℕ) (out k c children base : ℕ) : Type 0 where
-  pub kept : Kept w w' base (3 * k)
-  pub e : part w' base k ≡ ranksOf k (part w out k)
-  pub m : part w' (base + k) k ≡ innersOf k (part w out k) (part w (out + k) k)
-  pub s : part w' (base + 2 * k) k ≡ map (outer (childrenBy w children k c) (ranksOf k (part w out k)) k) (upto k)
+pub record LabelsMade (work work' : List ℕ) (out k c children base : ℕ) : Type 0 where
+  pub kept : Kept work work' base (3 * k)
+  pub e : part work' base k ≡ ranksOf k (part work out k)
+  pub m : part work' (base + k) k ≡ innersOf k (part work out k) (part work (out + k) k)
+  pub s : part work' (base + 2 * k) k ≡ map (outer (childrenBy work children k c) (ranksOf k (part work out k)) k) (upto k)
 
 -- nothing but the window differs, and in it lies the labelling under the order
-pub record Labelled (order w w' : List ℕ) (n k c names children base : ℕ) : Type 0 where
-  pub kept : Kept w w' base (windowSize n k c)
-  pub made : windowLabelling w' base n k c ≡ labelling (groupsBy w names n) (childrenBy w children k c) order
+pub record Labelled (order work work' : List ℕ) (n k c names children base : ℕ) : Type 0 where
+  pub kept : Kept work work' base (labelsWindow n k c)
+  pub made : windowLabelling work' base n k c ≡ labelling (groupsBy work names n) (childrenBy work children k c) order

@@ -13,7 +13,7 @@ ghost use Rattle.build_labelled.specs.Fit.{OrderFit, LabelsFit, LabelFit
 fn order_rows(
     orders: &[u32],
     at: usize,
-    w: &mut [u32],
+    work: &mut [u32],
     n: usize,
     k: usize,
     c: usize,
@@ -22,23 +22,32 @@ fn order_rows(
     parents: usize,
     base: usize,
 ) -> usize
-    requires { ⌜ OrderFit (now orders) (now w) at n k c names place parents base ⌝ }
-    ensures { λ q. ⌜ OrderRows (part (now (orders .entry)) at n) (now (w .entry)) (now (w .exit)) n k c names parents base q ⌝ }
+    requires { ⌜ OrderFit (now orders) (now work) at n k c names place parents base ⌝ }
+    ensures { λ q. ⌜ OrderRows (part (now (orders .entry)) at n) (now (work .entry)) (now (work .exit)) n k c names parents base q ⌝ }
 {
     let roots = base + n;
-    build_orders::ranked(orders, at, n, w, names, place, base);
-    let q = build_orders::roots(w, parents, k, base, roots);
-    build_turning::turn(w, parents, parents + k + 1, c, k, base, roots + k);
+    build_orders::ranked(orders, at, n, work, names, place, base);
+    let q = build_orders::roots(work, parents, k, base, roots);
+    build_turning::turn(work, parents, parents + k + 1, c, k, base, roots + k);
     q
 }
 
 // e, m and s of each place, from a traversal: its places by rank and, behind them, for each one more than how many were finished before it was entered.
-fn labels_of(w: &mut [u32], out: usize, k: usize, c: usize, children: usize, base: usize)
-    requires { ⌜ LabelsFit (now w) out k c children base ⌝ }
-    ensures { λ _. ⌜ LabelsMade (now (w .entry)) (now (w .exit)) out k c children base ⌝ }
+fn labels_of(work: &mut [u32], out: usize, k: usize, c: usize, children: usize, base: usize)
+    requires { ⌜ LabelsFit (now work) out k c children base ⌝ }
+    ensures { λ _. ⌜ LabelsMade (now (work .entry)) (now (work .exit)) out k c children base ⌝ }
 {
-    build_labels::rank_labels(w, out, out + k, k, base);
-    build_labels::outer(w, out, base, k, children, children + k + 1, c, base + 2 * k);
+    build_labels::rank_labels(work, out, out + k, k, base);
+    build_labels::outer(
+        work,
+        out,
+        base,
+        k,
+        children,
+        children + k + 1,
+        c,
+        base + 2 * k,
+    );
 }
 
 // The labelling of k groups with c children in all, under the order at `at`: one traversal from the groups that are nobody's child, in that order, to the children of
@@ -46,7 +55,7 @@ fn labels_of(w: &mut [u32], out: usize, k: usize, c: usize, children: usize, bas
 pub fn label(
     orders: &[u32],
     at: usize,
-    w: &mut [u32],
+    work: &mut [u32],
     n: usize,
     k: usize,
     c: usize,
@@ -56,23 +65,31 @@ pub fn label(
     children: usize,
     base: usize,
 )
-    requires { ⌜ LabelFit (now orders) (now w) at n k c names place parents children base ⌝ }
-    ensures { λ _. ⌜ Labelled (part (now (orders .entry)) at n) (now (w .entry)) (now (w .exit)) n k c names children base ⌝ }
+    requires { ⌜ LabelFit (now orders) (now work) at n k c names place parents children base ⌝ }
+    ensures { λ _. ⌜ Labelled (part (now (orders .entry)) at n) (now (work .entry)) (now (work .exit)) n k c names children base ⌝ }
 {
     let roots = base + n;
     let rows = roots + k;
     let walk = rows + k + 1 + c;
-    let q = order_rows(orders, at, w, n, k, c, names, place, parents, base);
-    build_traversal::traverse(w, rows, rows + k + 1, c, roots, q, k, walk);
-    labels_of(w, walk + 4 * k, k, c, children, base);
+    let q = order_rows(orders, at, work, n, k, c, names, place, parents, base);
+    build_traversal::traverse(work, rows, rows + k + 1, c, roots, q, k, walk);
+    labels_of(work, walk + 4 * k, k, c, children, base);
 }
 
 // The level of each place, from the places by rank of a labelling that is there.
-pub fn levels(w: &mut [u32], n: usize, k: usize, c: usize, children: usize, base: usize)
-    requires { ⌜ UpFit (now w) (byRankAt base n k c) k children (children + k + 1) c (levelsAt base k) ⌝ }
-    ensures { λ _. ⌜ Kept (now (w .entry)) (now (w .exit)) (levelsAt base k) k ⌝ }
-    ensures { λ _. ⌜ part (now (w .exit)) (levelsAt base k) k ≡ levelsOf (childrenBy (now (w .entry)) children k c) ⌝ }
+pub fn levels(work: &mut [u32], n: usize, k: usize, c: usize, children: usize, base: usize)
+    requires { ⌜ UpFit (now work) (byRankAt base n k c) k children (children + k + 1) c (levelsAt base k) ⌝ }
+    ensures { λ _. ⌜ Kept (now (work .entry)) (now (work .exit)) (levelsAt base k) k ⌝ }
+    ensures { λ _. ⌜ part (now (work .exit)) (levelsAt base k) k ≡ levelsOf (childrenBy (now (work .entry)) children k c) ⌝ }
 {
     let by_rank = base + n + k + k + 1 + c + 4 * k;
-    build_labels::levels(w, by_rank, k, children, children + k + 1, c, base + 3 * k);
+    build_labels::levels(
+        work,
+        by_rank,
+        k,
+        children,
+        children + k + 1,
+        c,
+        base + 3 * k,
+    );
 }

@@ -12,13 +12,11 @@ use Rattle.lineage.specs.Sound.{childOf}
 use Rattle.laws.specs.Sound.{SoundGroups}
 use Rattle.laws.proofs.Lists.{upto-low, at-position, position-low, map-same, table-at}
 use Rattle.laws.specs.Rising.{Distinct}
-use Rattle.laws.specs.Visits.{before}
+use Rattle.laws.specs.Visits.{before, Lows}
 use Rattle.laws.proofs.Ranks.{m-made}
 use Rattle.laws.proofs.Grouped.{child-in}
 use Rattle.laws.proofs.Labelled.{finished-all, finished-low, finished-once, e-is, labelling-sound}
-use Rattle.build_rows.proofs.Orders.{order-low}
-use Rattle.build_groups.specs.Trees.{Lows}
-use Rattle.build_groups.proofs.Vertices.{order-from}
+use Rattle.build_rows.proofs.Orders.{order-low, order-from}
 use Rattle.build_labels.specs.Labels.{ranksOf, innersOf}
 
 module _ (k : ℕ) (children : List (List ℕ)) (f : Forest) (low : List ℕ) (o : Order k (finished f)) (once : Distinct (finished f)) (lows : Lows f low) where

@@ -18,7 +18,7 @@ use Rattle.build_labels.specs.Fit.{UpFit, OuterFit}
 use Rattle.build_labels.proofs.Upwards.{Filling, byRank, children, row, children-long, children-at, row-low, child-low, child-falls, place-low, row-is, row-fit, known}
 
 -- the levels
-module _ {w₀ : List ℕ} {out k starts values c base : ℕ} (f : UpFit w₀ out k starts values c base) where
+module _ {work₀ : List ℕ} {out k starts values c base : ℕ} (f : UpFit work₀ out k starts values c base) where
   abbrev table : List ℕ
   table = levelsOf (children f)
 
@@ -28,7 +28,7 @@ module _ {w₀ : List ℕ} {out k starts values c base : ℕ} (f : UpFit w₀ ou
   rank-most : (p : ℕ) → p < length (children f) → suc (position p (byRank f)) ≤ length (children f)
   rank-most p h =
       let l : p < k = omega (arith, children-long f) in
-      omega (arith, children-long f, position-low p (byRank f) (f .order .all p l), part-length w₀ out k (f .out-there .fits))
+      omega (arith, children-long f, position-low p (byRank f) (f .order .all p l), part-length work₀ out k (f .out-there .fits))
 
   level-meets : (p : ℕ) → p < k → getD table p 0 ≡ greatest (map (λ q. suc (getD table q 0)) (row f p))
   level-meets p h =
@@ -41,27 +41,27 @@ module _ {w₀ : List ℕ} {out k starts values c base : ℕ} (f : UpFit w₀ ou
       let l : p < length (children f) = omega (arith, children-long f) in
       omega (arith, children-long f, table-at (level (children f) (length (children f))) (length (children f)) p 0 l, level-most (children f) (length (children f)) p)
 
-  module _ {w : List ℕ} {r : ℕ} (i : Filling w₀ w table out k base r) (h : r < k) where
+  module _ {work : List ℕ} {r : ℕ} (i : Filling work₀ work table out k base r) (h : r < k) where
     abbrev at : ℕ
-    at = values + getD w (starts + getD w (out + r) 0) 0
+    at = values + getD work (starts + getD work (out + r) 0) 0
 
     abbrev size : ℕ
-    size = getD w (starts + (getD w (out + r) 0 + 1)) 0 - getD w (starts + getD w (out + r) 0) 0
+    size = getD work (starts + (getD work (out + r) 0 + 1)) 0 - getD work (starts + getD work (out + r) 0) 0
 
-    pub level-is : {x : ℕ} → x ≡ greatest (map (λ q. suc (getD (part w base k) q 0)) (part w at size)) → x ≡ getD table (getD w (out + r) 0) 0
+    pub level-is : {x : ℕ} → x ≡ greatest (map (λ q. suc (getD (part work base k) q 0)) (part work at size)) → x ≡ getD table (getD work (out + r) 0) 0
     level-is e =
         e
-        ∙ ap (λ xs. greatest (map (λ q. suc (getD (part w base k) q 0)) xs)) (row-is f i h)
-        ∙ ap greatest (map-same (λ q. suc (getD (part w base k) q 0)) (λ q. suc (getD table q 0)) (row f (getD w (out + r) 0)) (λ q j. ap suc (known f i h q j)))
-        ∙ sym (level-meets (getD w (out + r) 0) (place-low f i h))
+        ∙ ap (λ xs. greatest (map (λ q. suc (getD (part work base k) q 0)) xs)) (row-is f i h)
+        ∙ ap greatest (map-same (λ q. suc (getD (part work base k) q 0)) (λ q. suc (getD table q 0)) (row f (getD work (out + r) 0)) (λ q j. ap suc (known f i h q j)))
+        ∙ sym (level-meets (getD work (out + r) 0) (place-low f i h))
 
     -- one more than a child's level is still small
-    pub level-small : (j : ℕ) → j < size → getD (part w base k) (getD (part w at size) j 0) 0 + 1 < 2 ^ 32
+    pub level-small : (j : ℕ) → j < size → getD (part work base k) (getD (part work at size) j 0) 0 + 1 < 2 ^ 32
     level-small j l =
-        let p : ℕ = getD w (out + r) 0 in
-        let q : ℕ = getD (part w at size) j 0 in
+        let p : ℕ = getD work (out + r) 0 in
+        let q : ℕ = getD (part work at size) j 0 in
         let in-row : among q (row f p) ≡ true =
-        subst (λ xs. among q xs ≡ true) (row-is f i h) (in-getD (part w at size) j (omega (arith, part-length w at size (row-fit f i h .row-in)))) in
+        subst (λ xs. among q xs ≡ true) (row-is f i h) (in-getD (part work at size) j (omega (arith, part-length work at size (row-fit f i h .row-in)))) in
         omega (
           arith,
           known f i h q in-row,
@@ -72,9 +72,9 @@ module _ {w₀ : List ℕ} {out k starts values c base : ℕ} (f : UpFit w₀ ou
         )
 
 -- the same of s
-module _ {w₀ : List ℕ} {out e k starts values c base : ℕ} (f : OuterFit w₀ out e k starts values c base) where
+module _ {work₀ : List ℕ} {out e k starts values c base : ℕ} (f : OuterFit work₀ out e k starts values c base) where
   abbrev ranks : List ℕ
-  ranks = part w₀ e k
+  ranks = part work₀ e k
 
   abbrev s : ℕ → ℕ
   s = outer (children (f .up)) ranks k
@@ -89,29 +89,29 @@ module _ {w₀ : List ℕ} {out e k starts values c base : ℕ} (f : OuterFit w�
   s-meets p h =
       outer-meets (children (f .up)) ranks (λ q l. omega (arith, rank-is q (in-k l))) (child-low (f .up))
       (λ q x l j. omega (arith, rank-is q (in-k l), rank-is x (in-k (child-low (f .up) q x l j)), child-falls (f .up) q x l j)) k p
-      (omega (arith, children-long (f .up))) (omega (arith, rank-is p h, position-low p (byRank (f .up)) (f .up .order .all p h), part-length w₀ out k (f .up .out-there .fits)))
+      (omega (arith, children-long (f .up))) (omega (arith, rank-is p h, position-low p (byRank (f .up)) (f .up .order .all p h), part-length work₀ out k (f .up .out-there .fits)))
       ∙ ap (λ xs. least (getD ranks p 0) (map s xs)) (children-at (f .up) p h)
     where
       in-k : {q : ℕ} → q < length (children (f .up)) → q < k
       in-k l = omega (arith, children-long (f .up))
 
-  module _ {w : List ℕ} {r : ℕ} (i : Filling w₀ w (map s (upto k)) out k base r) (h : r < k) where
+  module _ {work : List ℕ} {r : ℕ} (i : Filling work₀ work (map s (upto k)) out k base r) (h : r < k) where
     abbrev row-at : ℕ
-    row-at = values + getD w (starts + getD w (out + r) 0) 0
+    row-at = values + getD work (starts + getD work (out + r) 0) 0
 
     abbrev row-size : ℕ
-    row-size = getD w (starts + (getD w (out + r) 0 + 1)) 0 - getD w (starts + getD w (out + r) 0) 0
+    row-size = getD work (starts + (getD work (out + r) 0 + 1)) 0 - getD work (starts + getD work (out + r) 0) 0
 
     pub outer-is :
-        {x : ℕ} → x ≡ least (getD w (e + getD w (out + r) 0) 0) (map (λ q. getD (part w base k) q 0) (part w row-at row-size))
-        → x ≡ getD (map s (upto k)) (getD w (out + r) 0) 0
+        {x : ℕ} → x ≡ least (getD work (e + getD work (out + r) 0) 0) (map (λ q. getD (part work base k) q 0) (part work row-at row-size))
+        → x ≡ getD (map s (upto k)) (getD work (out + r) 0) 0
     outer-is {x} eq =
-        let p : ℕ = getD w (out + r) 0 in
+        let p : ℕ = getD work (out + r) 0 in
         let low : p < k = place-low (f .up) i h in
-        let own : getD w (e + p) 0 ≡ getD ranks p 0 = read-at (f .e-there) (i .kept) p low in
+        let own : getD work (e + p) 0 ≡ getD ranks p 0 = read-at (f .e-there) (i .kept) p low in
         eq
-        ∙ ap (λ z. least z (map (λ q. getD (part w base k) q 0) (part w row-at row-size))) own
-        ∙ ap (λ xs. least (getD ranks p 0) (map (λ q. getD (part w base k) q 0) xs)) (row-is (f .up) i h)
-        ∙ ap (least (getD ranks p 0)) (map-same (λ q. getD (part w base k) q 0) s (row (f .up) p) (λ q j. known (f .up) i h q j ∙ table-at s k q 0 (row-low (f .up) p q low j)))
+        ∙ ap (λ z. least z (map (λ q. getD (part work base k) q 0) (part work row-at row-size))) own
+        ∙ ap (λ xs. least (getD ranks p 0) (map (λ q. getD (part work base k) q 0) xs)) (row-is (f .up) i h)
+        ∙ ap (least (getD ranks p 0)) (map-same (λ q. getD (part work base k) q 0) s (row (f .up) p) (λ q j. known (f .up) i h q j ∙ table-at s k q 0 (row-low (f .up) p q low j)))
         ∙ sym (s-meets p low)
         ∙ sym (table-at s k p 0 low)

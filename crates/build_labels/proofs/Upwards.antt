@@ -24,35 +24,35 @@ use Rattle.build_labels.specs.Fit.{RowFit, UpFit}
 use Rattle.build_labels.proofs.Ranking.{position-most}
 
 -- the places at the first r ranks have the words of the table
-pub record Filling (w₀ w table : List ℕ) (out k base r : ℕ) : Type 0 where
-  pub kept : Kept w₀ w base k
-  pub filled : (j : ℕ) → j < r → getD (part w base k) (getD (part w₀ out k) j 0) 0 ≡ getD table (getD (part w₀ out k) j 0) 0
+pub record Filling (work₀ work table : List ℕ) (out k base r : ℕ) : Type 0 where
+  pub kept : Kept work₀ work base k
+  pub filled : (j : ℕ) → j < r → getD (part work base k) (getD (part work₀ out k) j 0) 0 ≡ getD table (getD (part work₀ out k) j 0) 0
 
-pub filling-none : (w table : List ℕ) (out k base : ℕ) → Filling w w table out k base 0
-filling-none w table out k base = record { kept = kept-same w base k; filled = λ j h. absurd (omega arith) }
+pub filling-none : (work table : List ℕ) (out k base : ℕ) → Filling work work table out k base 0
+filling-none work table out k base = record { kept = kept-same work base k; filled = λ j h. absurd (omega arith) }
 
 -- the place at hand: where its turn reads and writes, and its row
-pub record Place (w : List ℕ) (out k starts values base r : ℕ) : Type 0 where
-  pub place-in : out + r < length w
-  pub low : getD w (out + r) 0 < k
-  pub start-in : starts + getD w (out + r) 0 < length w
-  pub end-in : starts + (getD w (out + r) 0 + 1) < length w
-  pub rising : getD w (starts + getD w (out + r) 0) 0 ≤ getD w (starts + (getD w (out + r) 0 + 1)) 0
-  pub row-in : values + getD w (starts + (getD w (out + r) 0 + 1)) 0 ≤ length w
-  pub word-in : base + getD w (out + r) 0 < length w
+pub record Place (work : List ℕ) (out k starts values base r : ℕ) : Type 0 where
+  pub place-in : out + r < length work
+  pub low : getD work (out + r) 0 < k
+  pub start-in : starts + getD work (out + r) 0 < length work
+  pub end-in : starts + (getD work (out + r) 0 + 1) < length work
+  pub rising : getD work (starts + getD work (out + r) 0) 0 ≤ getD work (starts + (getD work (out + r) 0 + 1)) 0
+  pub row-in : values + getD work (starts + (getD work (out + r) 0 + 1)) 0 ≤ length work
+  pub word-in : base + getD work (out + r) 0 < length work
 
-module _ {w₀ : List ℕ} {out k starts values c base : ℕ} (f : UpFit w₀ out k starts values c base) where
+module _ {work₀ : List ℕ} {out k starts values c base : ℕ} (f : UpFit work₀ out k starts values c base) where
   abbrev pub byRank : List ℕ
-  byRank = part w₀ out k
+  byRank = part work₀ out k
 
   abbrev pub children : List (List ℕ)
-  children = childrenIn w₀ starts values c k
+  children = childrenIn work₀ starts values c k
 
   abbrev pub row : ℕ → List ℕ
-  row = rowsIn w₀ starts values c k
+  row = rowsIn work₀ starts values c k
 
   long : length byRank ≡ k
-  long = part-length w₀ out k (f .out-there .fits)
+  long = part-length work₀ out k (f .out-there .fits)
 
   pub children-long : length children ≡ k
   unfolding childrenIn
@@ -74,9 +74,9 @@ module _ {w₀ : List ℕ} {out k starts values c base : ℕ} (f : UpFit w₀ ou
       let l : p < k = omega (arith, children-long) in
       omega (arith, f .falls p q l (rw (children-at p l) at i))
 
-  module _ {w table : List ℕ} {r : ℕ} (i : Filling w₀ w table out k base r) (h : r < k) where
+  module _ {work table : List ℕ} {r : ℕ} (i : Filling work₀ work table out k base r) (h : r < k) where
     abbrev p : ℕ
-    p = getD w (out + r) 0
+    p = getD work (out + r) 0
 
     p-is : p ≡ getD byRank r 0
     p-is = read-at (f .out-there) (i .kept) r h
@@ -84,18 +84,18 @@ module _ {w₀ : List ℕ} {out k starts values c base : ℕ} (f : UpFit w₀ ou
     pub place-low : p < k
     place-low = rw p-is (order-low k byRank (f .order) (getD byRank r 0) (in-getD byRank r (omega (arith, long))))
 
-    start-is : getD w (starts + p) 0 ≡ getD (part w₀ starts (k + 1)) p 0
+    start-is : getD work (starts + p) 0 ≡ getD (part work₀ starts (k + 1)) p 0
     start-is = read-at (f .starts-there) (i .kept) p (omega (arith, place-low))
 
-    end-is : getD w (starts + (p + 1)) 0 ≡ getD (part w₀ starts (k + 1)) (suc p) 0
-    end-is = read-at (f .starts-there) (i .kept) (p + 1) (omega (arith, place-low)) ∙ ap (λ z. getD (part w₀ starts (k + 1)) z 0) (add-one p)
+    end-is : getD work (starts + (p + 1)) 0 ≡ getD (part work₀ starts (k + 1)) (suc p) 0
+    end-is = read-at (f .starts-there) (i .kept) (p + 1) (omega (arith, place-low)) ∙ ap (λ z. getD (part work₀ starts (k + 1)) z 0) (add-one p)
 
-    inside : getD (part w₀ starts (k + 1)) (suc p) 0 ≤ c
-    inside = omega (arith, start-low (f .laid) (suc p) place-low, part-length w₀ values c (f .values-there .fits))
+    inside : getD (part work₀ starts (k + 1)) (suc p) 0 ≤ c
+    inside = omega (arith, start-low (f .laid) (suc p) place-low, part-length work₀ values c (f .values-there .fits))
 
-    pub filling-place : Place w out k starts values base r
+    pub filling-place : Place work out k starts values base r
     filling-place =
-        let long-w = i .kept .long in
+        let long-work = i .kept .long in
         record {
           place-in = omega (arith, f .out-there .fits);
           low = place-low;
@@ -107,16 +107,16 @@ module _ {w₀ : List ℕ} {out k starts values c base : ℕ} (f : UpFit w₀ ou
         }
 
     -- its row, read as it was lent
-    pub row-is : part w (values + getD w (starts + p) 0) (getD w (starts + (p + 1)) 0 - getD w (starts + p) 0) ≡ row p
+    pub row-is : part work (values + getD work (starts + p) 0) (getD work (starts + (p + 1)) 0 - getD work (starts + p) 0) ≡ row p
     unfolding rowAt
     row-is =
-        let s : ℕ = getD (part w₀ starts (k + 1)) p 0 in
-        let size : ℕ = getD (part w₀ starts (k + 1)) (suc p) 0 - s in
-        ap₂ (λ a b. part w (values + a) (b - a)) start-is end-is
-        ∙ sym (part-part w values c s size (omega (arith, inside, f .laid .rising p place-low)))
+        let s : ℕ = getD (part work₀ starts (k + 1)) p 0 in
+        let size : ℕ = getD (part work₀ starts (k + 1)) (suc p) 0 - s in
+        ap₂ (λ a b. part work (values + a) (b - a)) start-is end-is
+        ∙ sym (part-part work values c s size (omega (arith, inside, f .laid .rising p place-low)))
         ∙ ap (λ z. part z s size) (kept-apart (i .kept) (f .values-there .apart))
 
-    pub row-fit : RowFit w (values + getD w (starts + p) 0) (getD w (starts + (p + 1)) 0 - getD w (starts + p) 0) base k
+    pub row-fit : RowFit work (values + getD work (starts + p) 0) (getD work (starts + (p + 1)) 0 - getD work (starts + p) 0) base k
     row-fit =
         let place = filling-place in
         record {
@@ -126,7 +126,7 @@ module _ {w₀ : List ℕ} {out k starts values c base : ℕ} (f : UpFit w₀ ou
         }
 
     -- what is asked of its children is known
-    pub known : (q : ℕ) → among q (row p) ≡ true → getD (part w base k) q 0 ≡ getD table q 0
+    pub known : (q : ℕ) → among q (row p) ≡ true → getD (part work base k) q 0 ≡ getD table q 0
     known q j =
         let low : q < k = row-low p q place-low j in
         let before : position q byRank < r =
@@ -134,26 +134,26 @@ module _ {w₀ : List ℕ} {out k starts values c base : ℕ} (f : UpFit w₀ ou
         rw (at-position q byRank (f .order .all q low)) at (i .filled (position q byRank) before)
 
     -- the place at hand is given its word
-    pub filling-more : {w' : List ℕ} {x : ℕ} → x ≡ getD table p 0 → w' ≡ set w (base + p) x → Filling w₀ w' table out k base (r + 1)
+    pub filling-more : {work' : List ℕ} {x : ℕ} → x ≡ getD table p 0 → work' ≡ set work (base + p) x → Filling work₀ work' table out k base (r + 1)
     filling-more {x = x} is ew =
         rw ew (record {
           kept = kept-more p x place-low (i .kept);
-          filled = rw (part-set w base k p x place-low) (λ j l. at j l (ℕ-discrete (getD byRank j 0) p));
+          filled = rw (part-set work base k p x place-low) (λ j l. at j l (ℕ-discrete (getD byRank j 0) p));
         })
       where
-        at : (j : ℕ) → j < r + 1 → Dec (getD byRank j 0 ≡ p) → getD (set (part w base k) p x) (getD byRank j 0) 0 ≡ getD table (getD byRank j 0) 0
-        at j l (yes z) = rw (z, getD-set-same (part w base k) p x 0 (omega (arith, place-low, part-length w base k (omega (arith, f .room, i .kept .long))))) is
+        at : (j : ℕ) → j < r + 1 → Dec (getD byRank j 0 ≡ p) → getD (set (part work base k) p x) (getD byRank j 0) 0 ≡ getD table (getD byRank j 0) 0
+        at j l (yes z) = rw (z, getD-set-same (part work base k) p x 0 (omega (arith, place-low, part-length work base k (omega (arith, f .room, i .kept .long))))) is
         at j l (no ne) =
             let earlier : j < r = lt-of-le-ne (omega arith) (λ z. ne (ap (λ y. getD byRank y 0) z ∙ sym p-is)) in
-            rw (getD-set-other (part w base k) p (getD byRank j 0) x 0 ne) (i .filled j earlier)
+            rw (getD-set-other (part work base k) p (getD byRank j 0) x 0 ne) (i .filled j earlier)
 
   -- at the end every place has its word
-  pub filling-all : {w table : List ℕ} {r : ℕ} → Filling w₀ w table out k base r → k ≤ r → length table ≡ k → Kept w₀ w base k × (part w base k ≡ table)
-  filling-all {w} {table} {r} i h l =
-      let long-w : length (part w base k) ≡ k = part-length w base k (omega (arith, f .room, i .kept .long)) in
-      (i .kept, ext-getD 0 (part w base k) table (long-w ∙ sym l) (λ q j. at q (omega arith)))
+  pub filling-all : {work table : List ℕ} {r : ℕ} → Filling work₀ work table out k base r → k ≤ r → length table ≡ k → Kept work₀ work base k × (part work base k ≡ table)
+  filling-all {work} {table} {r} i h l =
+      let long-work : length (part work base k) ≡ k = part-length work base k (omega (arith, f .room, i .kept .long)) in
+      (i .kept, ext-getD 0 (part work base k) table (long-work ∙ sym l) (λ q j. at q (omega arith)))
     where
-      at : (q : ℕ) → q < k → getD (part w base k) q 0 ≡ getD table q 0
+      at : (q : ℕ) → q < k → getD (part work base k) q 0 ≡ getD table q 0
       at q j =
           let a : among q byRank ≡ true = f .order .all q j in
           rw (at-position q byRank a) at (i .filled (position q byRank) (omega (arith, long, position-low q byRank a)))

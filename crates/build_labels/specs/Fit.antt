@@ -12,34 +12,34 @@ use Rattle.build_rows.specs.Rows.{rowsIn}
 use Rattle.build_labels.specs.Labels.{ranksOf}
 
 -- a traversal of all k places
-pub record RanksFit (w : List ℕ) (out low k base : ℕ) : Type 0 where
-  pub out-there : Outside w out k base (k + k)
-  pub low-there : Outside w low k base (k + k)
-  pub order : Order k (part w out k)
-  pub room : base + (k + k) ≤ length w
+pub record RanksFit (work : List ℕ) (out low k base : ℕ) : Type 0 where
+  pub out-there : Outside work out k base (k + k)
+  pub low-there : Outside work low k base (k + k)
+  pub order : Order k (part work out k)
+  pub room : base + (k + k) ≤ length work
   pub few : k < 2 ^ 32
 
 -- a row of places, and a word for each of k places
-pub record RowFit (w : List ℕ) (at size base k : ℕ) : Type 0 where
-  pub row-in : at + size ≤ length w
-  pub row-low : Below k (part w at size)
-  pub words-in : base + k ≤ length w
+pub record RowFit (work : List ℕ) (at size base k : ℕ) : Type 0 where
+  pub row-in : at + size ≤ length work
+  pub row-low : Below k (part work at size)
+  pub words-in : base + k ≤ length work
 
 -- k places by rank and their children, which all have a lower rank
-pub record UpFit (w : List ℕ) (out k starts values c base : ℕ) : Type 0 where
-  pub out-there : Outside w out k base k
-  pub starts-there : Outside w starts (k + 1) base k
-  pub values-there : Outside w values c base k
-  pub order : Order k (part w out k)
-  pub laid : Laid (part w starts (k + 1)) (part w values c) k
-  pub values-low : Below k (part w values c)
+pub record UpFit (work : List ℕ) (out k starts values c base : ℕ) : Type 0 where
+  pub out-there : Outside work out k base k
+  pub starts-there : Outside work starts (k + 1) base k
+  pub values-there : Outside work values c base k
+  pub order : Order k (part work out k)
+  pub laid : Laid (part work starts (k + 1)) (part work values c) k
+  pub values-low : Below k (part work values c)
   pub falls :
-      (p q : ℕ) → p < k → among q (rowsIn w starts values c k p) ≡ true → position q (part w out k) < position p (part w out k)
-  pub room : base + k ≤ length w
+      (p q : ℕ) → p < k → among q (rowsIn work starts values c k p) ≡ true → position q (part work out k) < position p (part work out k)
+  pub room : base + k ≤ length work
   pub few : k < 2 ^ 32
 
 -- and their ranks
-pub record OuterFit (w : List ℕ) (out e k starts values c base : ℕ) : Type 0 where
-  pub up : UpFit w out k starts values c base
-  pub e-there : Outside w e k base k
-  pub ranks : part w e k ≡ ranksOf k (part w out k)
+pub record OuterFit (work : List ℕ) (out e k starts values c base : ℕ) : Type 0 where
+  pub up : UpFit work out k starts values c base
+  pub e-there : Outside work e k base k
+  pub ranks : part work e k ≡ ranksOf k (part work out k)

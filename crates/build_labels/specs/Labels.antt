@@ -14,7 +14,7 @@ ranksOf k byRank = map (λ p. suc (position p byRank)) (upto k)
 abbrev pub innersOf : ℕ → List ℕ → List ℕ → List ℕ
 innersOf k byRank low = map (λ p. getD low (position p byRank) 0) (upto k)
 
--- the children of k places, whose rows lie in w
+-- the children of k places, whose rows lie in work
 unfoldable pub childrenIn : List ℕ → ℕ → ℕ → ℕ → ℕ → List (List ℕ)
 unfolding rowAt
-childrenIn w starts values c k = map (rowsIn w starts values c k) (upto k)
+childrenIn work starts values c k = map (rowsIn work starts values c k) (upto k)

@@ -1,7 +1,7 @@
 -- The laws of this crate's passes.
 pub mod First
 pub mod Edges
-pub mod Stamping
+pub mod Lacking
 pub mod Permutations
 pub mod Ranking
 pub mod Rooting

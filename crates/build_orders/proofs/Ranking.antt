@@ -41,29 +41,29 @@ unfolding groupList
 name-listed names v h e = those-keep (λ x. eqb (getD names x 0) x) v (upto (length names)) (eq-eqb (getD names v 0) v e) (in-upto (length names) v h)
 
 -- j vertices of the order are gone through, and the places of k groups written
-pub record Ranking (orders w₀ w : List ℕ) (at n names base j k : ℕ) : Type 0 where
+pub record Ranking (orders work₀ work : List ℕ) (at n names base j k : ℕ) : Type 0 where
   pub few : k ≤ j
-  pub written : Written w₀ w base n k (inOrder (part orders at j) (groupList (part w₀ names n)))
+  pub written : Written work₀ work base n k (inOrder (part orders at j) (groupList (part work₀ names n)))
 
-pub ranking-none : (orders w : List ℕ) (at n names base : ℕ) → Ranking orders w w at n names base 0 0
+pub ranking-none : (orders work : List ℕ) (at n names base : ℕ) → Ranking orders work work at n names base 0 0
 unfolding part inOrder
-ranking-none orders w at n names base = record { few = omega arith; written = written-none w base n }
+ranking-none orders work at n names base = record { few = omega arith; written = written-none work base n }
 
 -- the vertex at hand, and where its turn reads and writes
-pub record Vertex (orders w : List ℕ) (at n names place base j k : ℕ) : Type 0 where
+pub record Vertex (orders work : List ℕ) (at n names place base j k : ℕ) : Type 0 where
   pub low : getD orders (at + j) 0 < n
-  pub name-in : names + getD orders (at + j) 0 < length w
-  pub place-in : place + getD orders (at + j) 0 < length w
-  pub window-in : base + k < length w
+  pub name-in : names + getD orders (at + j) 0 < length work
+  pub place-in : place + getD orders (at + j) 0 < length work
+  pub window-in : base + k < length work
 
 module _
-    {orders w₀ w : List ℕ} {at n names place base j k : ℕ}
-    (f : RankedFit orders w₀ at n names place base) (i : Ranking orders w₀ w at n names base j k) (h : j < n)
+    {orders work₀ work : List ℕ} {at n names place base j k : ℕ}
+    (f : RankedFit orders work₀ at n names place base) (i : Ranking orders work₀ work at n names base j k) (h : j < n)
   where
     low : getD orders (at + j) 0 < n
     low = rw (part-at orders at n j h) (order-low n (part orders at n) (f .order) (getD (part orders at n) j 0) (in-getD (part orders at n) j (omega (arith, f .order .long))))
 
-    pub ranking-vertex : Vertex orders w at n names place base j k
+    pub ranking-vertex : Vertex orders work at n names place base j k
     ranking-vertex =
         let long = i .written .kept .long in
         record {
@@ -73,7 +73,7 @@ module _
           window-in = omega (arith, i .few, f .room);
         }
 
-    name-at : getD w (names + getD orders (at + j) 0) 0 ≡ getD (part w₀ names n) (getD orders (at + j) 0) 0
+    name-at : getD work (names + getD orders (at + j) 0) 0 ≡ getD (part work₀ names n) (getD orders (at + j) 0) 0
     name-at = read-at (f .names-there) (i .written .kept) (getD orders (at + j) 0) low
 
     one-more : part orders at (j + 1) ≡ part orders at j ++ (getD orders (at + j) 0 ∷ [])
@@ -83,33 +83,33 @@ module _
     v = getD orders (at + j) 0
 
     abbrev groups : List ℕ
-    groups = groupList (part w₀ names n)
+    groups = groupList (part work₀ names n)
 
     -- its place is written
-    abbrev w' : List ℕ
-    w' = set w (base + k) (getD w (place + v) 0)
+    abbrev work' : List ℕ
+    work' = set work (base + k) (getD work (place + v) 0)
 
     -- it is its own name: its place is counted
-    pub ranking-more : {k' : ℕ} → getD w (names + v) 0 ≡ v → k' ≡ k + 1 → Ranking orders w₀ w' at n names base (j + 1) k'
+    pub ranking-more : {k' : ℕ} → getD work (names + v) 0 ≡ v → k' ≡ k + 1 → Ranking orders work₀ work' at n names base (j + 1) k'
     ranking-more e ek =
-        let own : getD (part w₀ names n) v 0 ≡ v = sym name-at ∙ e in
-        let place-is : getD w (place + v) 0 ≡ placeOf groups v = read-at (f .place-there) (i .written .kept) v low ∙ f .places v low ∙ ap (placeOf groups) own in
-        let listed : among v groups ≡ true = name-listed (part w₀ names n) v (omega (arith, low, part-length w₀ names n (f .names-there .fits))) own in
+        let own : getD (part work₀ names n) v 0 ≡ v = sym name-at ∙ e in
+        let place-is : getD work (place + v) 0 ≡ placeOf groups v = read-at (f .place-there) (i .written .kept) v low ∙ f .places v low ∙ ap (placeOf groups) own in
+        let listed : among v groups ≡ true = name-listed (part work₀ names n) v (omega (arith, low, part-length work₀ names n (f .names-there .fits))) own in
         rw (ek, place-is) (record {
           few = omega (arith, i .few);
           written = rw (one-more, in-order-more (part orders at j) groups v listed) (written-more (placeOf groups v) (omega (arith, i .few)) (f .room) (i .written));
         })
 
     -- it is not: the next one takes its word
-    pub ranking-past : {k' : ℕ} → (getD w (names + v) 0 ≡ v → ⊥) → k' ≡ k → Ranking orders w₀ w' at n names base (j + 1) k'
+    pub ranking-past : {k' : ℕ} → (getD work (names + v) 0 ≡ v → ⊥) → k' ≡ k → Ranking orders work₀ work' at n names base (j + 1) k'
     ranking-past ne ek =
-        let other : among v groups ≡ false = is-false (among v groups) (λ t. ne (name-at ∙ listed-name (part w₀ names n) v t .1)) in
+        let other : among v groups ≡ false = is-false (among v groups) (λ t. ne (name-at ∙ listed-name (part work₀ names n) v t .1)) in
         rw ek (record {
           few = omega (arith, i .few);
-          written = rw (one-more, in-order-past (part orders at j) groups v other) (written-behind (getD w (place + v) 0) (omega (arith, i .few)) (i .written));
+          written = rw (one-more, in-order-past (part orders at j) groups v other) (written-behind (getD work (place + v) 0) (omega (arith, i .few)) (i .written));
         })
 
 pub ranking-all :
-    {orders w₀ w : List ℕ} {at n names base j k : ℕ} → j ≡ n → Ranking orders w₀ w at n names base j k
-    → Kept w₀ w base n × ((k ≤ n) × (part w base k ≡ inOrder (part orders at n) (groupList (part w₀ names n))))
+    {orders work₀ work : List ℕ} {at n names base j k : ℕ} → j ≡ n → Ranking orders work₀ work at n names base j k
+    → Kept work₀ work base n × ((k ≤ n) × (part work base k ≡ inOrder (part orders at n) (groupList (part work₀ names n))))
 ranking-all e i = (i .written .kept, (omega (arith, i .few), rw e at (i .written .holds)))

@@ -16,35 +16,35 @@ use Rattle.build_orders.specs.Fit.{RootsFit}
 use Rattle.build_orders.specs.Roots.{rowEmpty}
 
 -- j places of the sequence are gone through, and c of them written
-pub record Rooting (w₀ w : List ℕ) (starts k sequence base j c : ℕ) : Type 0 where
+pub record Rooting (work₀ work : List ℕ) (starts k sequence base j c : ℕ) : Type 0 where
   pub few : c ≤ j
-  pub written : Written w₀ w base k c (those (rowEmpty (part w₀ starts (k + 1))) (part w₀ sequence j))
+  pub written : Written work₀ work base k c (those (rowEmpty (part work₀ starts (k + 1))) (part work₀ sequence j))
 
-pub rooting-none : (w : List ℕ) (starts k sequence base : ℕ) → Rooting w w starts k sequence base 0 0
+pub rooting-none : (work : List ℕ) (starts k sequence base : ℕ) → Rooting work work starts k sequence base 0 0
 unfolding part
-rooting-none w starts k sequence base = record { few = omega arith; written = written-none w base k }
+rooting-none work starts k sequence base = record { few = omega arith; written = written-none work base k }
 
 -- the place at hand, and where its turn reads and writes
-pub record Place (w : List ℕ) (starts k sequence base j c : ℕ) : Type 0 where
-  pub place-in : sequence + j < length w
-  pub low : getD w (sequence + j) 0 < k
-  pub start-in : starts + getD w (sequence + j) 0 < length w
-  pub end-in : starts + (getD w (sequence + j) 0 + 1) < length w
-  pub window-in : base + c < length w
+pub record Place (work : List ℕ) (starts k sequence base j c : ℕ) : Type 0 where
+  pub place-in : sequence + j < length work
+  pub low : getD work (sequence + j) 0 < k
+  pub start-in : starts + getD work (sequence + j) 0 < length work
+  pub end-in : starts + (getD work (sequence + j) 0 + 1) < length work
+  pub window-in : base + c < length work
 
 module _
-    {w₀ w : List ℕ} {starts k sequence base j c : ℕ} (f : RootsFit w₀ starts k sequence base) (i : Rooting w₀ w starts k sequence base j c) (h : j < k)
+    {work₀ work : List ℕ} {starts k sequence base j c : ℕ} (f : RootsFit work₀ starts k sequence base) (i : Rooting work₀ work starts k sequence base j c) (h : j < k)
   where
     abbrev q : ℕ
-    q = getD w (sequence + j) 0
+    q = getD work (sequence + j) 0
 
-    q-is : q ≡ getD (part w₀ sequence k) j 0
+    q-is : q ≡ getD (part work₀ sequence k) j 0
     q-is = read-at (f .sequence-there) (i .written .kept) j h
 
     low : q < k
-    low = rw q-is (f .places j (omega (arith, part-length w₀ sequence k (f .sequence-there .fits))))
+    low = rw q-is (f .places j (omega (arith, part-length work₀ sequence k (f .sequence-there .fits))))
 
-    pub rooting-place : Place w starts k sequence base j c
+    pub rooting-place : Place work starts k sequence base j c
     rooting-place =
         let long = i .written .kept .long in
         record {
@@ -55,23 +55,23 @@ module _
           window-in = omega (arith, i .few, f .room);
         }
 
-    start-is : getD w (starts + q) 0 ≡ getD (part w₀ starts (k + 1)) q 0
+    start-is : getD work (starts + q) 0 ≡ getD (part work₀ starts (k + 1)) q 0
     start-is = read-at (f .starts-there) (i .written .kept) q (omega (arith, low))
 
-    end-is : getD w (starts + (q + 1)) 0 ≡ getD (part w₀ starts (k + 1)) (suc q) 0
-    end-is = read-at (f .starts-there) (i .written .kept) (q + 1) (omega (arith, low)) ∙ ap (λ z. getD (part w₀ starts (k + 1)) z 0) (add-one q)
+    end-is : getD work (starts + (q + 1)) 0 ≡ getD (part work₀ starts (k + 1)) (suc q) 0
+    end-is = read-at (f .starts-there) (i .written .kept) (q + 1) (omega (arith, low)) ∙ ap (λ z. getD (part work₀ starts (k + 1)) z 0) (add-one q)
 
     abbrev empty : ℕ → Bool
-    empty = rowEmpty (part w₀ starts (k + 1))
+    empty = rowEmpty (part work₀ starts (k + 1))
 
-    passed : those empty (part w₀ sequence (j + 1)) ≡ those empty (part w₀ sequence j) ++ those empty (q ∷ [])
+    passed : those empty (part work₀ sequence (j + 1)) ≡ those empty (part work₀ sequence j) ++ those empty (q ∷ [])
     passed =
-        ap (those empty) (part-more w₀ sequence j 0 (omega (arith, f .sequence-there .fits)) ∙ ap (λ z. part w₀ sequence j ++ (z ∷ [])) (part-at w₀ sequence k j h ∙ sym q-is))
-        ∙ those-append empty (part w₀ sequence j) (q ∷ [])
+        ap (those empty) (part-more work₀ sequence j 0 (omega (arith, f .sequence-there .fits)) ∙ ap (λ z. part work₀ sequence j ++ (z ∷ [])) (part-at work₀ sequence k j h ∙ sym q-is))
+        ∙ those-append empty (part work₀ sequence j) (q ∷ [])
 
     -- its row is empty: it is written
     pub rooting-more :
-        {w' : List ℕ} {c' : ℕ} → getD w (starts + (q + 1)) 0 ≡ getD w (starts + q) 0 → w' ≡ set w (base + c) q → c' ≡ c + 1 → Rooting w₀ w' starts k sequence base (j + 1) c'
+        {work' : List ℕ} {c' : ℕ} → getD work (starts + (q + 1)) 0 ≡ getD work (starts + q) 0 → work' ≡ set work (base + c) q → c' ≡ c + 1 → Rooting work₀ work' starts k sequence base (j + 1) c'
     rooting-more e ew ec =
         let yes-q : empty q ≡ true = eq-eqb _ _ (sym end-is ∙ e ∙ start-is) in
         rw (ew, ec) (record {
@@ -81,16 +81,16 @@ module _
 
     -- it is not: nothing is written
     pub rooting-past :
-        {w' : List ℕ} {c' : ℕ} → (getD w (starts + (q + 1)) 0 ≡ getD w (starts + q) 0 → ⊥) → w' ≡ w → c' ≡ c → Rooting w₀ w' starts k sequence base (j + 1) c'
+        {work' : List ℕ} {c' : ℕ} → (getD work (starts + (q + 1)) 0 ≡ getD work (starts + q) 0 → ⊥) → work' ≡ work → c' ≡ c → Rooting work₀ work' starts k sequence base (j + 1) c'
     rooting-past ne ew ec =
         let no-q : empty q ≡ false = ne-eqb _ _ (λ e. ne (end-is ∙ e ∙ sym start-is)) in
         rw (ew, ec) (record {
           few = omega (arith, i .few);
-          written = rw (passed, those-no empty q [] no-q, append-nil (those empty (part w₀ sequence j))) (i .written);
+          written = rw (passed, those-no empty q [] no-q, append-nil (those empty (part work₀ sequence j))) (i .written);
         })
 
 pub rooting-all :
-    {w₀ w : List ℕ} {starts k sequence base j c : ℕ} → j ≡ k → Rooting w₀ w starts k sequence base j c
-    → Kept w₀ w base k × ((c ≤ k) × (part w base c ≡ those (rowEmpty (part w₀ starts (k + 1))) (part w₀ sequence k)))
-rooting-all {w₀} {w} {starts} {k} {sequence} {base} {j} {c} e i =
-    (i .written .kept, (omega (arith, i .few), i .written .holds ∙ ap (λ z. those (rowEmpty (part w₀ starts (k + 1))) (part w₀ sequence z)) e))
+    {work₀ work : List ℕ} {starts k sequence base j c : ℕ} → j ≡ k → Rooting work₀ work starts k sequence base j c
+    → Kept work₀ work base k × ((c ≤ k) × (part work base c ≡ those (rowEmpty (part work₀ starts (k + 1))) (part work₀ sequence k)))
+rooting-all {work₀} {work} {starts} {k} {sequence} {base} {j} {c} e i =
+    (i .written .kept, (omega (arith, i .few), i .written .holds ∙ ap (λ z. those (rowEmpty (part work₀ starts (k + 1))) (part work₀ sequence z)) e))

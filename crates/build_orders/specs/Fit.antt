@@ -10,17 +10,17 @@ use Rattle.laws.specs.Laid.{Below}
 use Rattle.numbers.specs.Regions.{Outside}
 
 -- an order of the n vertices at `at`; of each vertex the name and the place of its group
-pub record RankedFit (orders w : List ℕ) (at n names place base : ℕ) : Type 0 where
+pub record RankedFit (orders work : List ℕ) (at n names place base : ℕ) : Type 0 where
   pub inside : at + n ≤ length orders
   pub order : Order n (part orders at n)
-  pub names-there : Outside w names n base n
-  pub place-there : Outside w place n base n
-  pub places : (v : ℕ) → v < n → getD (part w place n) v 0 ≡ placeOf (groupList (part w names n)) (getD (part w names n) v 0)
-  pub room : base + n ≤ length w
+  pub names-there : Outside work names n base n
+  pub place-there : Outside work place n base n
+  pub places : (v : ℕ) → v < n → getD (part work place n) v 0 ≡ placeOf (groupList (part work names n)) (getD (part work names n) v 0)
+  pub room : base + n ≤ length work
 
 -- where the rows of k places start, and a sequence of places
-pub record RootsFit (w : List ℕ) (starts k sequence base : ℕ) : Type 0 where
-  pub starts-there : Outside w starts (k + 1) base k
-  pub sequence-there : Outside w sequence k base k
-  pub places : Below k (part w sequence k)
-  pub room : base + k ≤ length w
+pub record RootsFit (work : List ℕ) (starts k sequence base : ℕ) : Type 0 where
+  pub starts-there : Outside work starts (k + 1) base k
+  pub sequence-there : Outside work sequence k base k
+  pub places : Below k (part work sequence k)
+  pub room : base + k ≤ length work

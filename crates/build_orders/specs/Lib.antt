@@ -1,5 +1,5 @@
--- What the contracts of this crate and of those above say of build's input, of stamped words, and of what is lent.
+-- What the contracts of this crate and of those above say of build's input, of words that lack a stamp, and of what is lent.
 pub mod Input
-pub mod Stamped
+pub mod Lacks
 pub mod Fit
 pub mod Roots

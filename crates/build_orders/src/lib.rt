@@ -7,8 +7,9 @@ ghost use Rattle.lineage.specs.Graph.{groupList};
 ghost use Rattle.lineage.specs.Labels.{inOrder};
 ghost use Rattle.lineage.specs.Calls.{badEdge, badOrder};
 ghost use Rattle.numbers.specs.Regions.{Kept};
+ghost use Rattle.numbers.specs.Stamped.{Stamped};
 ghost use Rattle.build_orders.specs.Input.{graphOf};
-ghost use Rattle.build_orders.specs.Stamped.{Stamped, lacks};
+ghost use Rattle.build_orders.specs.Lacks.{lacks};
 ghost use Rattle.build_orders.specs.Fit.{RankedFit, RootsFit};
 ghost use Rattle.build_orders.specs.Roots.{rowEmpty};
 
@@ -31,30 +32,30 @@ pub fn bad_edge(n: usize, sources: &[u32], targets: &[u32]) -> usize
 }
 
 // Stamps the word of each number below n that stands in the order at `at`; a number of n or more is passed over.
-fn stamp_order(orders: &[u32], at: usize, n: usize, stamp: u32, w: &mut [u32], base: usize)
+fn stamp_order(orders: &[u32], at: usize, n: usize, stamp: u32, work: &mut [u32], base: usize)
     requires { ⌜ at + n ≤ length (now orders) ⌝ }
-    requires { ⌜ base + n ≤ length (now w) ⌝ }
-    ensures { λ _. ⌜ Kept (now (w .entry)) (now (w .exit)) base n ⌝ }
-    ensures { λ _. ⌜ Stamped stamp (part (now (orders .entry)) at n) (part (now (w .entry)) base n) (part (now (w .exit)) base n) ⌝ }
+    requires { ⌜ base + n ≤ length (now work) ⌝ }
+    ensures { λ _. ⌜ Kept (now (work .entry)) (now (work .exit)) base n ⌝ }
+    ensures { λ _. ⌜ Stamped stamp (part (now (orders .entry)) at n) (part (now (work .entry)) base n) (part (now (work .exit)) base n) ⌝ }
 {
     let mut j = 0;
     while j < n {
         let v = orders[at + j] as usize;
         if v < n {
-            w[base + v] = stamp;
+            work[base + v] = stamp;
         }
         j += 1;
     }
 }
 
 // Whether one of the n words lacks the stamp.
-fn one_lacks(w: &[u32], base: usize, n: usize, stamp: u32) -> bool
-    requires { ⌜ base + n ≤ length (now w) ⌝ }
-    ensures { λ r. ⌜ r ≡ any (lacks stamp (part (now (w .entry)) base n)) (upto n) ⌝ }
+fn one_lacks(work: &[u32], base: usize, n: usize, stamp: u32) -> bool
+    requires { ⌜ base + n ≤ length (now work) ⌝ }
+    ensures { λ r. ⌜ r ≡ any (lacks stamp (part (now (work .entry)) base n)) (upto n) ⌝ }
 {
     let mut v = 0;
     while v < n {
-        if w[base + v] != stamp {
+        if work[base + v] != stamp {
             return true;
         }
         v += 1;
@@ -64,19 +65,19 @@ fn one_lacks(w: &[u32], base: usize, n: usize, stamp: u32) -> bool
 
 // The first order that is no permutation of 0 to n - 1; where there is none, d. Order i stamps the words of its numbers with i + 1, and is a permutation
 // where no word is without that stamp.
-pub fn bad_order(orders: &[u32], d: usize, n: usize, w: &mut [u32], base: usize) -> usize
+pub fn bad_order(orders: &[u32], d: usize, n: usize, work: &mut [u32], base: usize) -> usize
     requires { ⌜ length (now orders) ≡ d * n ⌝ }
     requires { ⌜ d < 2 ^ 32 ⌝ }
-    requires { ⌜ base + n ≤ length (now w) ⌝ }
+    requires { ⌜ base + n ≤ length (now work) ⌝ }
     ensures { λ r. ⌜ r ≡ firstOf (badOrder n (now (orders .entry))) (upto d) d ⌝ }
-    ensures { λ _. ⌜ Kept (now (w .entry)) (now (w .exit)) base n ⌝ }
+    ensures { λ _. ⌜ Kept (now (work .entry)) (now (work .exit)) base n ⌝ }
 {
-    numbers::clear_part(w, base, n);
+    numbers::clear_part(work, base, n);
     let mut i = 0;
     while i < d {
         let stamp = (i + 1) as u32;
-        stamp_order(orders, i * n, n, stamp, w, base);
-        if one_lacks(w, base, n, stamp) {
+        stamp_order(orders, i * n, n, stamp, work, base);
+        if one_lacks(work, base, n, stamp) {
             return i;
         }
         i += 1;
@@ -90,23 +91,23 @@ pub fn ranked(
     orders: &[u32],
     at: usize,
     n: usize,
-    w: &mut [u32],
+    work: &mut [u32],
     names: usize,
     place: usize,
     base: usize,
 ) -> usize
-    requires { ⌜ RankedFit (now orders) (now w) at n names place base ⌝ }
-    ensures { λ _. ⌜ Kept (now (w .entry)) (now (w .exit)) base n ⌝ }
+    requires { ⌜ RankedFit (now orders) (now work) at n names place base ⌝ }
+    ensures { λ _. ⌜ Kept (now (work .entry)) (now (work .exit)) base n ⌝ }
     ensures { λ r. ⌜ r ≤ n ⌝ }
-    ensures { λ r. ⌜ part (now (w .exit)) base r ≡ inOrder (part (now (orders .entry)) at n) (groupList (part (now (w .entry)) names n)) ⌝ }
+    ensures { λ r. ⌜ part (now (work .exit)) base r ≡ inOrder (part (now (orders .entry)) at n) (groupList (part (now (work .entry)) names n)) ⌝ }
 {
     let mut k = 0;
     let mut j = 0;
     while j < n {
         let v = orders[at + j];
         let i = v as usize;
-        let name = w[names + i];
-        w[base + k] = w[place + i];
+        let name = work[names + i];
+        work[base + k] = work[place + i];
         if name == v {
             k += 1;
         }
@@ -116,20 +117,20 @@ pub fn ranked(
 }
 
 // Of a sequence of k places those whose row is empty, the rows being told by where they start; returns how many they are.
-pub fn roots(w: &mut [u32], starts: usize, k: usize, sequence: usize, base: usize) -> usize
-    requires { ⌜ RootsFit (now w) starts k sequence base ⌝ }
-    ensures { λ _. ⌜ Kept (now (w .entry)) (now (w .exit)) base k ⌝ }
+pub fn roots(work: &mut [u32], starts: usize, k: usize, sequence: usize, base: usize) -> usize
+    requires { ⌜ RootsFit (now work) starts k sequence base ⌝ }
+    ensures { λ _. ⌜ Kept (now (work .entry)) (now (work .exit)) base k ⌝ }
     ensures { λ r. ⌜ r ≤ k ⌝ }
-    ensures { λ r. ⌜ part (now (w .exit)) base r ≡ those (rowEmpty (part (now (w .entry)) starts (k + 1))) (part (now (w .entry)) sequence k) ⌝ }
+    ensures { λ r. ⌜ part (now (work .exit)) base r ≡ those (rowEmpty (part (now (work .entry)) starts (k + 1))) (part (now (work .entry)) sequence k) ⌝ }
 {
     let mut c = 0;
     let mut j = 0;
     while j < k {
-        let q = w[sequence + j];
+        let q = work[sequence + j];
         let row = q as usize;
         let next = row + 1;
-        if w[starts + next] == w[starts + row] {
-            w[base + c] = q;
+        if work[starts + next] == work[starts + row] {
+            work[base + c] = q;
             c += 1;
         }
         j += 1;

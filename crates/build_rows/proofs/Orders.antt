@@ -11,7 +11,9 @@ use borrow.Author.Tests.{eqb-true}
 use Rattle.lineage.specs.Lists.{among, upto}
 use Rattle.lineage.specs.Labels.{Order}
 use Rattle.laws.proofs.Tests.{or-cases}
-use Rattle.laws.proofs.Lists.{in-append, in-left, in-right}
+use Rattle.laws.specs.Rising.{Distinct}
+use Rattle.laws.proofs.Lists.{in-append, in-left, in-right, in-upto, upto-low, length-upto}
+use Rattle.laws.proofs.Rising.{rises-upto, rises-distinct, pigeonhole}
 
 -- f of each number of the list, added up
 abbrev pub total : (ℕ → ℕ) → List ℕ → ℕ
@@ -70,3 +72,16 @@ order-low (suc k) xs o v h =
       | inl i ↦ omega (arith, ih (in-left v a b i))
       | inr i ↦ elim (or-cases (eqb v k) _ i) [ inl e ↦ omega (arith, eqb-true v k e) | inr j ↦ omega (arith, ih (in-right v a b j)) ]
     ]
+
+-- all numbers below n, and no other, each once
+pub order-from : (n : ℕ) (xs : List ℕ) → Distinct xs → ((v : ℕ) → among v xs ≡ true → v < n) → ((v : ℕ) → v < n → among v xs ≡ true) → Order n xs
+order-from n xs once low all = record {
+  long =
+      omega (
+        arith,
+        length-upto n,
+        pigeonhole xs (upto n) once (λ v i. in-upto n v (low v i)),
+        pigeonhole (upto n) xs (rises-distinct (upto n) (rises-upto n)) (λ v i. all v (upto-low n v i)),
+      );
+  all = all;
+}

@@ -18,7 +18,7 @@ fn is_single(x: u32, last: u32, p: u32) -> bool
 
 // Copies the entries of row p behind the first at words at out, without p and without repeats side by side, and returns how many words that makes.
 fn strip_row(
-    w: &mut [u32],
+    work: &mut [u32],
     values: usize,
     c: usize,
     from: usize,
@@ -27,23 +27,23 @@ fn strip_row(
     out: usize,
     at: usize,
 ) -> usize
-    requires { ⌜ EntriesFit (now w) values c from to out at ⌝ }
-    ensures { λ _. ⌜ Kept (now (w .entry)) (now (w .exit)) (out + at) (to - from) ⌝ }
+    requires { ⌜ EntriesFit (now work) values c from to out at ⌝ }
+    ensures { λ _. ⌜ Kept (now (work .entry)) (now (work .exit)) (out + at) (to - from) ⌝ }
     ensures { λ r. ⌜ r ≤ at + (to - from) ⌝ }
     ensures { λ r.
-        ⌜ part (now (w .exit)) out r
-        ≡ part (now (w .entry)) out at ++ singles p p (part (part (now (w .entry)) values c) from (to - from)) ⌝ }
+        ⌜ part (now (work .exit)) out r
+        ≡ part (now (work .entry)) out at ++ singles p p (part (part (now (work .entry)) values c) from (to - from)) ⌝ }
 {
     let mut n = at;
     let mut last = p;
     let mut e = from;
     while e < to {
-        let x = w[values + e];
+        let x = work[values + e];
         let single = is_single(x, last, p);
         last = x;
         e += 1;
         if single {
-            w[out + n] = x;
+            work[out + n] = x;
             n += 1;
         }
     }
@@ -51,24 +51,31 @@ fn strip_row(
 }
 
 // Lays out k rows at base without repeats side by side and without each row's own number, and returns how many of the c values are left.
-pub fn strip(w: &mut [u32], starts: usize, values: usize, c: usize, k: usize, base: usize) -> usize
-    requires { ⌜ RowsFit (now w) starts values c k base ⌝ }
+pub fn strip(
+    work: &mut [u32],
+    starts: usize,
+    values: usize,
+    c: usize,
+    k: usize,
+    base: usize,
+) -> usize
+    requires { ⌜ RowsFit (now work) starts values c k base ⌝ }
     requires { ⌜ k ≤ 2 ^ 32 ⌝ }
-    ensures { λ _. ⌜ Kept (now (w .entry)) (now (w .exit)) base (k + 1 + c) ⌝ }
+    ensures { λ _. ⌜ Kept (now (work .entry)) (now (work .exit)) base (k + 1 + c) ⌝ }
     ensures { λ r. ⌜ r ≤ c ⌝ }
     ensures { λ r.
-        ⌜ RowsAt (now (w .exit)) base k r (strippedRow (rowsIn (now (w .entry)) starts values c k)) ⌝ }
+        ⌜ RowsAt (now (work .exit)) base k r (strippedRow (rowsIn (now (work .entry)) starts values c k)) ⌝ }
 {
     let out = base + k + 1;
     let mut n = 0;
     let mut p = 0;
     while p < k {
-        let from = w[starts + p] as usize;
-        let to = w[starts + p + 1] as usize;
-        w[base + p] = n as u32;
-        n = strip_row(w, values, c, from, to, p as u32, out, n);
+        let from = work[starts + p] as usize;
+        let to = work[starts + p + 1] as usize;
+        work[base + p] = n as u32;
+        n = strip_row(work, values, c, from, to, p as u32, out, n);
         p += 1;
     }
-    w[base + k] = n as u32;
+    work[base + k] = n as u32;
     n
 }

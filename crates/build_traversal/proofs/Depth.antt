@@ -14,30 +14,30 @@ use Rattle.build_traversal.specs.Frames.{rowPlace, rowEnd}
 use Rattle.build_traversal.specs.Fit.{TraverseFit}
 use Rattle.build_traversal.proofs.Tasks.{rowList}
 
-module _ {w₀ : List ℕ} {starts values c roots q n base : ℕ} (fit : TraverseFit w₀ starts values c roots q n base) where
+module _ {work₀ : List ℕ} {starts values c roots q n base : ℕ} (fit : TraverseFit work₀ starts values c roots q n base) where
   abbrev entries : List ℕ
-  entries = part w₀ values c
+  entries = part work₀ values c
 
   abbrev R : List ℕ
-  R = part w₀ roots q
+  R = part work₀ roots q
 
   pub roots-long : length R ≡ q
-  roots-long = part-length w₀ roots q (fit .roots-there .fits)
+  roots-long = part-length work₀ roots q (fit .roots-there .fits)
 
   pub entries-long : length entries ≡ c
-  entries-long = part-length w₀ values c (fit .values-there .fits)
+  entries-long = part-length work₀ values c (fit .values-there .fits)
 
   -- the row at depth d: where it lies, and its numbers
   pub row-low : (d : ℕ) → Below n (rowList R entries d)
   row-low zero = fit .roots-low
   row-low (suc d) = fit .values-low
 
-  module _ {w : List ℕ} (k : Kept w₀ w base (6 * n)) where
-    pub row-at : (d at e : ℕ) → at ≡ rowPlace roots values d → e < length (rowList R entries d) → getD w (at + e) 0 ≡ getD (rowList R entries d) e 0
+  module _ {work : List ℕ} (k : Kept work₀ work base (6 * n)) where
+    pub row-at : (d at e : ℕ) → at ≡ rowPlace roots values d → e < length (rowList R entries d) → getD work (at + e) 0 ≡ getD (rowList R entries d) e 0
     row-at zero at e p h = rw p (read-at (fit .roots-there) k e (omega (arith, roots-long)))
     row-at (suc d) at e p h = rw p (read-at (fit .values-there) k e (omega (arith, entries-long)))
 
-    pub row-inside : (d at e : ℕ) → at ≡ rowPlace roots values d → e < length (rowList R entries d) → at + e < length w
+    pub row-inside : (d at e : ℕ) → at ≡ rowPlace roots values d → e < length (rowList R entries d) → at + e < length work
     row-inside zero at e p h = omega (arith, roots-long, fit .roots-there .fits, k .long)
     row-inside (suc d) at e p h = omega (arith, entries-long, fit .values-there .fits, k .long)
 
@@ -49,6 +49,6 @@ module _ {w₀ : List ℕ} {starts values c roots q n base : ℕ} (fit : Travers
   row-few zero = omega (arith, roots-long, fit .few-roots)
   row-few (suc d) = omega (arith, entries-long, fit .few-values)
 
-  pub end-low : (stack : List ℕ) (d : ℕ) → ((i : ℕ) → i < d → getD stack i 0 < n) → rowEnd (part w₀ starts (n + 1)) q stack d ≤ length (rowList R entries d)
+  pub end-low : (stack : List ℕ) (d : ℕ) → ((i : ℕ) → i < d → getD stack i 0 < n) → rowEnd (part work₀ starts (n + 1)) q stack d ≤ length (rowList R entries d)
   end-low stack zero h = omega (arith, roots-long)
   end-low stack (suc d) h = start-low (fit .laid) (suc (getD stack d 0)) (h d (omega arith))

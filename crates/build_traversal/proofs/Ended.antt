@@ -17,40 +17,40 @@ use Rattle.build_traversal.proofs.Machine.{Runs, nothing, tries, run-en
 use Rattle.build_traversal.proofs.Tasks.{tasks, under, tasks-over}
 use Rattle.build_traversal.proofs.Going.{Going, stateOf, held}
 
-module _ {w₀ w : List ℕ} {starts values c roots q n base d k e at end : ℕ} (fit : TraverseFit w₀ starts values c roots q n base) (g : Going w₀ w starts values c roots q n base d k e at end) where
-  run-through : d ≡ 0 → end ≤ e → Runs (rowsIn w₀ starts values c n) (tries (part w₀ roots q)) (record { marks = part w₀ base n; out = []; low = [] }) (stateOf w base n k)
-  run-through z h = g .goes (stateOf w base n k) (subst (λ ts. Runs (rowsIn w₀ starts values c n) ts (stateOf w base n k) (stateOf w base n k)) (sym over) nothing)
+module _ {work₀ work : List ℕ} {starts values c roots q n base d k e at end : ℕ} (fit : TraverseFit work₀ starts values c roots q n base) (g : Going work₀ work starts values c roots q n base d k e at end) where
+  run-through : d ≡ 0 → end ≤ e → Runs (rowsIn work₀ starts values c n) (tries (part work₀ roots q)) (record { marks = part work₀ base n; out = []; low = [] }) (stateOf work base n k)
+  run-through z h = g .goes (stateOf work base n k) (subst (λ ts. Runs (rowsIn work₀ starts values c n) ts (stateOf work base n k) (stateOf work base n k)) (sym over) nothing)
     where
       over :
-          tasks (part w₀ starts (n + 1)) (part w₀ values c) (part w₀ roots q) q (part w (base + n) n) (part w (base + 2 * n) n) (part w (base + 3 * n) n) d e ≡ []
+          tasks (part work₀ starts (n + 1)) (part work₀ values c) (part work₀ roots q) q (part work (base + n) n) (part work (base + 2 * n) n) (part work (base + 3 * n) n) d e ≡ []
       over =
-          tasks-over (part w₀ starts (n + 1)) (part w₀ values c) (part w₀ roots q) q (part w (base + n) n) (part w (base + 2 * n) n) (part w (base + 3 * n) n) d e (omega (arith, g .end-is))
-          ∙ ap (under (part w₀ starts (n + 1)) (part w₀ values c) (part w₀ roots q) q (part w (base + n) n) (part w (base + 2 * n) n) (part w (base + 3 * n) n)) z
+          tasks-over (part work₀ starts (n + 1)) (part work₀ values c) (part work₀ roots q) q (part work (base + n) n) (part work (base + 2 * n) n) (part work (base + 3 * n) n) d e (omega (arith, g .end-is))
+          ∙ ap (under (part work₀ starts (n + 1)) (part work₀ values c) (part work₀ roots q) q (part work (base + n) n) (part work (base + 2 * n) n) (part work (base + 3 * n) n)) z
 
   pub ended :
-      part w₀ base n ≡ replicate n 0 → d ≡ 0 → end ≤ e
-      → Kept w₀ w base (6 * n) × Traversed (traverse (rowsIn w₀ starts values c n) (suc n) (part w₀ roots q) []) w base n k
+      part work₀ base n ≡ replicate n 0 → d ≡ 0 → end ≤ e
+      → Kept work₀ work base (6 * n) × Traversed (traverse (rowsIn work₀ starts values c n) (suc n) (part work₀ roots q) []) work base n k
   ended clear z h =
-      let next-low = rows-low (part w₀ starts (n + 1)) (part w₀ values c) (fit .values-low) in
-      let roots-low = below-in n (part w₀ roots q) (fit .roots-low) in
-      let s = run-end next-low (traverse-visits n (part w₀ roots q) next-low roots-low) roots-low clear (run-through z h) in
+      let next-low = rows-low (part work₀ starts (n + 1)) (part work₀ values c) (fit .values-low) in
+      let roots-low = below-in n (part work₀ roots q) (fit .roots-low) in
+      let s = run-end next-low (traverse-visits n (part work₀ roots q) next-low roots-low) roots-low clear (run-through z h) in
       (g .kept, record { most = omega (arith, held fit g); out = ap (λ t. t .out) s; low = ap (λ t. t .low) s })
 
 -- what is lent still fits once the marks are cleared, and is what it was
-module _ {w w' : List ℕ} {starts values c roots q n base : ℕ} (fit : TraverseFit w starts values c roots q n base) (cleared : Kept w w' base n) where
-  wide : Kept w w' base (6 * n)
+module _ {work work' : List ℕ} {starts values c roots q n base : ℕ} (fit : TraverseFit work starts values c roots q n base) (cleared : Kept work work' base n) where
+  wide : Kept work work' base (6 * n)
   wide = kept-wider base (6 * n) (omega arith) (omega arith) cleared
 
-  starts-same : part w' starts (n + 1) ≡ part w starts (n + 1)
+  starts-same : part work' starts (n + 1) ≡ part work starts (n + 1)
   starts-same = kept-apart wide (fit .starts-there .apart)
 
-  values-same : part w' values c ≡ part w values c
+  values-same : part work' values c ≡ part work values c
   values-same = kept-apart wide (fit .values-there .apart)
 
-  roots-same : part w' roots q ≡ part w roots q
+  roots-same : part work' roots q ≡ part work roots q
   roots-same = kept-apart wide (fit .roots-there .apart)
 
-  pub fits-cleared : TraverseFit w' starts values c roots q n base
+  pub fits-cleared : TraverseFit work' starts values c roots q n base
   fits-cleared = record {
     laid = rw (starts-same, values-same) (fit .laid);
     values-low = rw values-same (fit .values-low);
@@ -65,7 +65,7 @@ module _ {w w' : List ℕ} {starts values c roots q n base : ℕ} (fit : Travers
   }
 
   pub traversed-all :
-      {w'' : List ℕ} {r : ℕ} → Kept w' w'' base (6 * n)
-      → Traversed (traverse (rowsIn w' starts values c n) (suc n) (part w' roots q) []) w'' base n r
-      → Kept w w'' base (6 * n) × Traversed (traverse (rowsIn w starts values c n) (suc n) (part w roots q) []) w'' base n r
+      {work'' : List ℕ} {r : ℕ} → Kept work' work'' base (6 * n)
+      → Traversed (traverse (rowsIn work' starts values c n) (suc n) (part work' roots q) []) work'' base n r
+      → Kept work work'' base (6 * n) × Traversed (traverse (rowsIn work starts values c n) (suc n) (part work roots q) []) work'' base n r
   traversed-all k t = (kept-then wide k, rw (starts-same, values-same, roots-same) at t)

@@ -1,20 +1,19 @@
 -- The low of the vertex that is finished r-th is its m: one more than how many were finished before it was entered.
 use mathlib.Core.Bool.{Bool, true, false, false≢true}
 use mathlib.Core.Path.{_≡_, refl, sym, ap, _∙_}
-use mathlib.Core.List.{List, _∷_, _++_, map}
+use mathlib.Core.List.{List, _∷_, _++_}
 use Prim.Native.Nat.{ℕ, suc, _+_, _<_}
 use native.Mathlib.Omega.{arith}
 use lib.Dec.{eqb}
 use lib.ListN.{length, getD, length-append, List·getD-append}
 use lib.Seq.{getD-append-add}
-use Rattle.lineage.specs.Lists.{among, upto, position, least}
-use Rattle.lineage.specs.Labels.{Forest, done, visit, finished, subtree, labelsBy}
+use Rattle.lineage.specs.Lists.{among, position}
+use Rattle.lineage.specs.Labels.{Forest, done, visit, finished}
 use Rattle.laws.proofs.Tests.{or-left}
-use Rattle.laws.proofs.Lists.{among-append, in-getD, table-at, position-low, position-left, position-past}
+use Rattle.laws.proofs.Lists.{among-append, in-getD, position-low, position-left, position-past}
 use Rattle.laws.specs.Rising.{Distinct}
 use Rattle.laws.proofs.Rising.{distinct-left, distinct-right, distinct-apart, position-getD}
 use Rattle.laws.specs.Visits.{before}
-use Rattle.laws.proofs.Ranks.{m-made}
 use Rattle.build_traversal.specs.Lows.{lows}
 
 lows-long : (b : ℕ) (f : Forest) → length (lows b f) ≡ length (finished f)
@@ -69,16 +68,3 @@ lows-by b (visit p below next) x once i =
 pub lows-at : (f : Forest) → Distinct (finished f) → (r : ℕ) → r < length (finished f) → getD (lows 0 f) r 0 ≡ suc (length (before (getD (finished f) r 0) f))
 lows-at f once r h =
     ap (λ j. getD (lows 0 f) j 0) (sym (position-getD (finished f) once r h)) ∙ lows-by 0 f (getD (finished f) r 0) once (in-getD (finished f) r h) ∙ omega arith
-
--- is the m of that vertex
-pub low-is-m :
-    (k : ℕ) (children : List (List ℕ)) (f : Forest) → Distinct (finished f) → ((p : ℕ) → among p (finished f) ≡ true → p < k)
-    → (r : ℕ) → r < length (finished f) → getD (labelsBy k children f .m) (getD (finished f) r 0) 0 ≡ getD (lows 0 f) r 0
-unfolding labelsBy
-low-is-m k children f once low r h =
-    let x = getD (finished f) r 0 in
-    let i : among x (finished f) ≡ true = in-getD (finished f) r h in
-    let e : ℕ → ℕ = λ p. getD (map (λ q. suc (position q (finished f))) (upto k)) p 0 in
-    table-at (λ q. least (e q) (map e (subtree q f))) k x 0 (low x i)
-    ∙ m-made f once x i e (λ q j. table-at (λ y. suc (position y (finished f))) k q 0 (low q j))
-    ∙ sym (lows-at f once r h)

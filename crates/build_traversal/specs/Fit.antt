@@ -7,14 +7,14 @@ use Rattle.laws.specs.Laid.{Below, Laid}
 use Rattle.numbers.specs.Regions.{Outside}
 
 -- n rows of c vertices and q roots lie outside the window of 6n words from base on
-pub record TraverseFit (w : List ℕ) (starts values c roots q n base : ℕ) : Type 0 where
-  pub laid : Laid (part w starts (n + 1)) (part w values c) n
-  pub values-low : Below n (part w values c)
-  pub roots-low : Below n (part w roots q)
-  pub starts-there : Outside w starts (n + 1) base (6 * n)
-  pub values-there : Outside w values c base (6 * n)
-  pub roots-there : Outside w roots q base (6 * n)
-  pub room : base + 6 * n ≤ length w
+pub record TraverseFit (work : List ℕ) (starts values c roots q n base : ℕ) : Type 0 where
+  pub laid : Laid (part work starts (n + 1)) (part work values c) n
+  pub values-low : Below n (part work values c)
+  pub roots-low : Below n (part work roots q)
+  pub starts-there : Outside work starts (n + 1) base (6 * n)
+  pub values-there : Outside work values c base (6 * n)
+  pub roots-there : Outside work roots q base (6 * n)
+  pub room : base + 6 * n ≤ length work
   pub few-values : c < 2 ^ 32
   pub few-roots : q < 2 ^ 32
   pub few : n < 2 ^ 32

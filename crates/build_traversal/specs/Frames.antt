@@ -6,11 +6,11 @@ use lib.ListN.{getD, set}
 
 -- v is entered at depth d, to come back to place e; low is one more than how many are out
 abbrev pub opened : List ℕ → ℕ → ℕ → ℕ → ℕ → ℕ → ℕ → List ℕ
-opened w base n d v e low = set (set (set (set w (base + v) 1) (base + n + d) v) (base + 2 * n + d) e) (base + 3 * n + d) low
+opened work base n d v e low = set (set (set (set work (base + v) 1) (base + n + d) v) (base + 2 * n + d) e) (base + 3 * n + d) low
 
 -- the vertex at depth d is left, as number k of those that are out
 abbrev pub closed : List ℕ → ℕ → ℕ → ℕ → ℕ → List ℕ
-closed w base n d k = set (set w (base + 4 * n + k) (getD w (base + n + d) 0)) (base + 5 * n + k) (getD w (base + 3 * n + d) 0)
+closed work base n d k = set (set work (base + 4 * n + k) (getD work (base + n + d) 0)) (base + 5 * n + k) (getD work (base + 3 * n + d) 0)
 
 -- where the row at a depth lies: the roots below the first frame, else the values of the rows
 abbrev pub rowPlace : ℕ → ℕ → ℕ → ℕ

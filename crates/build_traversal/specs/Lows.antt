@@ -12,7 +12,7 @@ lows b done = []
 lows b (visit p below next) = lows b below ++ (suc b ∷ lows (suc (b + length (finished below))) next)
 
 -- r vertices are finished: in the fifth region of n words from base on, and their lows in the sixth
-pub record Traversed (F : Forest) (w : List ℕ) (base n r : ℕ) : Type 0 where
+pub record Traversed (F : Forest) (work : List ℕ) (base n r : ℕ) : Type 0 where
   pub most : r ≤ n
-  pub out : part w (base + 4 * n) r ≡ finished F
-  pub low : part w (base + 5 * n) r ≡ lows 0 F
+  pub out : part work (base + 4 * n) r ≡ finished F
+  pub low : part work (base + 5 * n) r ≡ lows 0 F

@@ -12,32 +12,32 @@ ghost use Rattle.build_traversal.specs.Frames.{opened, closed, rowPlace,
 ghost use Rattle.build_traversal.specs.Fit.{TraverseFit};
 
 // Enters v at depth d: marks it, and notes the place e to come back to and low.
-fn enter(w: &mut [u32], base: usize, n: usize, d: usize, v: u32, e: u32, low: u32)
-    requires { ⌜ base + 6 * n ≤ length (now w) ⌝ }
+fn enter(work: &mut [u32], base: usize, n: usize, d: usize, v: u32, e: u32, low: u32)
+    requires { ⌜ base + 6 * n ≤ length (now work) ⌝ }
     requires { ⌜ v < n ⌝ }
     requires { ⌜ d < n ⌝ }
-    ensures { λ _. ⌜ now (w .exit) ≡ opened (now (w .entry)) base n d v e low ⌝ }
+    ensures { λ _. ⌜ now (work .exit) ≡ opened (now (work .entry)) base n d v e low ⌝ }
 {
     let at = v as usize;
-    w[base + at] = 1;
-    w[base + n + d] = v;
-    w[base + 2 * n + d] = e;
-    w[base + 3 * n + d] = low;
+    work[base + at] = 1;
+    work[base + n + d] = v;
+    work[base + 2 * n + d] = e;
+    work[base + 3 * n + d] = low;
 }
 
 // Leaves the vertex at depth d as number k of those that are out, and returns the place to come back to.
-fn leave(w: &mut [u32], base: usize, n: usize, d: usize, k: usize) -> u32
-    requires { ⌜ base + 6 * n ≤ length (now w) ⌝ }
+fn leave(work: &mut [u32], base: usize, n: usize, d: usize, k: usize) -> u32
+    requires { ⌜ base + 6 * n ≤ length (now work) ⌝ }
     requires { ⌜ d < n ⌝ }
     requires { ⌜ k < n ⌝ }
-    ensures { λ _. ⌜ now (w .exit) ≡ closed (now (w .entry)) base n d k ⌝ }
-    ensures { λ r. ⌜ r ≡ getD (now (w .entry)) (base + 2 * n + d) 0 ⌝ }
+    ensures { λ _. ⌜ now (work .exit) ≡ closed (now (work .entry)) base n d k ⌝ }
+    ensures { λ r. ⌜ r ≡ getD (now (work .entry)) (base + 2 * n + d) 0 ⌝ }
 {
-    let v = w[base + n + d];
-    let low = w[base + 3 * n + d];
-    let e = w[base + 2 * n + d];
-    w[base + 4 * n + k] = v;
-    w[base + 5 * n + k] = low;
+    let v = work[base + n + d];
+    let low = work[base + 3 * n + d];
+    let e = work[base + 2 * n + d];
+    work[base + 4 * n + k] = v;
+    work[base + 5 * n + k] = low;
     e
 }
 
@@ -49,23 +49,23 @@ fn row_place(roots: usize, values: usize, d: usize) -> usize
 }
 
 // Where the row at depth d ends.
-fn row_end(w: &[u32], starts: usize, q: usize, base: usize, n: usize, d: usize) -> usize
-    requires { ⌜ starts + (n + 1) ≤ length (now w) ⌝ }
-    requires { ⌜ base + 6 * n ≤ length (now w) ⌝ }
+fn row_end(work: &[u32], starts: usize, q: usize, base: usize, n: usize, d: usize) -> usize
+    requires { ⌜ starts + (n + 1) ≤ length (now work) ⌝ }
+    requires { ⌜ base + 6 * n ≤ length (now work) ⌝ }
     requires { ⌜ d ≤ n ⌝ }
-    requires { ⌜ ((i : ℕ) → i < d → getD (part (now w) (base + n) n) i 0 < n) ⌝ }
-    ensures { λ r. ⌜ r ≡ rowEnd (part (now (w .entry)) starts (n + 1)) q (part (now (w .entry)) (base + n) n) d ⌝ }
+    requires { ⌜ ((i : ℕ) → i < d → getD (part (now work) (base + n) n) i 0 < n) ⌝ }
+    ensures { λ r. ⌜ r ≡ rowEnd (part (now (work .entry)) starts (n + 1)) q (part (now (work .entry)) (base + n) n) d ⌝ }
 {
     if d == 0 {
         return q;
     }
-    let v = w[base + n + (d - 1)] as usize;
-    w[starts + v + 1] as usize
+    let v = work[base + n + (d - 1)] as usize;
+    work[starts + v + 1] as usize
 }
 
 // Goes through the rows from the roots, with no vertex marked, and returns how many vertices are finished.
 fn run(
-    w: &mut [u32],
+    work: &mut [u32],
     starts: usize,
     values: usize,
     c: usize,
@@ -74,13 +74,13 @@ fn run(
     n: usize,
     base: usize,
 ) -> usize
-    requires { ⌜ TraverseFit (now w) starts values c roots q n base ⌝ }
-    requires { ⌜ part (now w) base n ≡ replicate n 0 ⌝ }
-    ensures { λ _. ⌜ Kept (now (w .entry)) (now (w .exit)) base (6 * n) ⌝ }
+    requires { ⌜ TraverseFit (now work) starts values c roots q n base ⌝ }
+    requires { ⌜ part (now work) base n ≡ replicate n 0 ⌝ }
+    ensures { λ _. ⌜ Kept (now (work .entry)) (now (work .exit)) base (6 * n) ⌝ }
     ensures { λ r.
         ⌜ Traversed
-        (traverse (rowsIn (now (w .entry)) starts values c n) (suc n) (part (now (w .entry)) roots q) [])
-        (now (w .exit))
+        (traverse (rowsIn (now (work .entry)) starts values c n) (suc n) (part (now (work .entry)) roots q) [])
+        (now (work .exit))
         base
         n
         r ⌝ }
@@ -92,22 +92,22 @@ fn run(
     let mut end = q;
     loop {
         if e < end {
-            let v = w[at + e];
+            let v = work[at + e];
             e += 1;
             let i = v as usize;
-            if w[base + i] == 0 {
-                enter(w, base, n, d, v, e as u32, (k + 1) as u32);
+            if work[base + i] == 0 {
+                enter(work, base, n, d, v, e as u32, (k + 1) as u32);
                 d += 1;
-                e = w[starts + i] as usize;
+                e = work[starts + i] as usize;
                 at = values;
-                end = w[starts + i + 1] as usize;
+                end = work[starts + i + 1] as usize;
             }
         } else if d > 0 {
             d -= 1;
-            e = leave(w, base, n, d, k) as usize;
+            e = leave(work, base, n, d, k) as usize;
             k += 1;
             at = row_place(roots, values, d);
-            end = row_end(w, starts, q, base, n, d);
+            end = row_end(work, starts, q, base, n, d);
         } else {
             return k;
         }
@@ -117,7 +117,7 @@ fn run(
 // The traversal of n rows of c vertices from q roots, in the 6n words from base on: returns how many vertices are finished; they stand in the fifth region of n words,
 // and in the sixth, for each, one more than how many were finished before it was entered.
 pub fn traverse(
-    w: &mut [u32],
+    work: &mut [u32],
     starts: usize,
     values: usize,
     c: usize,
@@ -126,16 +126,16 @@ pub fn traverse(
     n: usize,
     base: usize,
 ) -> usize
-    requires { ⌜ TraverseFit (now w) starts values c roots q n base ⌝ }
-    ensures { λ _. ⌜ Kept (now (w .entry)) (now (w .exit)) base (6 * n) ⌝ }
+    requires { ⌜ TraverseFit (now work) starts values c roots q n base ⌝ }
+    ensures { λ _. ⌜ Kept (now (work .entry)) (now (work .exit)) base (6 * n) ⌝ }
     ensures { λ r.
         ⌜ Traversed
-        (traverse (rowsIn (now (w .entry)) starts values c n) (suc n) (part (now (w .entry)) roots q) [])
-        (now (w .exit))
+        (traverse (rowsIn (now (work .entry)) starts values c n) (suc n) (part (now (work .entry)) roots q) [])
+        (now (work .exit))
         base
         n
         r ⌝ }
 {
-    numbers::clear_part(w, base, n);
-    run(w, starts, values, c, roots, q, n, base)
+    numbers::clear_part(work, base, n);
+    run(work, starts, values, c, roots, q, n, base)
 }

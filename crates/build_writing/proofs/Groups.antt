@@ -10,50 +10,17 @@ use Rattle.laws.proofs.Parts.{part-length}
 use Rattle.numbers.specs.Put.{put}
 use Rattle.numbers.proofs.Written.{written-long}
 use Rattle.stored_header.specs.declared.Layout.{Layout}
-use Rattle.stored_header.specs.Header.{counts, layoutBy, headerOf}
-use Rattle.stored.proofs.Offsets.{offsets-last, putSections, sections-put}
+use Rattle.stored_header.specs.Header.{counts, headerOf, Sited}
+use Rattle.stored_header.proofs.Laid.{sited-by}
+use Rattle.stored.proofs.Offsets.{putSections, sections-put}
 use Rattle.build_writing.specs.Words.{groupSections}
 use Rattle.build_writing.specs.Fit.{GroupsFit}
 use Rattle.build_writing.proofs.Behind.{section-put}
 
--- where each section starts
-pub record Starts (l : Layout) : Type 0 where
-  pub names-at : l .names ≡ 48
-  pub groups-at : l .groups ≡ l .names + l .width * l .n
-  pub levels-at : l .levels ≡ l .groups + l .width * l .k
-  pub starts-at : l .starts ≡ l .levels + l .width * l .k
-  pub children-at : l .children ≡ l .starts + l .width * (l .k + 1)
-  pub labels-at : l .labels ≡ l .children + l .width * l .c
-
-pub layout-starts : (l : Layout) → l ≡ layoutBy (l .width) (counts (l .n) (l .k) (l .c) (l .d)) → Starts l
-layout-starts l e = record {
-  names-at = names;
-  groups-at = groups ∙ ap (λ z. z + l .width * l .n) (sym names);
-  levels-at = levels ∙ ap (λ z. z + l .width * l .k) (sym groups);
-  starts-at = starts ∙ ap (λ z. z + l .width * l .k) (sym levels);
-  children-at = children ∙ ap (λ z. z + l .width * (l .k + 1)) (sym starts);
-  labels-at = ap (λ (z : Layout). z .labels) e ∙ ap (λ z. z + l .width * l .c) (sym children);
-}
-  where
-    names : l .names ≡ 48
-    names = ap (λ (z : Layout). z .names) e
-
-    groups : l .groups ≡ 48 + l .width * l .n
-    groups = ap (λ (z : Layout). z .groups) e
-
-    levels : l .levels ≡ 48 + l .width * l .n + l .width * l .k
-    levels = ap (λ (z : Layout). z .levels) e
-
-    starts : l .starts ≡ 48 + l .width * l .n + l .width * l .k + l .width * l .k
-    starts = ap (λ (z : Layout). z .starts) e
-
-    children : l .children ≡ 48 + l .width * l .n + l .width * l .k + l .width * l .k + l .width * (l .k + 1)
-    children = ap (λ (z : Layout). z .children) e
-
 module _ {out : List ℕ} {form : ℕ} {l : Layout} {words : List ℕ} {names groups levels starts children : ℕ} (fit : GroupsFit out form l words names groups levels starts children) where
-  -- the offsets of the sections, from the layout
-  pub fit-starts : Starts l
-  fit-starts = layout-starts l (fit .laid)
+  -- where each section starts
+  pub fit-sited : Sited l
+  fit-sited = sited-by l (l .width) (counts (l .n) (l .k) (l .c) (l .d)) (fit .laid)
 
   behind : (from count offset next : ℕ) → from + count ≤ length words → next ≡ offset + l .width * count → next ≡ offset + l .width * length (part words from count)
   behind from count offset next h e = rw (part-length words from count h) e
@@ -68,7 +35,7 @@ module _ {out : List ℕ} {form : ℕ} {l : Layout} {words : List ℕ} {names gr
       → t₅ ≡ put t₄ (l .children) (written (l .width) (part words children (l .c)))
       → t₅ ≡ put out 0 (written 4 (headerOf form l) ++ joined (map (written (l .width)) (groupSections words l names groups levels starts children)))
   groups-put t₀ t₁ t₂ t₃ t₄ t₅ e₀ e₁ e₂ e₃ e₄ e₅ =
-      let at : Starts l = fit-starts in
+      let at : Sited l = fit-sited in
       let w : ℕ = l .width in
       let x₁ : List ℕ = part words names (l .n) in
       let x₂ : List ℕ = part words groups (l .k) in
@@ -89,4 +56,4 @@ module _ {out : List ℕ} {form : ℕ} {l : Layout} {words : List ℕ} {names gr
       (section-put w t₃ t₄ t₅ x₄ (x₅ ∷ []) (l .starts) (l .starts) (l .children) e₄ refl children-next
       (section-put w t₄ t₅ t₅ x₅ [] (l .children) (l .children) (l .labels) e₅ refl labels-next refl))))
       ∙ ap (λ (z : List ℕ). putSections w z 48 X) e₀
-      ∙ sections-put w header X out 48 long (omega (arith, offsets-last w header X 48 long, fit .room))
+      ∙ sections-put w header X out 48 long

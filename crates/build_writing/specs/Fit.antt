@@ -5,6 +5,7 @@ use Prim.Native.Nat.{ℕ, _+_, _*_, _^_, _≤_, _<_}
 use lib.ListN.{length}
 use Rattle.lineage.specs.Lists.{Every}
 use Rattle.lineage.specs.Numbers.{Width}
+use Rattle.numbers.specs.Bounds.{vertexBound}
 use Rattle.stored_header.specs.declared.Layout.{Layout}
 use Rattle.stored_header.specs.Header.{counts, layoutBy, headerOf}
 
@@ -24,7 +25,7 @@ pub record LabellingFit (out : List ℕ) (at w : ℕ) (words : List ℕ) (s m e 
   pub m-in : m + k ≤ length words
   pub e-in : e + k ≤ length words
   pub ranks-in : byRank + k ≤ length words
-  pub few : k ≤ 200000
+  pub few : k ≤ vertexBound
 
 -- a layout that is laid out by its own counts, all of whose numbers are of 32 bits; and the five sections before the labels
 pub record GroupsFit (out : List ℕ) (form : ℕ) (l : Layout) (words : List ℕ) (names groups levels starts children : ℕ) : Type 0 where

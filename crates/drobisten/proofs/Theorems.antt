@@ -1,5 +1,6 @@
 -- What a host may rely on. Its numbers are a function of what was lent, so two results that the contracts allow are equal. No refusal has the number 0, so the
--- refusal's number tells a refusal from an answer, and the outcome of the definitions is read off the numbers; yes is then 1 exactly where a path exists.
+-- refusal's number tells a refusal from an answer, and the outcome of the definitions is read off the numbers; yes is then 1 exactly where a path exists, and
+-- the labelling is the first that decides.
 use mathlib.Core.Bool.{Bool, true, false, cond}
 use mathlib.Core.Logic.{_↔_, Iff·trans}
 use mathlib.Core.Path.{_≡_, refl, sym, ap, _∙_}
@@ -12,13 +13,15 @@ use borrow.Author.Tests.{eqb-true, eq-eqb, ne-eqb}
 use Rattle.lineage.specs.Graph.{Reaches}
 use Rattle.lineage.specs.Index.{Made}
 use Rattle.lineage.specs.Stored.{Counts, countsIn}
-use Rattle.lineage.specs.Question.{answer}
+use Rattle.lineage.specs.Question.{placeIn, answer}
 use Rattle.lineage.specs.Calls.{Outcome, refused, answered, formChecks, contentsCheck, openAnswer, openMarks, indexIn, askEarly, Said, saidOf, askAnswer, askMarks}
-use Rattle.ask.proofs.Theorems.{asked-right}
+use Rattle.laws_answers.specs.Answers.{Deciding}
+use Rattle.stored_header.specs.Checks.{Told}
+use Rattle.stored_header.proofs.Checks.{outcome-told}
+use Rattle.ask.proofs.Theorems.{asked-right, asked-deciding}
 use Rattle.drobisten.specs.declared.DrobistenOpened.{DrobistenOpened}
 use Rattle.drobisten.specs.declared.DrobistenAsked.{DrobistenAsked}
 use Rattle.drobisten.specs.Host.{hostOpened, hostAsked, openedBy, askedBy}
-use Rattle.ask.proofs.Words.{Told, outcome-told}
 
 -- a refusal's number is above 0; of an answer nothing is asked
 abbrev Some : ℕ → ℕ → Type 0
@@ -33,26 +36,27 @@ opened-back : (o : Outcome Counts) → Told Some Any o → openedBy (hostOpened 
 opened-back (refused number extra) some = rw (ne-eqb number 0 (λ e. omega arith)) refl
 opened-back (answered a) some = refl
 
-yes-back : (says : Bool) (reason opened : ℕ) → askedBy (hostAsked (answered (record { says = says; reason = reason; opened = opened }))) ≡ answered (record { says = says; reason = reason; opened = opened })
-yes-back true reason opened = refl
-yes-back false reason opened = refl
+yes-back : (says : Bool) (reason opened deciding : ℕ) → let s : Said = record { says = says; reason = reason; opened = opened; deciding = deciding } in
+    askedBy (hostAsked (answered s)) ≡ answered s
+yes-back true reason opened deciding = refl
+yes-back false reason opened deciding = refl
 
 asked-back : (o : Outcome Said) → Told Some Any o → askedBy (hostAsked o) ≡ o
 asked-back (refused number extra) some = rw (ne-eqb number 0 (λ e. omega arith)) refl
-asked-back (answered s) some = yes-back (s .says) (s .reason) (s .opened)
+asked-back (answered s) some = yes-back (s .says) (s .reason) (s .opened) (s .deciding)
 
 -- so are the outcomes that the calls give
 pub opened-read : (b : List ℕ) (m : ℕ) → openedBy (hostOpened (openAnswer b m)) ≡ openAnswer b m
 unfolding openAnswer
 opened-read b m =
     opened-back (openAnswer b m)
-    (outcome-told Some Any (formChecks b m ++ (contentsCheck b ∷ [])) (countsIn b) (omega arith, (omega arith, (omega arith, (omega arith, (omega arith, tt))))) tt)
+    (outcome-told (countsIn b) Some Any (formChecks b m ++ (contentsCheck b ∷ [])) (omega arith, (omega arith, (omega arith, (omega arith, (omega arith, tt))))) tt)
 
 pub asked-read : (b : List ℕ) (u v m : ℕ) → askedBy (hostAsked (askAnswer b u v m)) ≡ askAnswer b u v m
 unfolding askAnswer
 asked-read b u v m =
     asked-back (askAnswer b u v m)
-    (outcome-told Some Any (askEarly b u v m ++ (contentsCheck b ∷ [])) (saidOf (answer (indexIn b) u v))
+    (outcome-told (saidOf (answer (indexIn b) u v)) Some Any (askEarly b u v m ++ (contentsCheck b ∷ []))
     (omega arith, (omega arith, (omega arith, (omega arith, (omega arith, (omega arith, (omega arith, tt))))))) tt)
 
 -- what `drobisten_open` and `drobisten_ask` may return and leave, by their contracts
@@ -71,12 +75,20 @@ opened-once A B = (A .returns ∙ sym (B .returns), A .leaves ∙ sym (B .leaves
 pub asked-once : {b : List ℕ} {u v : ℕ} {marks : List ℕ} {r r' : DrobistenAsked} {m m' : List ℕ} → Asks b u v marks r m → Asks b u v marks r' m' → (r ≡ r') × (m ≡ m')
 asked-once A B = (A .returns ∙ sym (B .returns), A .leaves ∙ sym (B .leaves))
 
--- yes is 1 exactly where a path leads from source to target, in whatever graph yields the bytes
-pub host-right :
-    {b : List ℕ} {u v : ℕ} {marks : List ℕ} {r : DrobistenAsked} {m : List ℕ} → Asks b u v marks r m → r .refusal ≡ 0 → (M : Made (indexIn b))
-    → (r .yes ≡ 1) ↔ Reaches (M .graph) u v
-host-right {b} {u} {v} {marks} {r} A none M =
-    let s : Said = record { says = eqb (r .yes) 1; reason = r .reason; opened = r .opened } in
-    let e : askAnswer b u v (length marks) ≡ answered s =
-    sym (asked-read b u v (length marks)) ∙ ap askedBy (sym (A .returns)) ∙ ap (λ (x : ℕ). cond (eqb x 0) (answered s) (refused x (r .extra))) none in
-    Iff·trans (eq-eqb (r .yes) 1, eqb-true (r .yes) 1) (asked-right b u v marks s e M)
+-- Of an answer, which is where the refusal is 0.
+module _ {b : List ℕ} {u v : ℕ} {marks : List ℕ} {r : DrobistenAsked} {m : List ℕ} (A : Asks b u v marks r m) (none : r .refusal ≡ 0) where
+  -- what its numbers say
+  abbrev said : Said
+  said = record { says = eqb (r .yes) 1; reason = r .reason; opened = r .opened; deciding = r .labelling }
+
+  answer-read : askAnswer b u v (length marks) ≡ answered said
+  answer-read =
+      sym (asked-read b u v (length marks)) ∙ ap askedBy (sym (A .returns)) ∙ ap (λ (x : ℕ). cond (eqb x 0) (answered said) (refused x (r .extra))) none
+
+  -- yes is 1 exactly where a path leads from source to target, in whatever graph yields the bytes
+  pub host-right : (M : Made (indexIn b)) → (r .yes ≡ 1) ↔ Reaches (M .graph) u v
+  host-right M = Iff·trans (eq-eqb (r .yes) 1, eqb-true (r .yes) 1) (asked-right b u v marks said answer-read M)
+
+  -- the labelling is the first whose interval settled the answer
+  pub host-deciding : Deciding (indexIn b) (placeIn (indexIn b) u) (placeIn (indexIn b) v) (r .reason) (r .labelling)
+  host-deciding = asked-deciding b u v marks said answer-read

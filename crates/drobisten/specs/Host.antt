@@ -11,14 +11,14 @@ abbrev pub hostOpened : Outcome Counts → DrobistenOpened
 hostOpened (refused number extra) = record { refusal = number; extra = extra; n = 0; k = 0; c = 0; d = 0 }
 hostOpened (answered a) = record { refusal = 0; extra = 0; n = a .n; k = a .k; c = a .c; d = a .d }
 
--- a refusal with its extra number, or yes (1) or no (0), the reason, and the number of groups opened
+-- a refusal with its extra number, or yes (1) or no (0), the reason, the number of groups opened, and the number of the labelling that decided
 abbrev pub hostAsked : Outcome Said → DrobistenAsked
-hostAsked (refused number extra) = record { refusal = number; extra = extra; yes = 0; reason = 0; opened = 0 }
-hostAsked (answered s) = record { refusal = 0; extra = 0; yes = cond (s .says) 1 0; reason = s .reason; opened = s .opened }
+hostAsked (refused number extra) = record { refusal = number; extra = extra; yes = 0; reason = 0; opened = 0; labelling = 0 }
+hostAsked (answered s) = record { refusal = 0; extra = 0; yes = cond (s .says) 1 0; reason = s .reason; opened = s .opened; labelling = s .deciding }
 
 -- how a host reads them: no refusal has the number 0
 abbrev pub openedBy : DrobistenOpened → Outcome Counts
 openedBy r = cond (eqb (r .refusal) 0) (answered (record { n = r .n; k = r .k; c = r .c; d = r .d })) (refused (r .refusal) (r .extra))
 
 abbrev pub askedBy : DrobistenAsked → Outcome Said
-askedBy r = cond (eqb (r .refusal) 0) (answered (record { says = eqb (r .yes) 1; reason = r .reason; opened = r .opened })) (refused (r .refusal) (r .extra))
+askedBy r = cond (eqb (r .refusal) 0) (answered (record { says = eqb (r .yes) 1; reason = r .reason; opened = r .opened; deciding = r .labelling })) (refused (r .refusal) (r .extra))

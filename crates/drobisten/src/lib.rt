@@ -25,6 +25,7 @@ pub struct DrobistenAsked {
     pub yes: u32,
     pub reason: u32,
     pub opened: u32,
+    pub labelling: u32,
 }
 
 // `open` for the host.
@@ -37,14 +38,14 @@ pub extern "C" fn drobisten_open(index: &[u8], marks: &mut [u8]) -> DrobistenOpe
         Opened::Index { n, k, c, d } => DrobistenOpened {
             refusal: 0,
             extra: 0,
-            n: n as u32,
-            k: k as u32,
-            c: c as u32,
-            d: d as u32,
+            n,
+            k,
+            c,
+            d,
         },
         Opened::Refused { number, extra } => DrobistenOpened {
-            refusal: number as u32,
-            extra: extra as u32,
+            refusal: number,
+            extra,
             n: 0,
             k: 0,
             c: 0,
@@ -69,19 +70,22 @@ pub extern "C" fn drobisten_ask(
             says,
             reason,
             opened,
+            deciding,
         } => DrobistenAsked {
             refusal: 0,
             extra: 0,
             yes: says as u32,
             reason,
             opened,
+            labelling: deciding,
         },
         Asked::Refused { number, extra } => DrobistenAsked {
-            refusal: number as u32,
-            extra: extra as u32,
+            refusal: number,
+            extra,
             yes: 0,
             reason: 0,
             opened: 0,
+            labelling: 0,
         },
     }
 }

@@ -1,6 +1,7 @@
 -- Tests and lists.
 pub mod Tests
 pub mod Lists
+pub mod Passed
 pub mod Every
 pub mod Parts
 pub mod Joined

@@ -1,4 +1,4 @@
--- Lists of numbers: members, filters, tests of all, the numbers below n and tables over them, positions, least and greatest. Each is an induction on the
+-- Lists of numbers: members, filters, tests of all, the numbers below n and tables over them, positions, least and greatest, marks. Each is an induction on the
 -- list, with a case for how the test of the head comes out.
 use mathlib.Core.Bool.{Bool, true, false, not, _||_, false≢true, or-false, or-comm, or-assoc}
 use mathlib.Core.Logic.{_⊎_, inl, inr}
@@ -9,10 +9,10 @@ use native.Mathlib.Nat.{not-suc-le-zero}
 use native.Mathlib.Decide.{ℕ-discrete, decLt}
 use native.Mathlib.Omega.{arith}
 use lib.Dec.{eqb}
-use lib.ListN.{length, getD, length-append, length-map, List·getD-append}
+use lib.ListN.{length, getD, set, length-append, length-map, List·getD-append}
 use lib.Seq.{getD-at, ext-getD}
 use borrow.Author.Tests.{eqb-true, eq-eqb}
-use Rattle.lineage.specs.Lists.{upto, any, allBelow, among, those, position, least, greatest, sameList}
+use Rattle.lineage.specs.Lists.{upto, any, allBelow, among, those, position, least, greatest, sameList, ones}
 use Rattle.laws.proofs.Tests.{or-left, or-right, or-cases, and-both, and-left, and-right, clash, is-false, or-false-left, or-false-right}
 
 -- members of a list joined of two
@@ -315,3 +315,9 @@ pub greatest-in : (xs : List ℕ) (i : ℕ) → i < length xs → getD xs i 0 �
 greatest-in [] i h = absurd (not-suc-le-zero h)
 greatest-in (x ∷ xs) zero h = omega arith
 greatest-in (x ∷ xs) (suc i) h = omega (arith, greatest-in xs i (omega arith))
+
+-- a mark more
+pub ones-set : (m : List ℕ) (i : ℕ) → i < length m → eqb (getD m i 0) 1 ≡ false → ones (set m i 1) ≡ suc (ones m)
+ones-set [] i h f = absurd (omega arith)
+ones-set (x ∷ xs) zero h f = rw f (omega arith)
+ones-set (x ∷ xs) (suc i) h f = omega (arith, ones-set xs i (omega arith) f)

@@ -6,16 +6,16 @@ use mathlib.Core.Path.{_≡_, refl, sym, ap, ap₂, subst, _∙_}
 use mathlib.Core.List.{List, [], _∷_, map}
 use Prim.Native.Nat.{ℕ, _<_}
 use native.Mathlib.Omega.{arith}
-use lib.ListN.{length}
+use lib.ListN.{length, getD}
 use Rattle.lineage.specs.Lists.{Every}
 use Rattle.lineage.specs.Graph.{Graph, Ends, Reaches, Condensed, condense}
 use Rattle.lineage.specs.Labels.{Order, Labelling, labelling}
 use Rattle.lineage.specs.Index.{Index, indexBy, indexOf, Made}
 use Rattle.lineage.specs.Question.{placeIn}
 use Rattle.lineage.specs.Sound.{sound}
-use Rattle.laws.specs.Leads.{Down}
+use Rattle.laws.specs.Leads.{Down, OneGroup}
 use Rattle.laws.specs.Sound.{SoundLabelling, SoundGroups, Sound}
-use Rattle.laws.proofs.Names.{names-long}
+use Rattle.laws.proofs.Names.{name-one, names-long, name-at}
 use Rattle.laws.proofs.Condensed.{groups-sound}
 use Rattle.laws.proofs.Paths.{paths-exactly}
 use Rattle.laws.proofs.Labelled.{labelling-sound}
@@ -67,11 +67,21 @@ sound-exactly I = (sound-made I, λ M. subst Sound (M .yields) (made-sound (M .g
 pub sound-is-made : (I : Index) → (sound I ≡ true) ↔ Made I
 sound-is-made I = ((λ h. sound-made I (sound-decides I .0 h)), λ M. sound-decides I .1 (sound-exactly I .1 M))
 
--- of every graph that yields the index: it has as many vertices as the index has names, and its paths are those down the index's children
+-- of every graph that yields the index: it has as many vertices as the index has names, its groups are the vertices of one name, and its paths those down the
+-- index's children
 module _ {I : Index} (M : Made I) where
   pub made-long : length (I .names) ≡ M .graph .n
   unfolding indexOf indexBy condense
   made-long = ap (λ (J : Index). length (J .names)) (sym (M .yields)) ∙ names-long (M .graph) (M .ends)
+
+  pub made-groups :
+      (u v : ℕ) → u < length (I .names) → v < length (I .names) → (getD (I .names) u 0 ≡ getD (I .names) v 0) ↔ OneGroup (M .graph) u v
+  unfolding indexOf indexBy condense
+  made-groups u v hu hv =
+      let bu : u < M .graph .n = omega (arith, made-long) in
+      let bv : v < M .graph .n = omega (arith, made-long) in
+      subst (λ (J : Index). (getD (J .names) u 0 ≡ getD (J .names) v 0) ↔ OneGroup (M .graph) u v) (M .yields)
+      (rw (name-at (M .graph) (M .ends) u bu, name-at (M .graph) (M .ends) v bv) (name-one (M .graph) (M .ends) u v bu bv))
 
   pub made-paths :
       (u v : ℕ) → u < length (I .names) → v < length (I .names) → Reaches (M .graph) u v ↔ Down (I .children) (placeIn I u) (placeIn I v)

@@ -23,7 +23,7 @@ reached-low ends b stay = b
 reached-low ends b (step {u = u} {w = w} e r) = reached-low ends (ends .targets-low u w e) r
 
 module _ (G : Graph) (ends : Ends G) (orders : List (List ℕ)) (permuted : Every (Order (G .n)) orders) where
-  abbrev built : Made (indexOf G orders)
+  abbrev pub built : Made (indexOf G orders)
   built = record { graph = G; ends = ends; orders = orders; permuted = permuted; yields = refl }
 
   -- it is sound

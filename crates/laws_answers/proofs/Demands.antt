@@ -11,7 +11,7 @@ use lib.ListN.{length, getD}
 use Rattle.lineage.specs.Lists.{among, Every}
 use Rattle.lineage.specs.Graph.{Graph, Ends, Reaches}
 use Rattle.lineage.specs.Labels.{Order}
-use Rattle.lineage.specs.Index.{Index, indexOf}
+use Rattle.lineage.specs.Index.{Index, indexOf, Made}
 use Rattle.lineage.specs.Question.{netOf, placeIn, answer, downstream}
 use Rattle.laws.specs.Leads.{Down}
 use Rattle.laws.specs.Sound.{Sound}
@@ -19,13 +19,13 @@ use Rattle.laws.specs.Rising.{Rises}
 use Rattle.laws.proofs.Grouped.{place-low}
 use Rattle.laws_answers.specs.Walks.{Through}
 use Rattle.laws.proofs.Every.{every-from}
-use Rattle.laws_answers.specs.Answers.{Member, noMarks, Holds, Deciding, Opened, Marked, NoMore}
+use Rattle.laws_answers.specs.Answers.{Member, noMarks, Holds, Deciding, Opened, Marked, NoMore, Downstream, looped}
 use Rattle.laws_answers.proofs.Members.{every-member, first-member, member-long}
 use Rattle.laws_answers.proofs.Rules.{answer-rule, rule-says, rule-unopened, rule-reason}
 use Rattle.laws_answers.proofs.Answers.{rule-opened, rule-deciding, rule-down, rule-no}
-use Rattle.laws_answers.proofs.Downstream.{list-rises, in-list}
+use Rattle.laws_answers.proofs.Downstream.{list-rises, list-exactly, loop-nothing}
 use Rattle.laws_answers.proofs.MoreOrders.{rules-no-more}
-use Rattle.laws_answers.proofs.Built.{reached-low, built-sound, built-long, built-paths, built-some, built-more}
+use Rattle.laws_answers.proofs.Built.{built, built-sound, built-long, built-paths, built-some, built-more}
 
 -- Of any index.
 module _ (I : Index) where
@@ -60,11 +60,6 @@ module _ (I : Index) (S : Sound I) where
       (u v : ℕ) → u < length (I .names) → (o : List ℕ) × Opened I (placeIn I u) (placeIn I v) (answer I u v .reason) o × Marked I o (answer I u v)
   marks-are-opened u v bu = rule-opened I S (placeIn I u) (placeIn I v) (place bu) (answer-rule I u v)
 
-  -- the downstream list of u holds the vertices to whose groups a path down children leads from u's
-  pub downstream-down :
-      (u v : ℕ) → u < length (I .names) → (among v (downstream I u) ≡ true) ↔ ((v < length (I .names)) × Down (I .children) (placeIn I u) (placeIn I v))
-  downstream-down u v bu = in-list I S u bu v
-
   -- with at least one labelling
   module _ (some : 0 < length (I .labels)) where
     -- the answer is yes exactly where a path down children leads from u's group to v's
@@ -76,6 +71,14 @@ module _ (I : Index) (S : Sound I) where
         (u v : ℕ) → u < length (I .names) → v < length (I .names) → answer I u v .says ≡ false → (p : ℕ) → p < length (I .children)
         → (getD (answer I u v .marks) (getD (I .groups) p 0) 0 ≡ 1) ↔ Through (netOf I (placeIn I v) .children) (netOf I (placeIn I v) .no) (placeIn I u) p
     opened-on-a-no u v bu bv = rule-no I S (placeIn I u) (placeIn I v) (place bu) (place bv) some (answer-rule I u v)
+
+-- Of an index and whatever graph yields it, and a vertex u below n: its downstream list holds exactly what is downstream of u
+pub downstream-made : {I : Index} (M : Made I) (u v : ℕ) → u < length (I .names) → (among v (downstream I u) ≡ true) ↔ Downstream (M .graph) u v
+downstream-made M u v bu = list-exactly M u bu v
+
+-- a self-loop changes nothing in it
+pub downstream-loop : (G : Graph) (x u v : ℕ) → Downstream (looped G x) u v ↔ Downstream G u v
+downstream-loop G x u v = loop-nothing G x
 
 -- Of a graph and orders, and vertices below n.
 module _ (G : Graph) (ends : Ends G) where
@@ -91,12 +94,9 @@ module _ (G : Graph) (ends : Ends G) where
     answer-right some u v bu bv =
         Iff·trans (answer-down (indexOf G orders) S (built-some G orders some) u v (vertex bu) (vertex bv)) (Iff·symm (built-paths G ends orders permuted u v bu bv))
 
-    -- the downstream list of u holds the vertices that u reaches
-    pub downstream-right : (u v : ℕ) → u < G .n → (among v (downstream (indexOf G orders) u) ≡ true) ↔ Reaches G u v
-    downstream-right u v bu =
-        let D = downstream-down (indexOf G orders) S u v (vertex bu) in
-        let paths = built-paths G ends orders permuted u v bu in
-        (λ i. let (b, d) = D .0 i in paths (omega (arith, built-long G ends orders permuted)) .1 d, λ r. let b = reached-low ends bu r in D .1 (vertex b, paths b .0 r))
+    -- the downstream list of u holds exactly what is downstream of u
+    pub downstream-right : (u v : ℕ) → u < G .n → (among v (downstream (indexOf G orders) u) ≡ true) ↔ Downstream G u v
+    downstream-right u v bu = downstream-made (built G ends orders permuted) u v (vertex bu)
 
   -- with each order of the first index among the second's, the second says the same, opens no group that the first does not open, and counts no more
   pub more-orders :

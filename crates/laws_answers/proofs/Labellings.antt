@@ -1,13 +1,11 @@
--- Tests of some labelling, and the number of the first that passes: a number is given exactly where some labelling passes, counted from 1.
-use mathlib.Core.Bool.{Bool, true, false, _||_, cond, false≢true}
+-- Tests of some labelling, and the number of the first that passes, counted from 1.
+use mathlib.Core.Bool.{Bool, true, false, cond, false≢true}
 use mathlib.Core.Logic.{inl, inr}
-use mathlib.Core.Path.{_≡_, refl, sym}
+use mathlib.Core.Path.{_≡_, refl}
 use mathlib.Core.List.{List, [], _∷_}
 use Prim.Native.Nat.{ℕ, zero, suc, _+_, _<_}
 use native.Mathlib.Omega.{arith}
-use lib.Dec.{ltb}
 use lib.ListN.{getD}
-use borrow.Author.Tests.{lt-ltb}
 use Rattle.lineage.specs.Labels.{Labelling}
 use Rattle.lineage.specs.Question.{someLabelling, firstFrom, firstLabelling}
 use Rattle.laws.proofs.Tests.{or-left, or-right, or-cases, clash, is-false}
@@ -52,15 +50,3 @@ module _ (p : Labelling → Bool) where
   -- the number given is that of the first that passes
   pub first-is : (ls : List Labelling) → someLabelling p ls ≡ true → (i : ℕ) × (firstLabelling p ls ≡ suc i) × First p ls i
   first-is ls h = let (i, e, F) = first-from 1 ls h in (i, omega (arith, e), F)
-
-  -- a number is given exactly where some labelling passes
-  given-from : (n : ℕ) (ls : List Labelling) → someLabelling p ls ≡ ltb 0 (firstFrom (suc n) p ls)
-  given-from n [] = refl
-  given-from n (l ∷ ls) = at (p l) (given-from (suc n) ls)
-    where
-      at : (b : Bool) → someLabelling p ls ≡ ltb 0 (firstFrom (suc (suc n)) p ls) → (b || someLabelling p ls) ≡ ltb 0 (cond b (suc n) (firstFrom (suc (suc n)) p ls))
-      at true ih = sym (lt-ltb 0 (suc n) (omega arith))
-      at false ih = ih
-
-  pub first-given : (ls : List Labelling) → someLabelling p ls ≡ ltb 0 (firstLabelling p ls)
-  first-given ls = given-from 0 ls

@@ -11,7 +11,7 @@ pub mod Nets
 pub mod Intervals
 pub mod Rules
 pub mod Answers
-pub mod Downstream
 pub mod MoreOrders
 pub mod Built
+pub mod Downstream
 pub mod Demands

@@ -11,7 +11,7 @@ use lib.ListN.{length, getD, set, replicate, length-set}
 use lib.Seq.{getD-set-same, getD-set-other}
 use borrow.Author.Tests.{eqb-true, eqb-false, eq-eqb, ne-eqb}
 use Rattle.lineage.specs.Lists.{among, ones}
-use Rattle.laws.proofs.Lists.{here, there, in-map, of-map}
+use Rattle.laws.proofs.Lists.{here, there, in-map, of-map, ones-set}
 use Rattle.laws.specs.Rising.{Distinct}
 use Rattle.laws_answers.specs.Walks.{_∈_}
 
@@ -24,12 +24,6 @@ painted spot (g ∷ o) m = set (painted spot o m) (spot g) 1
 pub painted-long : (spot : ℕ → ℕ) (o m : List ℕ) → length (painted spot o m) ≡ length m
 painted-long spot [] m = refl
 painted-long spot (g ∷ o) m = length-set (painted spot o m) (spot g) 1 ∙ painted-long spot o m
-
--- a mark more
-pub ones-set : (m : List ℕ) (i : ℕ) → i < length m → eqb (getD m i 0) 1 ≡ false → ones (set m i 1) ≡ suc (ones m)
-ones-set [] i h f = absurd (omega arith)
-ones-set (x ∷ xs) zero h f = rw f (omega arith)
-ones-set (x ∷ xs) (suc i) h f = omega (arith, ones-set xs i (omega arith) f)
 
 -- no mark is left where all bytes are 0
 pub ones-none : (n : ℕ) → ones (replicate n 0) ≡ 0

@@ -1,14 +1,16 @@
 -- What an answer's reason, deciding labelling, count and marks are to say (document 01, "A question"), each told by a relation; x and t are the
--- source's and the target's groups, by place.
+-- source's and the target's groups, by place. And what a downstream list is to hold (document 02, [2]).
 use mathlib.Core.Bool.{Bool, true, false, cond}
 use mathlib.Core.Path.{_≡_}
 use mathlib.Core.List.{List, [], _∷_, map}
 use Prim.Native.Nat.{ℕ, suc, _<_, _≤_}
 use lib.ListN.{length, getD, replicate}
 use Rattle.lineage.specs.Lists.{among, upto, ones}
+use Rattle.lineage.specs.Graph.{Graph, Reaches}
 use Rattle.lineage.specs.Labels.{Labelling}
 use Rattle.lineage.specs.Index.{Index}
 use Rattle.lineage.specs.Question.{inside, outside, rule2, rule3, rule4, netOf, walk, Answer}
+use Rattle.laws.specs.Leads.{OneGroup}
 use Rattle.laws.specs.Rising.{Distinct}
 use Rattle.laws_answers.specs.Walks.{nowhere, yes-at, Walks}
 
@@ -59,6 +61,16 @@ pub record Marked (I : Index) (o : List ℕ) (a : Answer) : Type 0 where
   pub left : a .opened ≡ ones (a .marks)
   -- the marks are theirs
   pub marks : a .marks ≡ marksOf I o
+
+-- v is downstream of u: any other vertex that u reaches, and u itself where another vertex is in its group. Each speaks of another vertex, so a self-loop
+-- brings neither about
+pub data Downstream (G : Graph) (u : ℕ) : ℕ → Type 0 where
+  other : {v : ℕ} → (v ≡ u → ⊥) → Reaches G u v → Downstream G u v
+  itself : {w : ℕ} → (w ≡ u → ⊥) → OneGroup G u w → Downstream G u u
+
+-- the graph with a self-loop more, at x
+abbrev pub looped : Graph → ℕ → Graph
+looped G x = record { n = G .n; sources = x ∷ G .sources; targets = x ∷ G .targets }
 
 -- a stands in the list, of orders or of labellings
 pub data Member {A : Type 0} (a : A) : List A → Type 0 where

@@ -143,14 +143,15 @@ openAnswer b marks = outcome (formChecks b marks ++ (contentsCheck b ∷ [])) (c
 unfoldable pub openMarks : List ℕ → List ℕ → List ℕ
 openMarks b marks = marksAfter (formChecks b (length marks)) b marks
 
--- ask: yes or no, the reason, the number of groups opened
+-- ask: yes or no, the reason, the number of groups opened, and the number of the labelling that decided (0 where none did)
 pub record Said : Type 0 where
   pub says : Bool
   pub reason : ℕ
   pub opened : ℕ
+  pub deciding : ℕ
 
 abbrev pub saidOf : Answer → Said
-saidOf a = record { says = a .says; reason = a .reason; opened = a .opened }
+saidOf a = record { says = a .says; reason = a .reason; opened = a .opened; deciding = a .deciding }
 
 -- 14: vertex n or more, source first
 abbrev pub askEarly : List ℕ → (source target marks : ℕ) → List Check

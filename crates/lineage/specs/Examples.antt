@@ -1,16 +1,15 @@
 -- The reckoned examples of document 01, P1 to P10, the sample text's five answers and the slips that need an example of their own: one table,
--- a single claim, by computation. Questions are asked of the stored bytes, through every check.
+-- a single claim, by computation. Questions are asked of the stored bytes, through every check. A second table has refusals of every kind.
 use mathlib.Core.Path.{_≡_, refl}
 use mathlib.Core.Bool.{Bool, true, false}
 use mathlib.Core.List.{List, [], _∷_, _++_, map}
 use Prim.Native.Nat.{ℕ, suc, _-_}
 use lib.Dec.{leb·zero}
-use lib.ListN.{length, getD, set, replicate}
+use lib.ListN.{length, getD, set, replicate, take}
 use Rattle.lineage.specs.Lists.{upto, Every}
 use Rattle.lineage.specs.Graph.{Graph, condense}
 use Rattle.lineage.specs.Labels.{Labelling}
 use Rattle.lineage.specs.Index.{indexOf}
-use Rattle.lineage.specs.Question.{answer}
 use Rattle.lineage.specs.Stored.{form1, Counts, encode}
 use Rattle.lineage.specs.Calls.{Outcome, refused, answered, Said, buildAnswer, openAnswer, askAnswer, askMarks, listAnswer, listOutput}
 
@@ -55,8 +54,8 @@ labelsIn (l ∷ ls) k = map (λ p. label (getD (l .s) p 0) (getD (l .m) p 0) (ge
 abbrev stored : Graph → List (List ℕ) → List ℕ
 stored g orders = encode form1 (indexOf g orders)
 
-abbrev said : Bool → ℕ → ℕ → Said
-said says reason opened = record { says = says; reason = reason; opened = opened }
+abbrev said : Bool → ℕ → ℕ → ℕ → Said
+said says reason opened deciding = record { says = says; reason = reason; opened = opened; deciding = deciding }
 
 abbrev counts : ℕ → ℕ → ℕ → ℕ → Counts
 counts n k c d = record { n = n; k = k; c = c; d = d }
@@ -65,9 +64,25 @@ counts n k c d = record { n = n; k = k; c = c; d = d }
 abbrev lent : ℕ → List ℕ
 lent size = replicate size 7
 
+-- the outcome of a list with room for one vertex less: 16 and the count; an empty list needs no room
+abbrev oneShort : List ℕ → Outcome ℕ
+oneShort [] = answered 0
+oneShort (v ∷ vs) = refused 16 (suc (length vs))
+
 -- the bytes with another byte at one position
 abbrev altered : List ℕ → ℕ → ℕ → List ℕ
 altered bytes i x = set bytes i x
+
+-- n vertices, and lists of so many sources and targets
+abbrev bare : ℕ → (sources targets : ℕ) → Graph
+bare n sources targets = record { n = n; sources = replicate sources 0; targets = replicate targets 0 }
+
+-- the bytes of G under A, and the same with 3's inner interval over a group that is not below it: its m, at byte 114, is 1
+abbrev sound : List ℕ
+sound = stored G (A ∷ [])
+
+abbrev unsound : List ℕ
+unsound = altered sound 114 1
 
 -- a question and its outcome
 data Question : Type 0 where
@@ -77,13 +92,16 @@ data Example : Type 0 where
   groupsAre : Graph → (names groups : List ℕ) → Example
   levelsAre : Graph → List ℕ → Example
   labelsAre : Graph → (order : List ℕ) → List Label → Example
-  answerIs : Graph → (orders : List (List ℕ)) → (u v : ℕ) → Said → (deciding : ℕ) → (marks : List ℕ) → Example
+  answerIs : Graph → (orders : List (List ℕ)) → (u v : ℕ) → Said → (marks : List ℕ) → Example
   totalIs : Graph → (orders : List (List ℕ)) → ℕ → Example
   everyQuestionIs : Graph → (orders : List (List ℕ)) → Outcome Said → Example
   questionsAre : Graph → (orders : List (List ℕ)) → List Question → Example
   listIs : Graph → (orders : List (List ℕ)) → (u : ℕ) → List ℕ → Example
   opensAs : (bytes : List ℕ) → (marks : ℕ) → Outcome Counts → Example
   buildsAs : Graph → (d : ℕ) → (orders : List ℕ) → (work out : ℕ) → Outcome ℕ → Example
+  asksAs : (bytes : List ℕ) → (marks : ℕ) → List Question → Example
+  listsAs : (bytes : List ℕ) → (u marks out : ℕ) → Outcome ℕ → Example
+  allRefuse : (bytes : List ℕ) → (vertex marks : ℕ) → (number extra : ℕ) → Example
 
 abbrev Asked : List ℕ → ℕ → Question → Type 0
 Asked bytes marks (question u v o) = askAnswer bytes u v marks ≡ o
@@ -92,9 +110,8 @@ abbrev Right : Example → Type 0
 Right (groupsAre g names groups) = (condense g .names ≡ names) × (condense g .groups ≡ groups)
 Right (levelsAre g levels) = indexOf g [] .levels ≡ levels
 Right (labelsAre g order labels) = labelsIn (indexOf g (order ∷ []) .labels) (length (indexOf g (order ∷ []) .groups)) ≡ labels
-Right (answerIs g orders u v a deciding marks) =
+Right (answerIs g orders u v a marks) =
     (askAnswer (stored g orders) u v (g .n) ≡ answered a)
-    × (answer (indexOf g orders) u v .deciding ≡ deciding)
     × (askMarks (stored g orders) u v (lent (suc (g .n))) ≡ marks ++ (7 ∷ []))
 Right (totalIs g orders total) = length (stored g orders) ≡ total
 Right (everyQuestionIs g orders o) = (u v : ℕ) → askAnswer (stored g orders) u v (g .n) ≡ o
@@ -102,9 +119,15 @@ Right (questionsAre g orders qs) = Every (Asked (stored g orders) (g .n)) qs
 Right (listIs g orders u vs) =
     (listAnswer (stored g orders) u (g .n) (length vs) ≡ answered (length vs))
     × (listOutput (stored g orders) u (g .n) (lent (suc (length vs))) ≡ vs ++ (7 ∷ []))
-    × (listAnswer (stored g orders) u (g .n) (length vs - 1) ≡ refused 16 (length vs))
+    × (listAnswer (stored g orders) u (g .n) (length vs - 1) ≡ oneShort vs)
 Right (opensAs bytes marks o) = openAnswer bytes marks ≡ o
 Right (buildsAs g d orders work out o) = buildAnswer form1 (record { graph = g; d = d; orders = orders }) work out ≡ o
+Right (asksAs bytes marks qs) = Every (Asked bytes marks) qs
+Right (listsAs bytes u marks out o) = listAnswer bytes u marks out ≡ o
+Right (allRefuse bytes vertex marks number extra) =
+    (openAnswer bytes marks ≡ refused number extra)
+    × (askAnswer bytes vertex vertex marks ≡ refused number extra)
+    × (listAnswer bytes vertex marks 0 ≡ refused number extra)
 
 abbrev table : List Example
 table =
@@ -113,10 +136,10 @@ table =
     ∷ levelsAre G (2 ∷ 1 ∷ 1 ∷ 0 ∷ 0 ∷ [])
     ∷ labelsAre G A (label 1 1 4 ∷ label 1 1 2 ∷ label 1 3 3 ∷ label 1 1 1 ∷ label 5 5 5 ∷ [])
     ∷ labelsAre G B (label 2 2 5 ∷ label 2 4 4 ∷ label 2 2 3 ∷ label 2 2 2 ∷ label 1 1 1 ∷ [])
-    ∷ answerIs G (A ∷ []) 3 4 (said true 5 1) 1 (0 ∷ 0 ∷ 0 ∷ 1 ∷ 0 ∷ 0 ∷ [])
-    ∷ answerIs G (A ∷ B ∷ []) 3 4 (said true 2 0) 2 (0 ∷ 0 ∷ 0 ∷ 0 ∷ 0 ∷ 0 ∷ [])
-    ∷ answerIs G (A ∷ []) 0 5 (said false 4 0) 1 (0 ∷ 0 ∷ 0 ∷ 0 ∷ 0 ∷ 0 ∷ [])
-    ∷ answerIs H (falling ∷ []) 3 2 (said false 4 0) 1 (0 ∷ 0 ∷ 0 ∷ 0 ∷ [])
+    ∷ answerIs G (A ∷ []) 3 4 (said true 5 1 1) (0 ∷ 0 ∷ 0 ∷ 1 ∷ 0 ∷ 0 ∷ [])
+    ∷ answerIs G (A ∷ B ∷ []) 3 4 (said true 2 0 2) (0 ∷ 0 ∷ 0 ∷ 0 ∷ 0 ∷ 0 ∷ [])
+    ∷ answerIs G (A ∷ []) 0 5 (said false 4 0 1) (0 ∷ 0 ∷ 0 ∷ 0 ∷ 0 ∷ 0 ∷ [])
+    ∷ answerIs H (falling ∷ []) 3 2 (said false 4 0 1) (0 ∷ 0 ∷ 0 ∷ 0 ∷ [])
     ∷ totalIs H (rising ∷ []) 120
     ∷ totalIs G (A ∷ B ∷ []) 180
     ∷ totalIs none ([] ∷ []) 50
@@ -124,12 +147,14 @@ table =
     -- the sample text
     ∷ questionsAre H
     (rising ∷ [])
-    (question 3 2 (answered (said false 6 1))
-    ∷ question 0 2 (answered (said true 2 0))
-    ∷ question 1 1 (answered (said true 1 0))
-    ∷ question 2 0 (answered (said false 3 0))
+    (question 3 2 (answered (said false 6 1 0))
+    ∷ question 0 2 (answered (said true 2 0 1))
+    ∷ question 1 1 (answered (said true 1 0 0))
+    ∷ question 2 0 (answered (said false 3 0 0))
     ∷ question 4 0 (refused 14 0)
     ∷ [])
+    -- of two labellings that both rule the target out, the first is named
+    ∷ answerIs G (A ∷ B ∷ []) 0 5 (said false 4 0 1) (0 ∷ 0 ∷ 0 ∷ 0 ∷ 0 ∷ 0 ∷ [])
     -- a vertex of n or more, source first
     ∷ questionsAre H (rising ∷ []) (question 0 4 (refused 14 1) ∷ question 9 4 (refused 14 0) ∷ [])
     -- names do not move with the sequence of the edges
@@ -137,14 +162,49 @@ table =
     -- bytes open, and are refused where 3's inner interval covers a group that is not below it: its m, at byte 114, becomes 1
     ∷ opensAs (stored G (A ∷ [])) 6 (answered (counts 6 5 4 1))
     ∷ opensAs (altered (stored G (A ∷ [])) 114 1) 6 (refused 15 0)
-    -- the downstream list, and the two ends of a build
+    -- downstream lists: of 2, whose group has 1 too; of 3 and 0, groups of one; of 5, which has only a self-loop
     ∷ listIs G (A ∷ []) 2 (1 ∷ 2 ∷ 4 ∷ [])
+    ∷ listIs G (A ∷ []) 3 (4 ∷ [])
+    ∷ listIs G (A ∷ []) 0 (1 ∷ 2 ∷ 3 ∷ 4 ∷ [])
+    ∷ listIs G (A ∷ []) 5 []
+    -- the two ends of a build
     ∷ buildsAs G 2 (A ++ B) 188 180 (answered 180)
     ∷ buildsAs G 2 (A ++ B) 188 179 (refused 9 180)
     ∷ buildsAs G 2 (A ++ (5 ∷ 4 ∷ 3 ∷ 2 ∷ 1 ∷ 1 ∷ [])) 188 0 (refused 8 1)
     ∷ []
 
 claim : Every Right table
-unfolding condense indexOf answer encode openAnswer askAnswer askMarks listAnswer listOutput buildAnswer
+unfolding condense indexOf encode openAnswer askAnswer askMarks listAnswer listOutput buildAnswer
 claim =
-    ((refl, refl), (refl, (refl, (refl, ((refl, refl, refl), ((refl, refl, refl), ((refl, refl, refl), ((refl, refl, refl), (refl, (refl, (refl, ((λ u v. rw leb·zero), ((refl, (refl, (refl, (refl, (refl, tt))))), ((refl, (refl, tt)), ((refl, refl), (refl, (refl, ((refl, refl, refl), (refl, (refl, (refl, tt)))))))))))))))))))))
+    ((refl, refl), (refl, (refl, (refl, ((refl, refl), ((refl, refl), ((refl, refl), ((refl, refl), (refl, (refl, (refl, ((λ u v. rw leb·zero), ((refl, (refl, (refl, (refl, (refl, tt))))), ((refl, refl), ((refl, (refl, tt)), ((refl, refl), (refl, (refl, ((refl, refl, refl), ((refl, refl, refl), ((refl, refl, refl), ((refl, refl, refl), (refl, (refl, (refl, tt)))))))))))))))))))))))))
+
+-- Refusals of every kind, with their extra numbers: in each row the next check applies too, so that their order shows.
+abbrev refusals : List Example
+refusals =
+    -- a build: 1 to 9
+    buildsAs (bare 4097 1 0) 1 [] 0 0 (refused 1 0)
+    ∷ buildsAs (bare 6 16385 0) 1 [] 0 0 (refused 2 0)
+    ∷ buildsAs (bare 6 16385 16385) 0 [] 0 0 (refused 3 0)
+    ∷ buildsAs (bare 6 1 1) 0 A 0 0 (refused 4 0)
+    ∷ buildsAs (bare 6 1 1) 6 A 0 0 (refused 4 0)
+    ∷ buildsAs (bare 6 1 1) 2 A 0 0 (refused 5 0)
+    ∷ buildsAs (bare 0 1 1) 1 [] 67 0 (refused 6 68)
+    ∷ buildsAs (record { n = 2; sources = 0 ∷ 2 ∷ []; targets = 1 ∷ 0 ∷ [] }) 1 (1 ∷ 1 ∷ []) 104 0 (refused 7 1)
+    ∷ buildsAs (bare 2 0 0) 2 (1 ∷ 0 ∷ 1 ∷ 1 ∷ []) 96 0 (refused 8 1)
+    ∷ buildsAs (bare 2 0 0) 1 (1 ∷ 0 ∷ []) 96 81 (refused 9 82)
+    -- open, ask and list: 10 to 13; the vertex is out of range each time
+    ∷ allRefuse (take 47 (altered sound 0 2)) 6 5 10 0
+    ∷ allRefuse (take 48 (altered sound 1 1)) 6 5 11 257
+    ∷ allRefuse (take 48 sound) 6 5 12 0
+    ∷ allRefuse unsound 6 5 13 6
+    -- ask and list: 14, 15, and 16 of a list
+    ∷ asksAs unsound 6 (question 6 6 (refused 14 0) ∷ question 0 6 (refused 14 1) ∷ question 0 0 (refused 15 0) ∷ [])
+    ∷ listsAs unsound 6 6 0 (refused 14 0)
+    ∷ listsAs unsound 2 6 0 (refused 15 0)
+    ∷ listsAs sound 2 6 2 (refused 16 3)
+    ∷ []
+
+all-refused : Every Right refusals
+unfolding indexOf encode openAnswer askAnswer listAnswer buildAnswer
+all-refused =
+    (refl, (refl, (refl, (refl, (refl, (refl, (refl, (refl, (refl, (refl, ((refl, refl, refl), ((refl, refl, refl), ((refl, refl, refl), ((refl, refl, refl), ((refl, (refl, (refl, tt))), (refl, (refl, (refl, tt))))))))))))))))))

@@ -2,7 +2,7 @@
 use mathlib.Core.Bool.{Bool, true, false, not, _&&_, _||_, cond}
 use mathlib.Core.List.{List, [], _∷_}
 use Prim.Native.Nat.{ℕ, suc}
-use lib.Dec.{eqb, leb}
+use lib.Dec.{eqb, leb, ltb}
 use lib.ListN.{length, getD, replicate}
 use Rattle.lineage.specs.Lists.{upto, those}
 use Rattle.lineage.specs.Graph.{placeOf, leads}
@@ -97,17 +97,21 @@ unfoldable pub answer : Index → ℕ → ℕ → Answer
 unfolding walk
 answer I u v = between I (placeIn I u) (placeIn I v) (replicate (length (I .names)) 0)
 
--- whether the vertex is in its own downstream list: u itself included
-abbrev pub inOwnList : Index → ℕ → Bool
-inOwnList I u = true
+-- the vertices of u's group: those that have its name
+abbrev pub groupOf : Index → ℕ → List ℕ
+groupOf I u = those (λ v. eqb (getD (I .names) v 0) (getD (I .names) u 0)) (upto (length (I .names)))
+
+-- u is in its own downstream list exactly if its group has more than one vertex (document 02, [2])
+unfoldable pub inOwnList : Index → ℕ → Bool
+inOwnList I u = ltb 1 (length (groupOf I u))
 
 -- v is downstream of u: u itself by the rule above, any other vertex when u reaches it
 unfoldable pub isDownstream : Index → ℕ → ℕ → Bool
-unfolding leads
+unfolding leads inOwnList
 isDownstream I u v =
     cond (eqb u v) (inOwnList I u) (leads (I .children) (getD (I .levels) (placeIn I u) 0) (placeIn I u) (placeIn I v))
 
--- all vertices that u reaches, rising
+-- all vertices downstream of u, rising
 unfoldable pub downstream : Index → ℕ → List ℕ
 unfolding isDownstream
 downstream I u = those (isDownstream I u) (upto (length (I .names)))

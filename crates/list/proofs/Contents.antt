@@ -8,9 +8,8 @@ use Rattle.lineage.specs.Stored.{sizes, offsets, countsIn, stretch}
 use Rattle.laws.proofs.Parts.{part-length}
 use Rattle.stored_header.specs.declared.Layout.{Layout}
 use Rattle.stored_header.specs.Header.{layoutIn, Laid}
-use Rattle.stored.specs.Sections.{Section}
+use Rattle.stored.specs.Sections.{Section, Six}
 use Rattle.stored.proofs.Offsets.{offsets-within}
-use Rattle.sound_places.proofs.Lent.{Six}
 
 whole-at : (b : List ℕ) → Laid b (layoutIn b) → (i : ℕ) → i < 6 → Section b (layoutIn b) i (stretch (layoutIn b .width) (countsIn b) b i)
 unfolding stretch

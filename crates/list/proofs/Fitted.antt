@@ -19,14 +19,16 @@ use Rattle.laws.proofs.Decides.{sound-decides}
 use Rattle.laws.proofs.Grouped.{name-in, group-name, place-low}
 use Rattle.laws.proofs.Inverse.{e-most}
 use Rattle.laws.proofs.Lists.{table-at}
+use Rattle.numbers.specs.Bounds.{entryBound}
 use Rattle.numbers.specs.Regions.{Part}
 use Rattle.numbers.proofs.Numbers.{room, numbers-long, numbers-at}
 use Rattle.stored_header.specs.declared.Layout.{Layout}
-use Rattle.stored.specs.Sections.{childrenIn, labellingIn, triplesOf, placesOf, labelsIn, indexFrom, indexAt}
+use Rattle.stored.specs.Sections.{Six, childrenIn, labellingIn, triplesOf, placesOf, labelsIn, indexFrom, indexAt}
 use Rattle.stored.proofs.Sections.{children-long, e-at, labels-long}
 use Rattle.sound_groups.specs.Fit.{Holds}
 use Rattle.sound_places.specs.Lent.{Lent}
-use Rattle.sound_places.proofs.Lent.{Six, index-at, lent}
+use Rattle.stored.proofs.Contents.{index-at}
+use Rattle.sound_places.proofs.Lent.{lent}
 use Rattle.reach_sweep.specs.Fit.{Spots, Ranked}
 use Rattle.list.specs.Fit.{Names, SoundBytes}
 use Rattle.reach_sweep.specs.Sweep.{swept}
@@ -97,7 +99,7 @@ module _
     unfolding indexFrom
     sound-groups = sound-index .condensed
 
-    holds : (s : List ℕ) (count : ℕ) → length s ≡ w * count → count ≤ 1000000 → Holds w s count
+    holds : (s : List ℕ) (count : ℕ) → length s ≡ w * count → count ≤ entryBound → Holds w s count
     holds s count e h = record { width = S .width; long = omega arith; few = h }
 
     rows-pass : allBelow k (rowPasses (childrenIn w starts children k c)) ≡ true

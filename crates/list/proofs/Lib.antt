@@ -8,3 +8,4 @@ pub mod Found
 pub mod Theorems
 -- The loops that count and write.
 pub mod Writing
+pub mod Own

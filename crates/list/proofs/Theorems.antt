@@ -1,44 +1,34 @@
--- What a list of stored bytes says, wherever one is given, and whatever edge list and orders yield the bytes: it holds the vertices to which a path of zero or
--- more edges leads from the vertex, rising, and nothing behind them is touched. `list` gives this, by its contract; and its contract allows one result.
+-- What a list of stored bytes says, wherever one is given, and whatever edge list and orders yield the bytes: it holds the other vertices that the vertex
+-- reaches, and the vertex itself exactly where another one is in its group, rising; and nothing behind them is touched. `list` gives this, by its contract; and
+-- its contract allows one result.
 use mathlib.Core.Bool.{true, false}
 use mathlib.Core.Logic.{_↔_}
 use mathlib.Core.Path.{_≡_, refl, sym, ap, _∙_}
 use mathlib.Core.List.{List, [], _∷_, _++_}
-use Prim.Native.Nat.{ℕ, zero, suc, _<_}
-use native.Mathlib.Nat.{not-suc-le-zero}
+use Prim.Native.Nat.{ℕ, _<_}
 use native.Mathlib.Omega.{arith}
-use lib.ListN.{length, getD, take, drop}
+use lib.Dec.{leb}
+use lib.ListN.{length, take, drop}
 use lib.Seq.{take-at, drop-at}
-use borrow.Author.Tests.{leb-false, not-false}
+use borrow.Author.Tests.{leb-false}
 use Rattle.lineage.specs.Lists.{among}
-use Rattle.lineage.specs.Graph.{Reaches}
 use Rattle.lineage.specs.Index.{indexOf, Made}
 use Rattle.lineage.specs.Stored.{form1, countsOf, countsFit, countsIn, headerAt, formOf, stretch, section, decode}
-use Rattle.lineage.specs.Sound.{startsPass, sound, contentsSound}
 use Rattle.lineage.specs.Question.{downstream}
-use Rattle.lineage.specs.Calls.{Check, check, answered, anyApplies, indexIn, listEarly, listLate, listAnswer, listOutput}
-use Rattle.laws.specs.Sound.{Sound}
-use Rattle.laws.proofs.Tests.{or-false-left, or-false-right, and-right}
+use Rattle.lineage.specs.Calls.{Check, check, answered, anyApplies, indexIn, formChecks, listEarly, listLate, listAnswer, listOutput}
 use Rattle.laws.specs.Rising.{Rises}
-use Rattle.laws.proofs.Decides.{sound-decides}
-use Rattle.laws.proofs.Sound.{made-long, made-paths}
-use Rattle.laws_answers.proofs.Built.{reached-low}
-use Rattle.laws_answers.proofs.Demands.{downstream-rises, downstream-down}
+use Rattle.laws_answers.specs.Answers.{Downstream}
+use Rattle.laws_answers.proofs.Demands.{downstream-rises, downstream-made}
 use Rattle.numbers.proofs.Numbers.{numbers-long}
 use Rattle.stored.specs.Fits.{Fits}
-use Rattle.stored_header.proofs.Checks.{passed-first, passed-applies}
+use Rattle.stored_header.specs.Checks.{Pass}
+use Rattle.stored_header.proofs.Checks.{stops-early, pass-behind, answered-pass, answered-is}
 use Rattle.stored.proofs.Encoded.{index-encode}
 use Rattle.open.specs.Yields.{Yields}
 use Rattle.open.proofs.Fits.{form1-wide, yielded-fits}
 use Rattle.list.specs.declared.Listed.{Listed}
 use Rattle.list.specs.declared.Listed.the-variants.{Count, Refused}
 use Rattle.list.specs.Listed.{listedOf, Allowed}
-
--- where no check applies, none of them does
-none-at : (cs : List Check) → anyApplies cs ≡ false → (i : ℕ) → i < length cs → getD cs i (check false 0 0) .applies ≡ false
-none-at [] h i l = absurd (not-suc-le-zero l)
-none-at (c ∷ cs) h zero l = or-false-left (c .applies) (anyApplies cs) h
-none-at (c ∷ cs) h (suc i) l = none-at cs (or-false-right (c .applies) (anyApplies cs) h) i (omega arith)
 
 module _ (b : List ℕ) (u : ℕ) (marks out : List ℕ) (count : ℕ) (e : listAnswer b u (length marks) (length out) ≡ answered count) where
   abbrev checks : List Check
@@ -50,13 +40,20 @@ module _ (b : List ℕ) (u : ℕ) (marks out : List ℕ) (count : ℕ) (e : list
   abbrev list : List ℕ
   list = take count (listOutput b u (length marks) out)
 
-  none : anyApplies checks ≡ false
+  passes : Pass checks
   unfolding listAnswer
-  none = passed-applies [] (length found) checks count e
+  passes = answered-pass (length found) checks count e
+
+  none : anyApplies checks ≡ false
+  none = stops-early checks [] 7 passes
+
+  -- those behind 13
+  behind : Pass (check (leb (countsIn b .n) u) 14 0 ∷ listLate b u (length out))
+  behind = pass-behind (formChecks b (length marks)) (check (leb (countsIn b .n) u) 14 0 ∷ listLate b u (length out)) passes
 
   counted : length found ≡ count
   unfolding listAnswer
-  counted = let same : answered (length found) ≡ answered count = sym (passed-first [] (length found) (length found) checks count e) ∙ e in cc
+  counted = sym (answered-is (length found) checks count e)
 
   -- the list, and what stands behind it
   output : listOutput b u (length marks) out ≡ found ++ drop (length found) out
@@ -77,28 +74,15 @@ module _ (b : List ℕ) (u : ℕ) (marks out : List ℕ) (count : ℕ) (e : list
   unfolding decode section
   vertex =
       let w : ℕ = formOf (headerAt b 0) .width in
-      omega (arith, leb-false (countsIn b .n) u (none-at checks none 4 (omega arith)), numbers-long w (stretch w (countsIn b) b 0) (countsIn b .n))
+      omega (arith, leb-false (countsIn b .n) u (behind .0), numbers-long w (stretch w (countsIn b) b 0) (countsIn b .n))
 
-  index-sound : Sound (indexIn b)
-  unfolding contentsSound
-  index-sound =
-      let w : ℕ = formOf (headerAt b 0) .width in
-      sound-decides (indexIn b) .0
-      (and-right (startsPass (section w (countsIn b) b 3) (countsIn b .k) (countsIn b .c)) (sound (indexIn b)) (not-false _ (none-at checks none 5 (omega arith))))
-
-  -- v is in the list exactly where a path leads from the vertex to v, in whatever graph yields the bytes
-  pub listed-right : (M : Made (indexIn b)) (v : ℕ) → (among v list ≡ true) ↔ Reaches (M .graph) u v
-  listed-right M v =
-      let (to, from) = downstream-down (indexIn b) index-sound u v vertex in
-      rw list-is (
-        (λ i. let (hv, d) = to i in made-paths M u v vertex hv .1 d),
-        λ r. let hv : v < length (indexIn b .names) = omega (arith, made-long M, reached-low (M .ends) (omega (arith, made-long M, vertex)) r) in
-            from (hv, made-paths M u v vertex hv .0 r),
-      )
+  -- v is in the list exactly where it is downstream of the vertex, in whatever graph yields the bytes
+  pub listed-right : (M : Made (indexIn b)) (v : ℕ) → (among v list ≡ true) ↔ Downstream (M .graph) u v
+  listed-right M v = rw list-is (downstream-made M u v vertex)
 
   -- so in whatever graph yields these very bytes, with counts within form 1's bounds
   pub listed-yielded :
-      (Y : Yields form1 b) → countsFit form1 (countsOf (indexOf (Y .graph) (Y .orders))) ≡ true → (v : ℕ) → (among v list ≡ true) ↔ Reaches (Y .graph) u v
+      (Y : Yields form1 b) → countsFit form1 (countsOf (indexOf (Y .graph) (Y .orders))) ≡ true → (v : ℕ) → (among v list ≡ true) ↔ Downstream (Y .graph) u v
   listed-yielded Y bounds =
       let E : Fits form1 (indexOf (Y .graph) (Y .orders)) = yielded-fits form1-wide (Y .graph) (Y .ends) (Y .orders) (Y .permuted) bounds in
       listed-right (record {

@@ -112,6 +112,9 @@ module _ (w n : ℕ) (names marks : List ℕ) (u : ℕ) (own : Bool) where
   unfolding listed
   all-listed = rw (numbers-long w names n)
 
+  pub listed-few : length (listed (numbers w names n) marks u own) ≤ n
+  listed-few = omega (arith, ap length all-listed, those-short p (upto n), length-upto n)
+
   -- where one more is listed, a list that has room for all has room for it
   pub listed-room :
       {v count size : ℕ} {r : Bool} → Counted p n v count → v < n → r ≡ p v → r ≡ true → length (listed (numbers w names n) marks u own) ≤ size → count < size

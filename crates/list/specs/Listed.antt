@@ -1,11 +1,11 @@
 -- What `list` answers and leaves, as the definitions have it.
+use mathlib.Core.Bool.{cond}
 use mathlib.Core.Path.{_≡_}
-use mathlib.Core.List.{List}
+use mathlib.Core.List.{List, [], _∷_, _++_}
 use Prim.Native.Nat.{ℕ}
-use lib.ListN.{length}
-use Rattle.lineage.specs.Calls.{Outcome, refused, answered, outcome, listAnswer, listMarks, listOutput}
-use Rattle.stored_header.specs.declared.Layout.{Layout}
-use Rattle.stored_header.specs.Header.{layoutIn, headerChecks}
+use lib.Dec.{ltb}
+use lib.ListN.{length, drop}
+use Rattle.lineage.specs.Calls.{Check, check, Outcome, refused, answered, outcome, anyApplies, listAnswer, listMarks, listOutput}
 use Rattle.list.specs.declared.Listed.{Listed}
 use Rattle.list.specs.declared.Listed.the-variants.{Count, Refused}
 
@@ -14,12 +14,17 @@ abbrev pub listedOf : Listed → Outcome ℕ
 listedOf (Count count) = answered count
 listedOf (Refused number extra) = refused number extra
 
+-- 16: the vertices found do not fit an out list of this length
+abbrev pub roomChecks : List ℕ → ℕ → List Check
+roomChecks found out = check (ltb out (length found)) 16 (length found) ∷ []
+
+-- behind 15: what may be answered, and what the out list may hold afterwards
+pub record Fills (found out : List ℕ) (r : Listed) (out' : List ℕ) : Type 0 where
+  pub answers : listedOf r ≡ outcome (roomChecks found (length out)) (length found)
+  pub writes : out' ≡ cond (anyApplies (roomChecks found (length out))) out (found ++ drop (length found) out)
+
 -- of bytes, a vertex, marks and an out list: what may be answered, and what marks and out list may hold afterwards
 pub record Allowed (b : List ℕ) (vertex : ℕ) (marks out : List ℕ) (r : Listed) (marks' out' : List ℕ) : Type 0 where
   pub answers : listedOf r ≡ listAnswer b vertex (length marks) (length out)
   pub leaves : marks' ≡ listMarks b vertex marks
   pub writes : out' ≡ listOutput b vertex (length marks) out
-
--- the header passes, and gives this layout
-pub record Passes (b : List ℕ) (l : Layout) : Type 0 where
-  pub header : answered l ≡ outcome (headerChecks b) (layoutIn b)

@@ -10,12 +10,22 @@ ghost use Rattle.list.specs.Listing.{isListed, listed, namesAlone};
 ghost use Rattle.list.specs.Fit.{Names};
 use numbers::num;
 
-// Whether vertex u is in its own list: u itself is included.
+// Whether vertex u is in its own list: where its group has more than one vertex. It counts those that have its name.
 pub fn in_own_list(names: &[u8], w: usize, n: usize, u: usize) -> bool
     requires { ⌜ Holds w (now names) n ⌝ }
+    requires { ⌜ u < n ⌝ }
     ensures { λ r. ⌜ r ≡ inOwnList (namesAlone (numbers w (now (names .entry)) n)) u ⌝ }
 {
-    true
+    let name = num(names, w, u);
+    let mut count: usize = 0;
+    let mut v = 0;
+    while v < n {
+        if num(names, w, v) == name {
+            count += 1;
+        }
+        v += 1;
+    }
+    1 < count
 }
 
 // Whether vertex v is listed: u itself where `own` says so, any other vertex where its group is marked.

@@ -6,10 +6,10 @@ ghost use Rattle.lineage.specs.Lists.{cleared};
 ghost use Rattle.lineage.specs.Calls.{indexIn};
 ghost use Rattle.list.specs.Fit.{SoundBytes};
 ghost use Rattle.list.specs.Marks.{rankIn, sweptIn, reachMarks};
-use stored_header::Layout;
 use numbers::num;
 use sound_places::place_of;
 use stored::parts;
+use stored_header::Layout;
 
 // The rank of vertex u's group in the first labelling: e stands last in the triple of its place.
 fn rank_of(index: &[u8], l: Layout, u: usize) -> usize

@@ -3,5 +3,6 @@ pub mod Regions
 pub mod Put
 pub mod Cleared
 pub mod Marks
+pub mod Stamping
 pub mod Numbers
 pub mod Written

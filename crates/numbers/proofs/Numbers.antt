@@ -1,16 +1,13 @@
--- The laws of little-endian numbers, at any width. A number is made of its own w bytes alone; so what was written is read again, a write leaves every
--- other number, and the numbers of a stretch are a list of their own.
+-- The laws of little-endian numbers, at any width. A number is made of its own w bytes alone; so the bytes of a number are read as that number, and the
+-- numbers of a stretch are a list of their own.
 use mathlib.Core.Path.{_≡_, refl, sym, ap, _∙_}
-use mathlib.Core.Logic.{_⊎_, inl, inr, ⊎-elim, _≢_}
 use mathlib.Core.List.{List, _∷_}
 use Prim.Native.Nat.{ℕ, zero, suc, _+_, _-_, _*_, _/_, _%_, _^_, _≤_, _<_}
 use native.Mathlib.Omega.{arith}
 use native.Mathlib.Numerals.{add-one}
-use native.Mathlib.Decide.{decLt}
 use native.Mathlib.Nat.{mul-le-mul-left, mul-le-mul-right, mul-suc, mul-add, pow-suc, add-zero, add-assoc}
 use lib.Dec.{ltb}
 use lib.ListN.{length, getD, take, drop, set}
-use lib.Arith.{lt-of-le-ne}
 use lib.Seq.{ext-getD}
 use Rattle.lineage.specs.Lists.{part}
 use Rattle.lineage.specs.Numbers.{leAt, numAt, numbers, leBytes}
@@ -21,8 +18,8 @@ use Rattle.laws.proofs.Halving.{Side, sides}
 use Rattle.laws.proofs.Lists.{table-long, table-at}
 use Rattle.laws.proofs.Parts.{part-length, part-at}
 use Rattle.numbers.specs.Put.{put}
-use Rattle.numbers.specs.Regions.{Kept, Part}
-use Rattle.numbers.proofs.Put.{put-here, put-kept, put-sets}
+use Rattle.numbers.specs.Regions.{Part}
+use Rattle.numbers.proofs.Put.{put-sets}
 
 -- number i of k lies within l bytes
 pub room : (w i k l : ℕ) → i < k → w * k ≤ l → w * i + w ≤ l
@@ -31,14 +28,6 @@ room w i k l h r = omega (arith, mul-le-mul-left w h, mul-suc w i)
 -- numbers take at least as many bytes as there are numbers
 pub count-low : (w n : ℕ) → 2 ≤ w → n ≤ w * n
 count-low w n h = omega (arith, mul-le-mul-right n h)
-
--- two numbers lie apart
-apart : (w i j : ℕ) → j ≢ i → (w * i + w ≤ w * j) ⊎ (w * j + w ≤ w * i)
-apart w i j f =
-    elim (decLt i j) [
-      | yes l ↦ inl (room w i j (w * j) l (omega arith))
-      | no g ↦ inr (room w j i (w * i) (lt-of-le-ne (omega arith) f) (omega arith))
-    ]
 
 -- a number of a stretch is a number of the whole
 pub le-part : (w : ℕ) (s : List ℕ) (b size p : ℕ) → p + w ≤ size → leAt w (part s b size) p ≡ leAt w s (b + p)
@@ -67,29 +56,6 @@ unfolding leAt
 le-bytes zero v h = omega arith
 le-bytes (suc w) v h =
     omega (arith, le-tail w (v % 256) (leBytes w (v / 256)) 0, le-bytes w (v / 256) (omega (arith, pow-suc 256 w)))
-
-module _ (w : ℕ) (s : List ℕ) (i v : ℕ) (fits : w * i + w ≤ length s) where
-  abbrev within : w * i + length (leBytes w v) ≤ length s
-  within = omega (arith, bytes-long w v)
-
-  -- what was written is read
-  pub num-same : v < 256 ^ w → numAt w (put s (w * i) (leBytes w v)) i ≡ v
-  num-same h =
-      le-own w (put s (w * i) (leBytes w v)) (w * i)
-      ∙ ap (λ (n : ℕ). leAt w (part (put s (w * i) (leBytes w v)) (w * i) n) 0) (sym (bytes-long w v))
-      ∙ ap (λ (z : List ℕ). leAt w z 0) (put-here s (w * i) (leBytes w v) within)
-      ∙ le-bytes w v h
-
-  -- no other byte is touched
-  pub num-kept : Kept s (put s (w * i) (leBytes w v)) (w * i) w
-  num-kept = rw (bytes-long w v) at (put-kept s (w * i) (leBytes w v) within)
-
-  -- every other number is left
-  pub num-other : (j : ℕ) → j ≢ i → numAt w (put s (w * i) (leBytes w v)) j ≡ numAt w s j
-  num-other j f =
-      let same : part (put s (w * i) (leBytes w v)) (w * j) w ≡ part s (w * j) w =
-      ⊎-elim (λ l. num-kept .above (w * j) w l) (λ l. num-kept .below (w * j) w l) (apart w i j f) in
-      le-own w (put s (w * i) (leBytes w v)) (w * j) ∙ ap (λ (z : List ℕ). leAt w z 0) same ∙ sym (le-own w s (w * j))
 
 module _ (w : ℕ) (s : List ℕ) where
   -- number i of the part that holds n numbers from number a on

@@ -1,4 +1,4 @@
--- Work memory is one lent buffer, and a pass is lent the whole of it. A region is the list `part w at size`; a pass writes one window and leaves
+-- Work memory is one lent buffer, and a pass is lent the whole of it. A region is the list `part work at size`; a pass writes one window and leaves
 -- every region that lies below or above it, and it reads only regions outside the window.
 use mathlib.Core.Path.{_≡_}
 use mathlib.Core.List.{List}
@@ -6,20 +6,20 @@ use Prim.Native.Nat.{ℕ, _+_, _≤_}
 use lib.ListN.{length}
 use Rattle.lineage.specs.Lists.{part}
 
--- w' differs from w only in the size words from base on
-pub record Kept (w w' : List ℕ) (base size : ℕ) : Type 0 where
-  pub long : length w' ≡ length w
-  pub below : (at count : ℕ) → at + count ≤ base → part w' at count ≡ part w at count
-  pub above : (at count : ℕ) → base + size ≤ at → part w' at count ≡ part w at count
+-- work' differs from work only in the size words from base on
+pub record Kept (work work' : List ℕ) (base size : ℕ) : Type 0 where
+  pub long : length work' ≡ length work
+  pub below : (at count : ℕ) → at + count ≤ base → part work' at count ≡ part work at count
+  pub above : (at count : ℕ) → base + size ≤ at → part work' at count ≡ part work at count
 
 -- the count words from at on lie below the size words from base on, or above them
 pub data Apart (at count base size : ℕ) : Type 0 where
   under : at + count ≤ base → Apart at count base size
   over : base + size ≤ at → Apart at count base size
 
--- a region that a pass reads: it lies in w, and apart from the window
-pub record Outside (w : List ℕ) (at count base size : ℕ) : Type 0 where
-  pub fits : at + count ≤ length w
+-- a region that a pass reads: it lies in work, and apart from the window
+pub record Outside (work : List ℕ) (at count base size : ℕ) : Type 0 where
+  pub fits : at + count ≤ length work
   pub apart : Apart at count base size
 
 -- r is the part of s of this size from position at on, whole

@@ -1,11 +1,10 @@
-// Little-endian numbers of w bytes in lent bytes, w being 2 or 4, and lent memory set to 0.
+// Little-endian numbers of w bytes in lent bytes, w being 2 or 4; the lesser and the greater of two numbers; and lent memory set to 0.
 ghost use mathlib.Core.Path.{_≡_};
-ghost use Prim.Native.Nat.{_+_, _*_, _%_, _^_, _≤_, _<_};
+ghost use Prim.Native.Nat.{_+_, _*_, _%_, _^_, _≤_, _<_, min, max};
 ghost use lib.ListN.{length, replicate};
 ghost use Rattle.lineage.specs.Lists.{part, cleared};
 ghost use Rattle.lineage.specs.Numbers.{Width, leAt, numAt, numbers, leBytes, written};
-ghost use Rattle.laws.specs.Rising.{Rises};
-ghost use Rattle.laws.specs.Rising.{countBelow};
+ghost use Rattle.laws.specs.Rising.{Rises, countBelow};
 ghost use Rattle.numbers.specs.Put.{put};
 ghost use Rattle.numbers.specs.Regions.{Kept, Part};
 
@@ -19,6 +18,31 @@ fn low(v: usize) -> u8
     ensures { λ r. ⌜ r ≡ v % 256 ⌝ }
 {
     (v % 256) as u8
+}
+
+// The lesser of two numbers, and the greater; and those of two words.
+pub fn lesser(a: usize, b: usize) -> usize
+    ensures { λ r. ⌜ r ≡ min a b ⌝ }
+{
+    if a < b { a } else { b }
+}
+
+pub fn greater(a: usize, b: usize) -> usize
+    ensures { λ r. ⌜ r ≡ max a b ⌝ }
+{
+    if a < b { b } else { a }
+}
+
+pub fn lesser_word(a: u32, b: u32) -> u32
+    ensures { λ r. ⌜ r ≡ min a b ⌝ }
+{
+    if a < b { a } else { b }
+}
+
+pub fn greater_word(a: u32, b: u32) -> u32
+    ensures { λ r. ⌜ r ≡ max a b ⌝ }
+{
+    if a < b { b } else { a }
 }
 
 // The bytes that so many numbers of w bytes take.
@@ -100,15 +124,6 @@ pub fn put_at(out: &mut [u8], p: usize, w: usize, v: usize)
     let v3 = v2 / 256;
     out[p + 2] = low(v2);
     out[p + 3] = low(v3);
-}
-
-// Writes v as number i of a stretch of numbers of w bytes.
-pub fn put_num(out: &mut [u8], w: usize, i: usize, v: usize)
-    requires { ⌜ Width w ⌝ }
-    requires { ⌜ w * i + w ≤ length (now out) ⌝ }
-    ensures { λ _. ⌜ now (out .exit) ≡ put (now (out .entry)) (w * i) (leBytes w v) ⌝ }
-{
-    put_at(out, w * i, w, v)
 }
 
 // Writes count words, from word `from` on, as numbers of w bytes one after the other, from position at on.

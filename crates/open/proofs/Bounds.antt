@@ -12,6 +12,7 @@ use Rattle.lineage.specs.Numbers.{written}
 use Rattle.lineage.specs.Stored.{form1, Counts, startsFrom, sections, countsOf, header, encode, countsIn}
 use Rattle.laws.specs.Sound.{Sound}
 use Rattle.laws.proofs.Starts.{starts-long}
+use Rattle.numbers.specs.Bounds.{vertexBound}
 use Rattle.numbers.proofs.Written.{written-long}
 use Rattle.stored_header.specs.declared.Layout.{Layout}
 use Rattle.stored_header.specs.Header.{Laid}
@@ -20,14 +21,14 @@ use Rattle.stored.proofs.LabelNumbers.{labels-long}
 use Rattle.stored.proofs.Encoded.{counts-again}
 use Rattle.open.proofs.Fits.{full}
 
-module _ {I : Index} (S : Sound I) (short : length (encode form1 I) < 2 ^ 31) (few : length (I .labels) ≤ 5) where
+module _ {I : Index} (S : Sound I) where
   abbrev a : Counts
   a = countsOf I
 
   -- the length is that of header and sections
-  long : length (encode form1 I) ≡ 48 + 2 * a .n + 2 * a .k + 2 * a .k + 2 * (a .k + 1) + 2 * a .c + 2 * (a .d * (4 * a .k))
+  pub yielded-long : length (encode form1 I) ≡ 48 + 2 * a .n + 2 * a .k + 2 * a .k + 2 * (a .k + 1) + 2 * a .c + 2 * (a .d * (4 * a .k))
   unfolding encode
-  long =
+  yielded-long =
       let G = S .condensed in
       let levels : length (I .levels) ≡ a .k = G .levels-long ∙ G .children-long in
       let starts : length (startsFrom 0 (I .children)) ≡ a .k + 1 = omega (arith, starts-long 0 (I .children), G .children-long) in
@@ -35,30 +36,25 @@ module _ {I : Index} (S : Sound I) (short : length (encode form1 I) < 2 ^ 31) (f
       omega (arith, offsets-last 2 (written 4 (header form1 a)) (sections I) 48 (sym (written-long 4 (header form1 a))))
 
   -- so every number of the header is of 32 bits, and is read again
-  header-small : Every (λ x. x < 256 ^ 4) (header form1 a)
-  header-small =
-      let l = long in
-      (omega arith, (omega arith, (omega arith, (omega arith, (omega arith, (omega arith, (omega arith, (omega arith, (omega arith, (omega arith, (omega arith, (omega arith, tt))))))))))))
+  module _ (short : length (encode form1 I) < 2 ^ 31) (few : length (I .labels) < 2 ^ 31) where
+    header-small : Every (λ x. x < 256 ^ 4) (header form1 a)
+    header-small =
+        let l = yielded-long in
+        (omega arith, (omega arith, (omega arith, (omega arith, (omega arith, (omega arith, (omega arith, (omega arith, (omega arith, (omega arith, (omega arith, (omega arith, tt))))))))))))
 
-  pub counts-bounded : countsIn (encode form1 I) ≡ a
-  counts-bounded = counts-again form1 I header-small
+    pub counts-bounded : countsIn (encode form1 I) ≡ a
+    counts-bounded = counts-again form1 I header-small
 
 -- bytes whose header is right are short
 pub laid-short : {b : List ℕ} {l : Layout} → Laid b l → length b < 2 ^ 31
 laid-short {b} {l} L =
     let w = L .width .high in
-    let k : l .k ≤ 200000 = omega (arith, L .vertices, L .groups) in
-    let k1 : l .k + 1 ≤ 200001 = omega arith in
+    let k : l .k ≤ vertexBound = omega (arith, L .vertices, L .groups) in
+    let k1 : l .k + 1 ≤ vertexBound + 1 = omega arith in
     omega (
       arith,
       L .long,
-      L .names-at,
-      L .groups-at,
-      L .levels-at,
-      L .starts-at,
-      L .children-at,
-      L .labels-at,
-      L .total-at,
+      L .sited,
       mul-le-mul w (L .vertices),
       mul-le-mul w k,
       mul-le-mul w k1,

@@ -11,7 +11,7 @@ use Rattle.lineage.specs.Lists.{Every}
 use Rattle.lineage.specs.Graph.{Graph, Ends, namesOf, condense, levelsOf}
 use Rattle.lineage.specs.Labels.{Order, Labelling, labelling}
 use Rattle.lineage.specs.Index.{Index, indexBy, indexOf}
-use Rattle.lineage.specs.Stored.{Form, form1, Counts, countsOf, countsFit, encode, headerAt, countsIn, formOf, section}
+use Rattle.lineage.specs.Stored.{Form, form1, Counts, countsOf, countsFit, encode, headerAt, countsIn, formOf, section, mostLabellings}
 use Rattle.lineage.specs.Sound.{startsPass, sound, contentsSound}
 use Rattle.lineage.specs.Calls.{answered, openAnswer}
 use Rattle.laws.specs.Sound.{SoundLabelling, Sound}
@@ -20,8 +20,8 @@ use Rattle.laws.proofs.Names.{names-long}
 use Rattle.laws.proofs.Sound.{made-sound}
 use Rattle.laws.proofs.Starts.{starts-pass}
 use Rattle.stored.specs.Fits.{Full, Fits}
-use Rattle.stored.proofs.Encoded.{header-read, counts-read, decode-encode, encode-passes, encode-laid}
-use Rattle.open.proofs.Checks.{header-passed, opened}
+use Rattle.stored.proofs.Encoded.{header-read, counts-read, decode-encode, encode-passes}
+use Rattle.open.proofs.Checks.{passed-opens}
 use Rattle.open.proofs.Starts.{starts-read}
 use Rattle.open.proofs.Small.{groups-few, sections-small}
 use Rattle.open.proofs.Entries.{entries-few}
@@ -40,7 +40,7 @@ pub bounds-kept : (F : Form) (G : Graph) → Ends G → (orders : List (List ℕ
     → G .n ≤ F .vertices
     → length (G .sources) ≤ F .entries
     → 1 ≤ length orders
-    → length orders ≤ 5
+    → length orders ≤ mostLabellings
     → countsFit F (countsOf (indexOf G orders)) ≡ true
 unfolding indexOf indexBy condense
 bounds-kept F G ends orders permuted vertices edges least most =
@@ -110,5 +110,4 @@ module _ {F : Form} {I : Index} (E : Fits F I) (passes : sound I ≡ true) where
   fits-opens marks h =
       let n : countsIn b .n ≡ length (I .names) = ap (λ (a : Counts). a .n) (counts-read E) in
       ap answered (sym (counts-read E))
-      ∙ opened (encode-laid E) (omega arith) (sym (ap (λ (G : Form). contentsSound (G .width) b) form-again ∙ contents-again)) refl
-      ∙ header-passed b (encode-passes E) marks
+      ∙ passed-opens b (encode-passes E) marks (omega arith) (ap (λ (G : Form). contentsSound (G .width) b) form-again ∙ contents-again)

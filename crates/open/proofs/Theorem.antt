@@ -12,9 +12,9 @@ use Rattle.lineage.specs.Lists.{joined, Every}
 use Rattle.lineage.specs.Graph.{Graph, Ends}
 use Rattle.lineage.specs.Labels.{Order, labelling}
 use Rattle.lineage.specs.Index.{Index, indexBy, indexOf, Made}
-use Rattle.lineage.specs.Stored.{Form, form1, Counts, countsOf, countsFit, encode, headerAt, countsIn, formOf, stretch, section, labellingAt, decode}
+use Rattle.lineage.specs.Stored.{Form, form1, Counts, countsOf, countsFit, encode, headerAt, countsIn, formOf, stretch, section, labellingAt, decode, mostLabellings}
 use Rattle.lineage.specs.Sound.{startsPass, sound, contentsSound}
-use Rattle.lineage.specs.Calls.{answered, openAnswer, indexIn}
+use Rattle.lineage.specs.Calls.{answered, openAnswer, openMarks, indexIn}
 use Rattle.laws.proofs.Sound.{made-sound, sound-is-made, made-long}
 use Rattle.laws.proofs.Decides.{sound-decides}
 use Rattle.laws.proofs.Lists.{table-long}
@@ -22,7 +22,6 @@ use Rattle.laws.proofs.Tests.{both}
 use Rattle.laws.proofs.Starts.{pass-laid, rows-joined}
 use Rattle.numbers.proofs.Numbers.{numbers-long}
 use Rattle.numbers.proofs.Written.{Bytes}
-use Rattle.stored_header.specs.Header.{layoutIn}
 use Rattle.stored.specs.Fits.{Fits}
 use Rattle.stored_header.proofs.Laid.{header-laid}
 use Rattle.stored.proofs.Encoded.{counts-read}
@@ -65,7 +64,7 @@ module _ (b : List ℕ) (marks : ℕ) {a : Counts} (e : answered a ≡ openAnswe
   opened-yields : Bytes b → Yields form1 b
   opened-yields small =
       let M : Made (indexIn b) = opened-made in
-      let laid = header-laid b (layoutIn b) (right-passes b (opened-right b marks e)) in
+      let laid = header-laid b (right-passes b (opened-right b marks e)) in
       record {
         graph = M .graph;
         ends = M .ends;
@@ -99,7 +98,7 @@ module _ {b : List ℕ} (Y : Yields form1 b) where
   -- the header's counts are the index's
   counts-right : HeaderRight b → length (Y .orders) ≡ countsIn b .d → countsFit form1 (countsOf I) ≡ true
   counts-right R d =
-      let L = header-laid b (layoutIn b) (right-passes b R) in
+      let L = header-laid b (right-passes b R) in
       let short : length (encode form1 I) < 2 ^ 31 = subst (λ (z : List ℕ). length z < 2 ^ 31) (sym (Y .bytes)) (laid-short L) in
       let counts = counts-bounded (made-sound (Y .graph) (Y .ends) (Y .orders) (Y .permuted)) short (omega (arith, labellings, L .most)) in
       ap (countsFit form1) (sym counts ∙ ap countsIn (Y .bytes)) ∙ R .counts
@@ -133,7 +132,7 @@ pub built-opens : (G : Graph) → Ends G → (orders : List (List ℕ)) → Ever
     → G .n ≤ 4096
     → length (G .sources) ≤ 16384
     → 1 ≤ length orders
-    → length orders ≤ 5
+    → length orders ≤ mostLabellings
     → (marks : ℕ)
     → G .n ≤ marks
     → openAnswer (encode form1 (indexOf G orders)) marks ≡ answered (countsOf (indexOf G orders))
@@ -143,15 +142,22 @@ built-opens G ends orders permuted vertices edges least most marks room =
     let n = made-long (record { graph = G; ends = ends; orders = orders; permuted = permuted; yields = refl }) in
     sym (fits-opens (yielded-fits form1-wide G ends orders permuted bounds) passes marks (omega arith))
 
--- two answers allowed by open's contract are equal
-pub opened-once : (r r' : Opened) → openedOf r ≡ openedOf r' → r ≡ r'
-opened-once (IndexOf n k c d) (IndexOf n' k' c' d') e =
+-- What `open` may answer and leave, by its contract: two results are equal.
+pub record Allowed (b marks : List ℕ) (r : Opened) (m : List ℕ) : Type 0 where
+  pub answers : openedOf r ≡ openAnswer b (length marks)
+  pub leaves : m ≡ openMarks b marks
+
+opened-one : (r r' : Opened) → openedOf r ≡ openedOf r' → r ≡ r'
+opened-one (IndexOf n k c d) (IndexOf n' k' c' d') e =
     let same : _≡_ {A = Counts} (record { n = n; k = k; c = c; d = d }) (record { n = n'; k = k'; c = c'; d = d' }) = cc in
     let en : n ≡ n' = ap (λ (a : Counts). a .n) same in
     let ek : k ≡ k' = ap (λ (a : Counts). a .k) same in
     let ec : c ≡ c' = ap (λ (a : Counts). a .c) same in
     let ed : d ≡ d' = ap (λ (a : Counts). a .d) same in
     cc
-opened-once (IndexOf n k c d) (Refused number extra) e = cc
-opened-once (Refused number extra) (IndexOf n k c d) e = cc
-opened-once (Refused number extra) (Refused number' extra') e = cc
+opened-one (IndexOf n k c d) (Refused number extra) e = cc
+opened-one (Refused number extra) (IndexOf n k c d) e = cc
+opened-one (Refused number extra) (Refused number' extra') e = cc
+
+pub opened-once : {b marks : List ℕ} {r r' : Opened} {m m' : List ℕ} → Allowed b marks r m → Allowed b marks r' m' → (r ≡ r') × (m ≡ m')
+opened-once A B = (opened-one _ _ (A .answers ∙ sym (B .answers)), A .leaves ∙ sym (B .leaves))

@@ -2,7 +2,7 @@
 use mathlib.Core.List.{List}
 use Prim.Native.Nat.{ℕ, _≤_}
 use Rattle.sound_groups.specs.Fit.{Groups}
-use Rattle.sound_labels.specs.Fit.{Labellings}
+use Rattle.stored.specs.Sections.{Labellings}
 
 pub record Parts (w n k c d : ℕ) (names groups levels starts children labels : List ℕ) : Type 0 where
   pub condensed : Groups w n k c names groups levels starts children

@@ -10,25 +10,18 @@ ghost use Rattle.lineage.specs.Calls.{openAnswer, openMarks};
 ghost use Rattle.stored_header.specs.Header.{Laid};
 ghost use Rattle.stored.specs.Sections.{indexFrom};
 ghost use Rattle.open.specs.Parts.{Parts};
-ghost use Rattle.open.specs.Opened.{openedOf, lateAnswer, lateMarks};
-use stored_header::Header;
-use stored_header::Layout;
+ghost use Rattle.open.specs.Opened.{openedOf};
 use numbers::clear_marks;
+use refusals::NOT_SOUND;
 use sound_groups::groups_pass;
 use sound_labels::labels_sound;
+use stored_header::Header;
+use stored_header::Layout;
 
 // An index's counts, or a refusal with its number and its extra number.
 pub enum Opened {
-    Index {
-        n: usize,
-        k: usize,
-        c: usize,
-        d: usize,
-    },
-    Refused {
-        number: usize,
-        extra: usize,
-    },
+    Index { n: u32, k: u32, c: u32, d: u32 },
+    Refused { number: u32, extra: u32 },
 }
 
 // Whether six sections hold an index that some edge list and some orders yield. Marks below n are 0 afterwards.
@@ -83,41 +76,26 @@ pub fn contents_sound(index: &[u8], l: Layout, marks: &mut [u8]) -> bool
     )
 }
 
-// Opens bytes whose header passes: refusals 13 and 15, or the counts.
-fn open_laid(index: &[u8], l: Layout, marks: &mut [u8]) -> Opened
-    requires { ⌜ Laid (now index) l ⌝ }
-    ensures { λ r. ⌜ openedOf r ≡ lateAnswer (now (index .entry)) (length (now (marks .entry))) ⌝ }
-    ensures { λ _. ⌜ now (marks .exit) ≡ lateMarks (now (index .entry)) (now (marks .entry)) ⌝ }
-{
-    let n = l.n;
-    if marks.len() < n {
-        return Opened::Refused {
-            number: 13,
-            extra: n,
-        };
-    }
-    if !contents_sound(index, l, marks) {
-        return Opened::Refused {
-            number: 15,
-            extra: 0,
-        };
-    }
-    Opened::Index {
-        n,
-        k: l.k,
-        c: l.c,
-        d: l.d,
-    }
-}
-
 // Opens a stored index: refusals 10, 11, 12, 13 and 15 in order, or its counts. Marks below n are 0 after 15 and after success; the refusals before leave them
 // as they were.
 pub fn open(index: &[u8], marks: &mut [u8]) -> Opened
     ensures { λ r. ⌜ openedOf r ≡ openAnswer (now (index .entry)) (length (now (marks .entry))) ⌝ }
     ensures { λ _. ⌜ now (marks .exit) ≡ openMarks (now (index .entry)) (now (marks .entry)) ⌝ }
 {
-    match stored_header::read_header(index) {
-        Header::Refused(number, extra) => Opened::Refused { number, extra },
-        Header::Passed(l) => open_laid(index, l, marks),
+    let l = match stored_header::admit(index, marks.len()) {
+        Header::Refused { number, extra } => return Opened::Refused { number, extra },
+        Header::Passed(l) => l,
+    };
+    if !contents_sound(index, l, marks) {
+        return Opened::Refused {
+            number: NOT_SOUND,
+            extra: 0,
+        };
+    }
+    Opened::Index {
+        n: l.n as u32,
+        k: l.k as u32,
+        c: l.c as u32,
+        d: l.d as u32,
     }
 }

@@ -1,12 +1,23 @@
 -- The sweep on its way down: sweeping the ranks that are left, over the marks as they are, comes to the whole sweep over the marks as they were.
 use mathlib.Core.Path.{_≡_, refl, sym, ap, _∙_}
 use mathlib.Core.List.{List, []}
-use Prim.Native.Nat.{ℕ, suc, _≤_}
+use Prim.Native.Nat.{ℕ, suc, _≤_, _<_}
 use native.Mathlib.Omega.{arith}
 use lib.ListN.{length, getD}
 use borrow.Author.Tests.{eq-eqb, ne-eqb}
+use Rattle.lineage.specs.Numbers.{numAt, numbers}
+use Rattle.sound_groups.proofs.Read.{was-read}
+use Rattle.reach_sweep.specs.Fit.{Ranked}
 use Rattle.reach_sweep.specs.Sweep.{rowMarked, turn, swept}
 use Rattle.reach_sweep.proofs.Turn.{turn-marked, turn-passed}
+
+-- what was read at a rank is a place, that of the list
+module _ {w k : ℕ} {places : List ℕ} (R : Ranked w k places) {r p : ℕ} (read : p ≡ numAt w places r) (low : r < k) where
+  pub rank-low : p < k
+  rank-low = omega (arith, R .place-low r low)
+
+  pub rank-was : p ≡ getD (numbers w places k) r 0
+  rank-was = was-read (R .places-held) low read
 
 -- the ranks from `rank` down to 1 are left
 pub record Sweeping (groups : List ℕ) (children : List (List ℕ)) (places : List ℕ) (top rank : ℕ) (before marks : List ℕ) : Type 0 where

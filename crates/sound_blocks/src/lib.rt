@@ -13,9 +13,9 @@ use numbers::count_below;
 use numbers::num;
 use numbers::numbers_from;
 use sound_groups::row_span;
-use sound_ranks::E;
-use sound_ranks::M;
 use sound_ranks::label;
+use stored::parts::E;
+use stored::parts::M;
 
 // Whether q is a child of group p: it is looked for in the row, which rises, by halves.
 fn child_in(

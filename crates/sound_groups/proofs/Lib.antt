@@ -1,5 +1,4 @@
 -- The laws that the proofs of this crate and of those above cite.
-pub mod Passed
 pub mod Read
 pub mod Names
 pub mod Listed

@@ -1,6 +1,6 @@
 -- A row gone through from its first child on: those passed are places, strictly rising, and the next is at least one more than the last.
 use mathlib.Core.Bool.{Bool, true, false, _&&_, and-false}
-use mathlib.Core.Path.{_≡_, refl, ap}
+use mathlib.Core.Path.{_≡_, refl, sym, ap}
 use mathlib.Core.List.{List, []}
 use Prim.Native.Nat.{ℕ, zero, suc, _+_, _-_, _≤_, _<_}
 use native.Mathlib.Omega.{arith}
@@ -12,10 +12,10 @@ use Rattle.lineage.specs.Lists.{allBelow}
 use Rattle.lineage.specs.Sound.{rowPasses}
 use Rattle.laws.proofs.Tests.{and-both}
 use Rattle.laws.proofs.Lists.{all-broken}
+use Rattle.laws.proofs.Passed.{Passed, passed-none, passed-next, passed-all}
 use Rattle.stored.specs.Sections.{childrenIn}
 use Rattle.stored.proofs.Sections.{children-long}
 use Rattle.sound_groups.specs.Fit.{Row, Children}
-use Rattle.sound_groups.proofs.Passed.{Passed, passed-none, passed-next, passed-all}
 use Rattle.sound_groups.proofs.Row.{row-has}
 
 -- child i is a place
@@ -72,7 +72,7 @@ module _ {k len i next q : ℕ} {row : List ℕ} (N : Rising k row len i next) (
 pub rising-all : {k len i next : ℕ} {row : List ℕ} → Rising k row len i next → len ≤ i → (allBelow len (lowAt k row) && allBelow (len - 1) (risesAt row)) ≡ true
 rising-all {k} {len} {i} {next} {row} N l =
     let a : i ≡ len = omega (arith, N .low .within) in
-    and-both (passed-all (N .low) l) (passed-all (N .rises) (omega arith))
+    and-both (sym (passed-all (N .low) l)) (sym (passed-all (N .rises) (omega arith)))
 
 -- and so with the row of group p
 pub row-passes-is : {w k c p from len : ℕ} {starts children : List ℕ} → Children w starts children k c → Row w starts k c p from len

@@ -7,13 +7,14 @@ use lib.ListN.{length}
 use Rattle.lineage.specs.Lists.{allBelow}
 use Rattle.lineage.specs.Numbers.{Width, numAt, numbers}
 use Rattle.lineage.specs.Sound.{rowPasses, startsPass}
+use Rattle.numbers.specs.Bounds.{entryBound}
 use Rattle.stored.specs.Sections.{childrenIn}
 
 -- a stretch holds a count of numbers of w bytes
 pub record Holds (w : ℕ) (stretch : List ℕ) (count : ℕ) : Type 0 where
   pub width : Width w
   pub long : w * count ≤ length stretch
-  pub few : count ≤ 1000000
+  pub few : count ≤ entryBound
 
 -- a stretch holds the child starts of k groups
 pub record Starts (w : ℕ) (starts : List ℕ) (k : ℕ) : Type 0 where

@@ -2,7 +2,7 @@
 // vertices, the groups or the child entries.
 ghost use mathlib.Core.Bool.{_&&_};
 ghost use mathlib.Core.Path.{_≡_};
-ghost use Prim.Native.Nat.{_+_, _<_, max};
+ghost use Prim.Native.Nat.{_+_, _<_};
 ghost use Rattle.lineage.specs.Lists.{allBelow, sameList};
 ghost use Rattle.lineage.specs.Graph.{groupList};
 ghost use Rattle.lineage.specs.Numbers.{numbers};
@@ -10,6 +10,7 @@ ghost use Rattle.lineage.specs.Sound.{namesPass, startsPass, rowPasses, levelPa
 ghost use Rattle.stored.specs.Sections.{childrenIn};
 ghost use Rattle.sound_groups.specs.Fit.{Holds, Starts, Rows, Row, Children, Places, Groups};
 ghost use Rattle.sound_groups.specs.Tests.{ownName, levelAbove};
+use numbers::greater;
 use numbers::num;
 
 // Whether the name of v is not above v and is its own name.
@@ -153,12 +154,6 @@ fn rows_pass(starts: &[u8], children: &[u8], w: usize, k: usize, c: usize) -> bo
     true
 }
 
-fn larger(a: usize, b: usize) -> usize
-    ensures { λ r. ⌜ r ≡ max a b ⌝ }
-{
-    if a < b { b } else { a }
-}
-
 // 0 without children, otherwise one more than the greatest level among the children of group p.
 fn level_above(
     starts: &[u8],
@@ -181,7 +176,7 @@ fn level_above(
     let mut level = 0;
     while i < len {
         let q = num(children, w, from + i);
-        level = larger(level, num(levels, w, q) + 1);
+        level = greater(level, num(levels, w, q) + 1);
         i += 1;
     }
     level

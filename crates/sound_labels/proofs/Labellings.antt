@@ -7,9 +7,8 @@ use native.Mathlib.Omega.{arith}
 use Rattle.lineage.specs.Lists.{upto, allBelow, allOf}
 use Rattle.lineage.specs.Sound.{labelsPass}
 use Rattle.numbers.specs.Regions.{Part}
-use Rattle.stored.specs.Sections.{labellingIn, triplesOf, placesOf, labelsIn}
+use Rattle.stored.specs.Sections.{labellingIn, Labellings, triplesOf, placesOf, labelsIn}
 use Rattle.sound_ranks.specs.Fit.{Labels}
-use Rattle.sound_labels.specs.Fit.{Labellings}
 use Rattle.sound_labels.specs.Tests.{labellingPasses}
 
 module _ {w k d : ℕ} {labels triples places : List ℕ} (D : Labellings w labels k d) (j : ℕ)
@@ -17,8 +16,8 @@ module _ {w k d : ℕ} {labels triples places : List ℕ} (D : Labellings w labe
   where
     pub labels-held : Labels w triples places k
     labels-held = record {
-      triples-held = record { held = record { width = D .width; long = omega (arith, T .long); few = omega (arith, D .few-groups) } };
-      places-held = record { width = D .width; long = omega (arith, P .long); few = omega (arith, D .few-groups) };
+      triples-held = record { held = record { width = D .width; long = omega (arith, T .long); few = omega (arith, D .groups-few) } };
+      places-held = record { width = D .width; long = omega (arith, P .long); few = omega (arith, D .groups-few) };
     }
 
     pub labelling-is : (children : List (List ℕ)) → labelsPass children (labellingIn w triples places k) ≡ labellingPasses w children labels k j

@@ -8,9 +8,9 @@ use borrow.Author.Tests.{eq-eqb}
 use Rattle.lineage.specs.Lists.{allBelow}
 use Rattle.lineage.specs.Labels.{nobodysChild, Labelling}
 use Rattle.lineage.specs.Sound.{walkEnds, rankPasses, fallPasses, outerPasses, innerPasses, blockPasses, labelsPass}
+use Rattle.laws.proofs.Tests.{told-true}
 use Rattle.stored.specs.Sections.{childrenIn, labellingIn}
 use Rattle.stored.proofs.Sections.{children-long, s-long, m-long, e-long, places-long}
-use Rattle.sound_groups.proofs.Passed.{answered}
 use Rattle.sound_ranks.specs.Fit.{Labels}
 use Rattle.sound_ranks.specs.Tests.{triplesAlone}
 use Rattle.sound_blocks.specs.Fit.{Ranked}
@@ -53,4 +53,4 @@ pub ranked-after : {w k : ℕ} {triples places : List ℕ} {a b : Bool} → Labe
     → b ≡ allBelow k (innerPasses (triplesAlone w triples k))
     → not b ≡ false
     → Ranked w triples places k
-ranked-after {w} {k} {triples} {places} L ea ta eb tb = record { labels = L; ranks = answered ea ta; inners = answered (inners-any w k triples places eb) tb }
+ranked-after {w} {k} {triples} {places} L ea ta eb tb = record { labels = L; ranks = told-true ea ta; inners = told-true (inners-any w k triples places eb) tb }

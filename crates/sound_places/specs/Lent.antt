@@ -6,16 +6,18 @@ use Prim.Native.Nat.{ℕ, _+_, _*_, _≤_}
 use lib.ListN.{length}
 use Rattle.lineage.specs.Numbers.{Width, numbers}
 use Rattle.lineage.specs.Sound.{startsPass, sound}
+use Rattle.lineage.specs.Stored.{mostLabellings}
+use Rattle.numbers.specs.Bounds.{vertexBound}
 use Rattle.stored_header.specs.declared.Layout.{Layout}
 use Rattle.stored.specs.Sections.{indexAt}
 
 -- each section is as long as the layout says, the counts are within the bounds of every form, and the contents are sound
 pub record Lent (l : Layout) (names groups levels starts children labels : List ℕ) : Type 0 where
   pub width : Width (l .width)
-  pub vertices-few : l .n ≤ 200000
+  pub vertices-few : l .n ≤ vertexBound
   pub groups-few : l .k ≤ l .n
   pub labellings-some : 1 ≤ l .d
-  pub labellings-few : l .d ≤ 5
+  pub labellings-few : l .d ≤ mostLabellings
   pub names-long : length names ≡ l .width * l .n
   pub groups-long : length groups ≡ l .width * l .k
   pub levels-long : length levels ≡ l .width * l .k

@@ -1,7 +1,7 @@
 // The place of a group: where its name stands in the group list, found by halves, since the list rises.
 ghost use mathlib.Core.Bool.{true};
 ghost use mathlib.Core.Path.{_≡_};
-ghost use Prim.Native.Nat.{ℕ, _-_, _*_, _≤_, _<_, min};
+ghost use Prim.Native.Nat.{ℕ, _-_, _*_, _≤_, _<_};
 ghost use lib.ListN.{length};
 ghost use Rattle.lineage.specs.Lists.{among};
 ghost use Rattle.lineage.specs.Graph.{placeOf};
@@ -17,14 +17,8 @@ fn least_place(n: usize, k: usize, name: usize) -> usize
     if others < name { name - others } else { 0 }
 }
 
-// The greatest place that it can have: no more names are below its name than vertices.
-fn most_place(k: usize, name: usize) -> usize
-    ensures { λ r. ⌜ r ≡ min name k ⌝ }
-{
-    if name <= k { name } else { k }
-}
-
-// The place of the group of this name. Where every vertex is a group of its own it is the name itself, and nothing is sought.
+// The place of the group of this name: at most the name, since no more names are below it than vertices. Where every vertex is a group of its own it is the name
+// itself, and nothing is sought.
 pub fn place_of(groups: &[u8], w: usize, n: usize, k: usize, name: usize) -> usize
     requires { ⌜ Width w ⌝ }
     requires { ⌜ (w * k ≤ length (now groups)) × (k ≤ n) ⌝ }
@@ -34,6 +28,6 @@ pub fn place_of(groups: &[u8], w: usize, n: usize, k: usize, name: usize) -> usi
     ensures { λ r. ⌜ r ≡ placeOf (numbers w (now (groups .entry)) k) name ⌝ }
 {
     let least = least_place(n, k, name);
-    let most = most_place(k, name);
+    let most = numbers::lesser(name, k);
     numbers::count_below(groups, w, k, name, least, most)
 }

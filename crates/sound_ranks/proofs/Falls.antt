@@ -11,12 +11,12 @@ use Rattle.lineage.specs.Sound.{fallPasses}
 use Rattle.stored.specs.Sections.{childrenIn}
 use Rattle.sound_groups.specs.Fit.{Row}
 use Rattle.sound_groups.proofs.Row.{row-has, child-was, child-low}
-use Rattle.sound_ranks.specs.Fit.{Labelled}
+use Rattle.sound_ranks.specs.Fit.{LabelledRows}
 use Rattle.sound_ranks.specs.Tests.{triplesAlone, fallsTo}
 use Rattle.sound_ranks.proofs.Read.{e-was}
 
 module _ {w k c p from len : ℕ} {starts children triples : List ℕ}
-    (L : Labelled w starts children triples k c) (R : Row w starts k c p from len)
+    (L : LabelledRows w starts children triples k c) (R : Row w starts k c p from len)
   where
     pub fall-is : allBelow len (fallsTo (childrenIn w starts children k c) (triplesAlone w triples k) p) ≡ fallPasses (childrenIn w starts children k c) (triplesAlone w triples k) p
     fall-is = rw (row-has (L .below .entries) R)

@@ -13,6 +13,6 @@ pub record Labels (w : ℕ) (triples places : List ℕ) (k : ℕ) : Type 0 where
   pub places-held : Holds w places k
 
 -- children that are places, and the triples of as many groups
-pub record Labelled (w : ℕ) (starts children triples : List ℕ) (k c : ℕ) : Type 0 where
+pub record LabelledRows (w : ℕ) (starts children triples : List ℕ) (k c : ℕ) : Type 0 where
   pub below : Places w starts children k c
   pub triples-held : Triples w triples k

@@ -1,21 +1,18 @@
 // The tests of s, m and e of a labelling, group by group: each rank is the rank of its place, e falls along children, s is the least below, m is a rank not above e.
 ghost use mathlib.Core.Path.{_≡_};
-ghost use Prim.Native.Nat.{_+_, _*_, _^_, _<_, min};
+ghost use Prim.Native.Nat.{_+_, _*_, _^_, _<_};
 ghost use Rattle.lineage.specs.Lists.{allBelow};
 ghost use Rattle.lineage.specs.Numbers.{numAt};
 ghost use Rattle.lineage.specs.Sound.{rankPasses, fallPasses, outerPasses, innerPasses};
 ghost use Rattle.stored.specs.Sections.{childrenIn, labellingIn};
 ghost use Rattle.sound_ranks.specs.Tests.{triplesAlone, leastBelow};
-ghost use Rattle.sound_ranks.specs.Fit.{Triples, Labels, Labelled};
+ghost use Rattle.sound_ranks.specs.Fit.{Triples, Labels, LabelledRows};
+use numbers::lesser;
 use numbers::num;
 use sound_groups::row_span;
-
-// Where s, m and e stand in a triple.
-pub const S: usize = 0;
-
-pub const M: usize = 1;
-
-pub const E: usize = 2;
+use stored::parts::E;
+use stored::parts::M;
+use stored::parts::S;
 
 // Number j of the triple of group p.
 pub fn label(triples: &[u8], w: usize, k: usize, p: usize, j: usize) -> usize
@@ -64,7 +61,7 @@ fn fall_passes(
     c: usize,
     p: usize,
 ) -> bool
-    requires { ⌜ Labelled w (now starts) (now children) (now triples) k c ⌝ }
+    requires { ⌜ LabelledRows w (now starts) (now children) (now triples) k c ⌝ }
     requires { ⌜ p < k ⌝ }
     ensures { λ a. ⌜ a ≡ fallPasses (childrenIn w (now (starts .entry)) (now (children .entry)) k c) (triplesAlone w (now (triples .entry)) k) p ⌝ }
 {
@@ -92,7 +89,7 @@ pub fn falls_pass(
     k: usize,
     c: usize,
 ) -> bool
-    requires { ⌜ Labelled w (now starts) (now children) (now triples) k c ⌝ }
+    requires { ⌜ LabelledRows w (now starts) (now children) (now triples) k c ⌝ }
     ensures { λ a. ⌜ a ≡ allBelow k (fallPasses (childrenIn w (now (starts .entry)) (now (children .entry)) k c) (triplesAlone w (now (triples .entry)) k)) ⌝ }
 {
     let mut p = 0;
@@ -105,12 +102,6 @@ pub fn falls_pass(
     true
 }
 
-fn smaller(a: usize, b: usize) -> usize
-    ensures { λ r. ⌜ r ≡ min a b ⌝ }
-{
-    if a < b { a } else { b }
-}
-
 // The least of group p's own e and its children's s.
 fn least_below(
     starts: &[u8],
@@ -121,7 +112,7 @@ fn least_below(
     c: usize,
     p: usize,
 ) -> usize
-    requires { ⌜ Labelled w (now starts) (now children) (now triples) k c ⌝ }
+    requires { ⌜ LabelledRows w (now starts) (now children) (now triples) k c ⌝ }
     requires { ⌜ p < k ⌝ }
     ensures { λ r. ⌜ r ≡ leastBelow (childrenIn w (now (starts .entry)) (now (children .entry)) k c) (triplesAlone w (now (triples .entry)) k) p ⌝ }
 {
@@ -132,7 +123,7 @@ fn least_below(
     let mut i = 0;
     while i < len {
         let q = num(children, w, from + i);
-        s = smaller(s, label(triples, w, k, q, S));
+        s = lesser(s, label(triples, w, k, q, S));
         i += 1;
     }
     s
@@ -148,7 +139,7 @@ fn outer_passes(
     c: usize,
     p: usize,
 ) -> bool
-    requires { ⌜ Labelled w (now starts) (now children) (now triples) k c ⌝ }
+    requires { ⌜ LabelledRows w (now starts) (now children) (now triples) k c ⌝ }
     requires { ⌜ p < k ⌝ }
     ensures { λ a. ⌜ a ≡ outerPasses (childrenIn w (now (starts .entry)) (now (children .entry)) k c) (triplesAlone w (now (triples .entry)) k) p ⌝ }
 {
@@ -164,7 +155,7 @@ pub fn outers_pass(
     k: usize,
     c: usize,
 ) -> bool
-    requires { ⌜ Labelled w (now starts) (now children) (now triples) k c ⌝ }
+    requires { ⌜ LabelledRows w (now starts) (now children) (now triples) k c ⌝ }
     ensures { λ a. ⌜ a ≡ allBelow k (outerPasses (childrenIn w (now (starts .entry)) (now (children .entry)) k c) (triplesAlone w (now (triples .entry)) k)) ⌝ }
 {
     let mut p = 0;

@@ -1,31 +1,31 @@
 -- An index that fits a form, written: its header is read again and passes, each section is read again, and so the index is.
 use mathlib.Core.Bool.{true, _&&_}
 use mathlib.Core.Path.{_≡_, sym, ap, ap₂, subst, _∙_}
-use mathlib.Core.List.{List, [], _++_, map}
+use mathlib.Core.List.{List, [], map}
 use Prim.Native.Nat.{ℕ, _+_, _*_, _^_, _≤_, _<_}
 use native.Mathlib.Omega.{arith}
 use native.Mathlib.Nat.{mul-le-mul, mul-le-mul-left}
-use lib.ListN.{length, getD, drop}
+use lib.ListN.{length, getD}
 use borrow.Author.Tests.{eq-eqb}
 use Rattle.lineage.specs.Lists.{upto, joined, part, sameList, Every}
 use Rattle.lineage.specs.Numbers.{numbers, written}
 use Rattle.lineage.specs.Labels.{Labelling}
 use Rattle.lineage.specs.Index.{Index}
 use Rattle.lineage.specs.Stored.{Form, Counts, sizes, offsets, offsetsFrom, totalLength, sections, startsFrom, countsOf, header, encode, headerAt, countsIn, formOf, isForm, countsFit, offsetsFit, stretch, section, rowAt, labellingAt, decode}
-use Rattle.lineage.specs.Calls.{answered, outcome, indexIn}
+use Rattle.lineage.specs.Calls.{indexIn}
 use Rattle.laws.proofs.Lists.{getD-mapped, same-self}
 use Rattle.laws.proofs.Every.{every-at}
 use Rattle.laws.proofs.Starts.{starts-long, rows-read}
-use Rattle.numbers.specs.Put.{put}
-use Rattle.numbers.proofs.Put.{put-start}
+use Rattle.numbers.specs.Bounds.{vertexBound}
 use Rattle.numbers.proofs.Written.{written-long, num-front, written-at, numbers-written}
+use Rattle.stored_header.specs.Checks.{Pass}
 use Rattle.stored_header.specs.Header.{layoutIn, offsetsIn, headerChecks, Laid}
 use Rattle.stored.specs.Fits.{Fits}
 use Rattle.stored_header.proofs.Forms.{Within, form-within}
 use Rattle.stored_header.proofs.Checked.{all-right}
 use Rattle.stored_header.proofs.Laid.{Bounded, fit-bounds, header-laid}
 use Rattle.stored.proofs.LabelNumbers.{labels-long, labels-read}
-use Rattle.stored.proofs.Offsets.{lengths, offsets-part, offsets-last, putSections, sections-put}
+use Rattle.stored.proofs.Offsets.{lengths, offsets-part, offsets-last}
 
 -- the index of bytes at given counts
 abbrev decodeBy : ℕ → Counts → List ℕ → Index
@@ -51,7 +51,7 @@ pub header-fits : (F : Form) (a : Counts) → F .number < 2 ^ 32 → Bounded F a
 header-fits F a number B =
     let w = B .width .high in
     let vertices = mul-le-mul w (B .vertices) in
-    let k : a .k ≤ 200000 = omega arith in
+    let k : a .k ≤ vertexBound = omega arith in
     let groups = mul-le-mul w k in
     let entries = mul-le-mul w (B .entries) in
     let labels = mul-le-mul w (mul-le-mul (B .most) (mul-le-mul-left 4 k)) in
@@ -155,7 +155,7 @@ module _ {F : Form} {I : Index} (E : Fits F I) where
       (ap (λ (z : List ℕ). sameList z o) offsets-read ∙ same-self o)
       (eq-eqb (length (encode F I)) (totalLength (F .width) (a .n) (a .k) (a .c) (a .d)) encode-long)
 
-  pub encode-passes : answered (layoutIn (encode F I)) ≡ outcome (headerChecks (encode F I)) (layoutIn (encode F I))
+  pub encode-passes : Pass (headerChecks (encode F I))
   encode-passes =
       all-right (encode F I)
       (omega (arith, encode-long))
@@ -164,16 +164,8 @@ module _ {F : Form} {I : Index} (E : Fits F I) where
       (ap₂ (λ (G : Form) (z : Counts). offsetsFit G z (encode F I)) form-read counts-read ∙ offsets-fit)
 
   pub encode-laid : Laid (encode F I) (layoutIn (encode F I))
-  encode-laid = header-laid (encode F I) (layoutIn (encode F I)) encode-passes
+  encode-laid = header-laid (encode F I) encode-passes
 
   -- the bytes hold the index
   pub index-encode : indexIn (encode F I) ≡ I
   index-encode = ap (λ (G : Form). decode (G .width) (encode F I)) form-read ∙ decode-encode
-
-  -- its header and its sections, each put at its offset
-  pub encode-put : (out : List ℕ)
-      → length (encode F I) ≤ length out
-      → putSections (F .width) (put out 0 (written 4 (header F a))) 48 (sections I) ≡ encode F I ++ drop (length (encode F I)) out
-  unfolding encode
-  encode-put out h =
-      sections-put (F .width) (written 4 (header F a)) (sections I) out 48 (sym (written-long 4 (header F a))) h ∙ put-start out (encode F I)

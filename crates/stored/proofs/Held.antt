@@ -4,22 +4,23 @@ use mathlib.Core.List.{List}
 use Prim.Native.Nat.{ℕ, _+_, _*_, _-_, _^_, _≤_, _<_}
 use native.Mathlib.Omega.{arith}
 use native.Mathlib.Nat.{mul-le-mul, mul-le-mul-left, mul-le-mul-right, suc-mul}
+use lib.ListN.{length}
+use Rattle.lineage.specs.Stored.{mostLabellings}
+use Rattle.numbers.specs.Bounds.{vertexBound}
 use Rattle.numbers.specs.Regions.{Part}
+use Rattle.stored.specs.Sections.{Labellings}
 
 -- labelling j lies within the d of them
 pub labelling-within : (k d j : ℕ) → j < d → j * (4 * k) + 4 * k ≤ d * (4 * k)
 labelling-within k d j h = omega (arith, mul-le-mul-right (4 * k) h, suc-mul j (4 * k))
 
 -- some of its numbers
-pub labelling-fits : (w k d j from count long : ℕ)
-    → from + count ≤ j * (4 * k) + 4 * k
-    → (k ≤ 200000) × ((d ≤ 5) × (j < d))
-    → w * (d * (4 * k)) ≤ long
-    → (from + count < 2 ^ 32) × (w * (from + count) ≤ long)
-labelling-fits w k d j from count long h (hk, (hd, hj)) r =
-    let most : d * (4 * k) ≤ 5 * 800000 = mul-le-mul hd (mul-le-mul-left 4 hk) in
-    let within : from + count ≤ d * (4 * k) = omega (arith, labelling-within k d j hj) in
-    (omega arith, omega (arith, mul-le-mul-left w within))
+pub labelling-fits : {w k d : ℕ} {labels : List ℕ} → Labellings w labels k d → (j from count : ℕ) → j < d → from + count ≤ j * (4 * k) + 4 * k
+    → (from + count < 2 ^ 32) × (w * (from + count) ≤ length labels)
+labelling-fits {w} {k} {d} L j from count h r =
+    let most : d * (4 * k) ≤ mostLabellings * (4 * vertexBound) = mul-le-mul (L .labellings-few) (mul-le-mul-left 4 (L .groups-few)) in
+    let within : from + count ≤ d * (4 * k) = omega (arith, labelling-within k d j h) in
+    (omega arith, omega (arith, mul-le-mul-left w within, L .long))
 
 -- the numbers from child start to next child start
 module _ (w start next from to : ℕ) (start-is : start ≡ from) (next-is : next ≡ to) where

@@ -4,5 +4,6 @@ pub mod Held
 pub mod Sections
 pub mod LabelNumbers
 pub mod Offsets
+pub mod Contents
 pub mod Encoded
 pub mod Decoded

@@ -1,5 +1,5 @@
 -- Sections written one after the other behind a header: each stands at its offset, and the last offset is the length of it all.
-use mathlib.Core.Path.{_≡_, sym, ap, _∙_}
+use mathlib.Core.Path.{_≡_, refl, sym, ap, _∙_}
 use mathlib.Core.List.{List, [], _∷_, _++_, map, append-assoc, append-nil}
 use Prim.Native.Nat.{ℕ, zero, suc, _+_, _*_, _-_, _≤_, _<_}
 use native.Mathlib.Omega.{arith}
@@ -54,20 +54,14 @@ module _ (w : ℕ) where
   -- are written one after the other
   pub sections-put : (before : List ℕ) (X : List (List ℕ)) (s : List ℕ) (at : ℕ)
       → at ≡ length before
-      → length (before ++ joined (map (written w) X)) ≤ length s
       → putSections (put s 0 before) at X ≡ put s 0 (before ++ joined (map (written w) X))
-  sections-put before [] s at e h = ap (put s 0) (sym (append-nil before))
-  sections-put before (x ∷ X) s at e h =
-      let rest : List ℕ = joined (map (written w) X) in
-      let assoc : (before ++ written w x) ++ rest ≡ before ++ (written w x ++ rest) = append-assoc before (written w x) rest in
+  sections-put before [] s at e = ap (put s 0) (sym (append-nil before))
+  sections-put before (x ∷ X) s at e =
       let here : at ≡ 0 + length before = omega arith in
-      let fits : 0 + length before ≤ length s = omega (arith, length-append before (written w x ++ rest)) in
       ap (λ (z : List ℕ). putSections z (at + w * length x) X)
-      (ap (λ (p : ℕ). put (put s 0 before) p (written w x)) here ∙ put-next s 0 before fits (written w x))
-      ∙ sections-put (before ++ written w x) X s (at + w * length x)
-      (omega (arith, length-append before (written w x), written-long w x))
-      (omega (arith, ap length assoc))
-      ∙ ap (put s 0) assoc
+      (ap (λ (p : ℕ). put (put s 0 before) p (written w x)) here ∙ put-next s 0 before (omega arith) (written w x))
+      ∙ sections-put (before ++ written w x) X s (at + w * length x) (omega (arith, length-append before (written w x), written-long w x))
+      ∙ ap (put s 0) (append-assoc before (written w x) (joined (map (written w) X)))
 
 -- Bytes cut at the offsets.
 module _ (w : ℕ) (b : List ℕ) where
@@ -88,7 +82,15 @@ module _ (w : ℕ) (b : List ℕ) where
   offsets-rise at [] = omega arith
   offsets-rise at (size ∷ sizes) = omega (arith, offsets-rise (at + w * size) sizes)
 
-  -- each stretch ends by the last offset
+  -- each stretch ends where the next one starts, and by the last offset
+  pub offsets-next : (at : ℕ) (sizes : List ℕ) (i : ℕ)
+      → i < length sizes
+      → getD (offsetsFrom w at sizes) (suc i) 0 ≡ getD (offsetsFrom w at sizes) i 0 + w * getD sizes i 0
+  offsets-next at [] i h = absurd (not-suc-le-zero h)
+  offsets-next at (size ∷ []) zero h = refl
+  offsets-next at (size ∷ (next ∷ sizes)) zero h = refl
+  offsets-next at (size ∷ sizes) (suc i) h = offsets-next (at + w * size) sizes i (omega arith)
+
   pub offsets-within : (at : ℕ) (sizes : List ℕ) (i : ℕ)
       → i < length sizes
       → getD (offsetsFrom w at sizes) i 0 + w * getD sizes i 0 ≤ getD (offsetsFrom w at sizes) (length sizes) 0

@@ -1,7 +1,8 @@
 -- The sections as stretches of the stored bytes: each starts where the header says and ends where the next one starts.
-use mathlib.Core.Path.{_≡_, subst⁻¹}
+use mathlib.Core.Path.{_≡_, ap, _∙_, subst⁻¹}
 use mathlib.Core.List.{List}
-use Prim.Native.Nat.{ℕ, _+_, _*_, _-_, _≤_}
+use Prim.Native.Nat.{ℕ, _+_, _*_, _-_, _≤_, _<_}
+use native.Mathlib.Numerals.{add-one}
 use native.Mathlib.Omega.{arith}
 use lib.ListN.{length, getD, take, drop}
 use Rattle.lineage.specs.Lists.{part}
@@ -10,30 +11,35 @@ use Rattle.laws.proofs.Parts.{part-length}
 use Rattle.stored_header.specs.declared.Layout.{Layout}
 use Rattle.stored_header.specs.Header.{layoutIn, offsetsOf, Laid}
 use Rattle.stored.specs.Sections.{Section}
+use Rattle.stored.proofs.Offsets.{offsets-next, offsets-within}
 
 -- the numbers in section i of a layout
 abbrev sizeIn : Layout → ℕ → ℕ
 sizeIn l i = getD (sizes (l .n) (l .k) (l .c) (l .d)) i 0
 
-section-at : (b : List ℕ) (i from to : ℕ)
-    → from ≡ getD (offsetsOf (layoutIn b)) i 0
-    → to ≡ from + layoutIn b .width * sizeIn (layoutIn b) i
-    → to ≤ length b
-    → Section b (layoutIn b) i (take (to - from) (drop from b))
-unfolding stretch part
-section-at b i from to e f h =
-    let size : to - from ≡ layoutIn b .width * sizeIn (layoutIn b) i = omega arith in
-    record { is = rw (size, e); long = rw size (part-length b from (layoutIn b .width * sizeIn (layoutIn b) i) (omega arith)) }
+-- where section i starts
+abbrev startOf : Layout → ℕ → ℕ
+startOf l i = getD (offsetsOf l) i 0
 
-module _ {b : List ℕ} {l : Layout} (L : Laid b l) where
-  -- a part from a section's offset on, of its size
-  pub section-part : (i from to : ℕ)
-      → from ≡ getD (offsetsOf l) i 0
-      → to ≡ from + l .width * sizeIn l i
-      → to ≤ length b
-      → Section b l i (take (to - from) (drop from b))
-  section-part i from to =
-      subst⁻¹
-      (λ (z : Layout). from ≡ getD (offsetsOf z) i 0 → to ≡ from + z .width * sizeIn z i → to ≤ length b → Section b z i (take (to - from) (drop from b)))
-      (L .is)
-      (section-at b i from to)
+-- section i ends where the next one starts, within the bytes; the part between is the section
+pub record Stretched (b : List ℕ) (l : Layout) (i : ℕ) : Type 0 where
+  pub next : startOf l (i + 1) ≡ startOf l i + l .width * sizeIn l i
+  pub within : startOf l (i + 1) ≤ length b
+  pub whole : Section b l i (take (startOf l (i + 1) - startOf l i) (drop (startOf l i) b))
+
+section-at : (b : List ℕ) (i : ℕ) → i < 6 → length b ≡ layoutIn b .total → Stretched b (layoutIn b) i
+unfolding stretch part
+section-at b i h total =
+    let l : Layout = layoutIn b in
+    let all : List ℕ = sizes (l .n) (l .k) (l .c) (l .d) in
+    let next : startOf l (i + 1) ≡ startOf l i + l .width * sizeIn l i = rw (add-one i) (offsets-next (l .width) b 48 all i h) in
+    let within : startOf l (i + 1) ≤ length b = omega (arith, next, offsets-within (l .width) b 48 all i h) in
+    let size : startOf l (i + 1) - startOf l i ≡ l .width * sizeIn l i = omega arith in
+    record {
+      next = next;
+      within = within;
+      whole = record { is = rw size; long = rw size (part-length b (startOf l i) (l .width * sizeIn l i) (omega arith)) };
+    }
+
+pub section-stretched : {b : List ℕ} {l : Layout} → Laid b l → (i : ℕ) → i < 6 → Stretched b l i
+section-stretched {b} L i h = subst⁻¹ (λ z. Stretched b z i) (L .is) (section-at b i h (L .long ∙ ap (λ z. z .total) (L .is)))

@@ -2,13 +2,14 @@
 -- whole image; code is lent the stretches, and its contracts speak of these lists.
 use mathlib.Core.Path.{_≡_}
 use mathlib.Core.List.{List, map}
-use Prim.Native.Nat.{ℕ, _+_, _*_, _-_}
+use Prim.Native.Nat.{ℕ, _+_, _*_, _-_, _≤_}
 use lib.ListN.{length, getD}
 use Rattle.lineage.specs.Lists.{upto, part}
 use Rattle.lineage.specs.Labels.{Labelling}
 use Rattle.lineage.specs.Index.{Index}
-use Rattle.lineage.specs.Numbers.{numAt, numbers}
-use Rattle.lineage.specs.Stored.{sizes, countsIn, stretch, rowAt}
+use Rattle.lineage.specs.Numbers.{Width, numAt, numbers}
+use Rattle.lineage.specs.Stored.{sizes, countsIn, stretch, rowAt, mostLabellings}
+use Rattle.numbers.specs.Bounds.{vertexBound}
 use Rattle.numbers.specs.Regions.{Part}
 use Rattle.stored_header.specs.declared.Layout.{Layout}
 
@@ -16,6 +17,15 @@ use Rattle.stored_header.specs.declared.Layout.{Layout}
 pub record Section (b : List ℕ) (l : Layout) (i : ℕ) (r : List ℕ) : Type 0 where
   pub is : r ≡ stretch (l .width) (countsIn b) b i
   pub long : length r ≡ l .width * getD (sizes (l .n) (l .k) (l .c) (l .d)) i 0
+
+-- all six
+pub record Six (b : List ℕ) (l : Layout) (names groups levels starts children labels : List ℕ) : Type 0 where
+  pub names-in : Section b l 0 names
+  pub groups-in : Section b l 1 groups
+  pub levels-in : Section b l 2 levels
+  pub starts-in : Section b l 3 starts
+  pub children-in : Section b l 4 children
+  pub labels-in : Section b l 5 labels
 
 -- r is the children of the group at place p, from child start to next child start
 abbrev pub ChildrenOf : List ℕ → List ℕ → ℕ → ℕ → List ℕ → Type 0
@@ -36,6 +46,13 @@ labellingIn w triples places k = record {
   e = map (λ p. numAt w triples (3 * p + 2)) (upto k);
   byRank = numbers w places k;
 }
+
+-- labels hold d labellings of k groups, within the bounds of every form
+pub record Labellings (w : ℕ) (labels : List ℕ) (k d : ℕ) : Type 0 where
+  pub width : Width w
+  pub groups-few : k ≤ vertexBound
+  pub labellings-few : d ≤ mostLabellings
+  pub long : w * (d * (4 * k)) ≤ length labels
 
 -- the triples of labelling j, and its places by rank, as stretches of the labels
 unfoldable pub triplesOf : ℕ → List ℕ → ℕ → ℕ → List ℕ

@@ -4,18 +4,36 @@ use stored_header::label_count;
 ghost use Prim.Native.Nat.{_+_, _*_, _≤_, _<_};
 ghost use lib.ListN.{length};
 ghost use Rattle.lineage.specs.Numbers.{Width, numAt};
-ghost use Rattle.stored_header.specs.Header.{Laid};
 ghost use Rattle.numbers.specs.Regions.{Part};
-ghost use Rattle.stored.specs.Sections.{Section, ChildrenOf};
+ghost use Rattle.stored_header.specs.Header.{Laid};
+ghost use Rattle.stored.specs.Sections.{Section, ChildrenOf, Labellings};
+
+// Section i: from its offset to the next one, the last to the total length.
+fn section(index: &[u8], l: Layout, i: usize) -> &[u8]
+    requires { ⌜ Laid (now index) l ⌝ }
+    requires { ⌜ i < 6 ⌝ }
+    ensures { λ r. ⌜ Section (now (index .entry)) l i (now r) ⌝ }
+{
+    let offsets = [
+        l.names,
+        l.groups,
+        l.levels,
+        l.starts,
+        l.children,
+        l.labels,
+        l.total,
+    ];
+    let from = offsets[i];
+    let to = offsets[i + 1];
+    &index[from..to]
+}
 
 // The name of each vertex's group.
 pub fn names(index: &[u8], l: Layout) -> &[u8]
     requires { ⌜ Laid (now index) l ⌝ }
     ensures { λ r. ⌜ Section (now (index .entry)) l 0 (now r) ⌝ }
 {
-    let from = l.names;
-    let to = l.groups;
-    &index[from..to]
+    section(index, l, 0)
 }
 
 // The names of all groups, rising.
@@ -23,9 +41,7 @@ pub fn groups(index: &[u8], l: Layout) -> &[u8]
     requires { ⌜ Laid (now index) l ⌝ }
     ensures { λ r. ⌜ Section (now (index .entry)) l 1 (now r) ⌝ }
 {
-    let from = l.groups;
-    let to = l.levels;
-    &index[from..to]
+    section(index, l, 1)
 }
 
 // The level of each group, by place.
@@ -33,9 +49,7 @@ pub fn levels(index: &[u8], l: Layout) -> &[u8]
     requires { ⌜ Laid (now index) l ⌝ }
     ensures { λ r. ⌜ Section (now (index .entry)) l 2 (now r) ⌝ }
 {
-    let from = l.levels;
-    let to = l.starts;
-    &index[from..to]
+    section(index, l, 2)
 }
 
 // Where each group's children start, by place, and at the end c.
@@ -43,9 +57,7 @@ pub fn starts(index: &[u8], l: Layout) -> &[u8]
     requires { ⌜ Laid (now index) l ⌝ }
     ensures { λ r. ⌜ Section (now (index .entry)) l 3 (now r) ⌝ }
 {
-    let from = l.starts;
-    let to = l.children;
-    &index[from..to]
+    section(index, l, 3)
 }
 
 // The children of all groups, one group after the other.
@@ -53,9 +65,7 @@ pub fn children(index: &[u8], l: Layout) -> &[u8]
     requires { ⌜ Laid (now index) l ⌝ }
     ensures { λ r. ⌜ Section (now (index .entry)) l 4 (now r) ⌝ }
 {
-    let from = l.children;
-    let to = l.labels;
-    &index[from..to]
+    section(index, l, 4)
 }
 
 // The labels, one labelling after the other.
@@ -63,16 +73,20 @@ pub fn labels(index: &[u8], l: Layout) -> &[u8]
     requires { ⌜ Laid (now index) l ⌝ }
     ensures { λ r. ⌜ Section (now (index .entry)) l 5 (now r) ⌝ }
 {
-    let from = l.labels;
-    let to = l.total;
-    &index[from..to]
+    section(index, l, 5)
 }
+
+// Where s, m and e stand in a triple.
+pub const S: usize = 0;
+
+pub const M: usize = 1;
+
+pub const E: usize = 2;
 
 // The k triples s, m, e of labelling j, by place.
 pub fn triples(labels: &[u8], w: usize, k: usize, d: usize, j: usize) -> &[u8]
-    requires { ⌜ Width w ⌝ }
-    requires { ⌜ (k ≤ 200000) × ((d ≤ 5) × (j < d)) ⌝ }
-    requires { ⌜ w * (d * (4 * k)) ≤ length (now labels) ⌝ }
+    requires { ⌜ Labellings w (now labels) k d ⌝ }
+    requires { ⌜ j < d ⌝ }
     ensures { λ r. ⌜ Part (now (labels .entry)) (w * (j * (4 * k))) (w * (3 * k)) (now r) ⌝ }
 {
     numbers::numbers_from(labels, w, label_count(k, j), 3 * k)
@@ -80,9 +94,8 @@ pub fn triples(labels: &[u8], w: usize, k: usize, d: usize, j: usize) -> &[u8]
 
 // The k places by rank of labelling j.
 pub fn by_rank(labels: &[u8], w: usize, k: usize, d: usize, j: usize) -> &[u8]
-    requires { ⌜ Width w ⌝ }
-    requires { ⌜ (k ≤ 200000) × ((d ≤ 5) × (j < d)) ⌝ }
-    requires { ⌜ w * (d * (4 * k)) ≤ length (now labels) ⌝ }
+    requires { ⌜ Labellings w (now labels) k d ⌝ }
+    requires { ⌜ j < d ⌝ }
     ensures { λ r. ⌜ Part (now (labels .entry)) (w * (j * (4 * k) + 3 * k)) (w * k) (now r) ⌝ }
 {
     numbers::numbers_from(labels, w, label_count(k, j) + 3 * k, k)

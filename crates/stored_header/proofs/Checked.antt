@@ -1,17 +1,21 @@
--- Which of the header's checks decides, of a header as code reads it.
-use mathlib.Core.Bool.{Bool, true, false, _&&_, and-true}
+-- Which of the checks 10 to 13 decides, of a header as code reads it.
+use mathlib.Core.Bool.{Bool, true, false, not, _||_, _&&_, and-true}
 use mathlib.Core.Path.{_≡_, sym, ap, ap₂, subst⁻¹, _∙_}
 use mathlib.Core.List.{List}
 use Prim.Native.Nat.{ℕ, _+_, _*_, _≤_, _<_}
-use lib.Dec.{eqb, leb}
+use native.Mathlib.Omega.{arith}
+use lib.Dec.{eqb, leb, ltb}
 use lib.ListN.{length}
 use borrow.Author.Tests.{lt-ltb, le-ltb}
 use Rattle.lineage.specs.Numbers.{Width}
 use Rattle.lineage.specs.Stored.{Form, Counts, headerAt, countsIn, formOf, isForm, countsFit, offsetsFit}
-use Rattle.lineage.specs.Calls.{refused, answered, outcome}
+use Rattle.lineage.specs.Calls.{Check, refused, answered, outcome, formChecks}
+use Rattle.laws.proofs.Tests.{or-left, or-right}
 use Rattle.stored_header.specs.declared.Row.{Row}
 use Rattle.stored_header.specs.declared.Layout.{Layout}
+use Rattle.stored_header.specs.Checks.{Pass}
 use Rattle.stored_header.specs.Header.{rowOf, counts, layoutBy, layoutIn, offsetsAgree, headerChecks}
+use Rattle.stored_header.proofs.Checks.{stops-outcome}
 
 -- the tests of the counts at a form's row
 pub fit-by : (row : Row) (form n k c d : ℕ)
@@ -66,70 +70,73 @@ pub record Read (b : List ℕ) (form : ℕ) (row : Row) (n k c d : ℕ) : Type 0
   pub c-is : c ≡ headerAt b 3
   pub d-is : d ≡ headerAt b 4
 
-module _ (b : List ℕ) where
-  abbrev F : Form
-  F = formOf (headerAt b 0)
-
-  pub header-short : length b < 48 → refused 10 0 ≡ outcome (headerChecks b) (layoutIn b)
-  header-short h = rw (lt-ltb (length b) 48 h)
-
-  unknown : 48 ≤ length b → isForm (headerAt b 0) ≡ false → refused 11 (headerAt b 0) ≡ outcome (headerChecks b) (layoutIn b)
-  unknown long e = rw (le-ltb (length b) 48 long, e)
-
-  counts-wrong : 48 ≤ length b → isForm (headerAt b 0) ≡ true → countsFit F (countsIn b) ≡ false → refused 12 0 ≡ outcome (headerChecks b) (layoutIn b)
-  counts-wrong long e f = rw (le-ltb (length b) 48 long, e, f)
-
-  offsets-wrong : 48 ≤ length b
-      → isForm (headerAt b 0) ≡ true
-      → countsFit F (countsIn b) ≡ true
-      → offsetsFit F (countsIn b) b ≡ false
-      → refused 12 0 ≡ outcome (headerChecks b) (layoutIn b)
-  offsets-wrong long e f g = rw (le-ltb (length b) 48 long, e, f, g)
-
-  pub all-right : 48 ≤ length b
-      → isForm (headerAt b 0) ≡ true
-      → countsFit F (countsIn b) ≡ true
-      → offsetsFit F (countsIn b) b ≡ true
-      → answered (layoutIn b) ≡ outcome (headerChecks b) (layoutIn b)
-  all-right long e f g = rw (le-ltb (length b) 48 long, e, f, g)
-
-pub header-unknown : (b : List ℕ) (form : ℕ) (row : Row)
-    → 48 ≤ length b
-    → form ≡ headerAt b 0
-    → row ≡ rowOf form
-    → row .known ≡ false
-    → refused 11 form ≡ outcome (headerChecks b) (layoutIn b)
-header-unknown b form row long form-is row-is h =
-    ap (refused 11) form-is ∙ unknown b long (sym (ap (λ (r : Row). r .known) row-is ∙ ap isForm form-is) ∙ h)
-
 pub width-in : {b : List ℕ} {form : ℕ} {row : Row} {n k c d : ℕ} → Read b form row n k c d → Width (formOf form .width) → Width (row .width)
 width-in R h = subst⁻¹ (λ (r : Row). Width (r .width)) (R .row-is) h
 
-module _ {b : List ℕ} {form : ℕ} {row : Row} {n k c d : ℕ} (R : Read b form row n k c d) (known : row .known ≡ true) where
-  known-in : isForm (headerAt b 0) ≡ true
-  known-in = sym (ap (λ (r : Row). r .known) (R .row-is) ∙ ap isForm (R .form-is)) ∙ known
+module _ (b : List ℕ) (marks : ℕ) where
+  abbrev checks : List Check
+  checks = formChecks b marks
 
-  counts-in : counts n k c d ≡ countsIn b
-  counts-in = rw (R .n-is, R .k-is, R .c-is, R .d-is)
+  pub header-short : length b < 48 → refused 10 0 ≡ outcome checks (layoutIn b)
+  header-short h = sym (stops-outcome (layoutIn b) checks 0 (lt-ltb (length b) 48 h))
 
-  fit-in : (t : Bool) → countsFit (formOf form) (counts n k c d) ≡ t → countsFit (formOf (headerAt b 0)) (countsIn b) ≡ t
-  fit-in t e = sym (ap₂ (λ (f : ℕ) (a : Counts). countsFit (formOf f) a) (R .form-is) counts-in) ∙ e
+  module _ {form : ℕ} {row : Row} {n k c d : ℕ} (R : Read b form row n k c d) where
+    abbrev F : Form
+    F = formOf (headerAt b 0)
 
-  pub header-counts : countsFit (formOf form) (counts n k c d) ≡ false → refused 12 0 ≡ outcome (headerChecks b) (layoutIn b)
-  header-counts h = counts-wrong b (R .long) known-in (fit-in false h)
+    long : ltb (length b) 48 ≡ false
+    long = le-ltb (length b) 48 (R .long)
 
-  module _ (fit : countsFit (formOf form) (counts n k c d) ≡ true) (l : Layout) (l-is : l ≡ layoutBy (row .width) (counts n k c d)) where
-    layout-in : l ≡ layoutIn b
-    layout-in =
-        l-is
-        ∙ ap (λ (r : Row). layoutBy (r .width) (counts n k c d)) (R .row-is)
-        ∙ ap₂ (λ (f : ℕ) (a : Counts). layoutBy (formOf f .width) a) (R .form-is) counts-in
+    known-in : isForm (headerAt b 0) ≡ row .known
+    known-in = sym (ap (λ (r : Row). r .known) (R .row-is) ∙ ap isForm (R .form-is))
 
-    agree-in : (t : Bool) → offsetsAgree b l ≡ t → offsetsFit (formOf (headerAt b 0)) (countsIn b) b ≡ t
-    agree-in t e = sym (ap (offsetsAgree b) layout-in) ∙ e
+    pub header-unknown : row .known ≡ false → refused 11 form ≡ outcome checks (layoutIn b)
+    header-unknown h = ap (refused 11) (R .form-is) ∙ sym (stops-outcome (layoutIn b) checks 1 (long, ap not (known-in ∙ h)))
 
-    pub header-offsets : offsetsAgree b l ≡ false → refused 12 0 ≡ outcome (headerChecks b) (layoutIn b)
-    header-offsets h = offsets-wrong b (R .long) known-in (fit-in true fit) (agree-in false h)
+    counts-in : counts n k c d ≡ countsIn b
+    counts-in = rw (R .n-is, R .k-is, R .c-is, R .d-is)
 
-    pub header-passes : offsetsAgree b l ≡ true → answered l ≡ outcome (headerChecks b) (layoutIn b)
-    header-passes h = ap answered layout-in ∙ all-right b (R .long) known-in (fit-in true fit) (agree-in true h)
+    fit-in : countsFit F (countsIn b) ≡ countsFit (formOf form) (counts n k c d)
+    fit-in = sym (ap₂ (λ (f : ℕ) (a : Counts). countsFit (formOf f) a) (R .form-is) counts-in)
+
+    module _ (known : row .known ≡ true) where
+      formed : not (isForm (headerAt b 0)) ≡ false
+      formed = ap not (known-in ∙ known)
+
+      pub header-counts : countsFit (formOf form) (counts n k c d) ≡ false → refused 12 0 ≡ outcome checks (layoutIn b)
+      header-counts h = sym (stops-outcome (layoutIn b) checks 2 (long, (formed, or-left _ (ap not (fit-in ∙ h)))))
+
+      module _ (fit : countsFit (formOf form) (counts n k c d) ≡ true) {l : Layout} (l-is : l ≡ layoutBy (row .width) (counts n k c d)) where
+        layout-in : l ≡ layoutIn b
+        layout-in =
+            l-is
+            ∙ ap (λ (r : Row). layoutBy (r .width) (counts n k c d)) (R .row-is)
+            ∙ ap₂ (λ (f : ℕ) (a : Counts). layoutBy (formOf f .width) a) (R .form-is) counts-in
+
+        agree-in : offsetsFit F (countsIn b) b ≡ offsetsAgree b l
+        agree-in = sym (ap (offsetsAgree b) layout-in)
+
+        pub header-offsets : offsetsAgree b l ≡ false → refused 12 0 ≡ outcome checks (layoutIn b)
+        header-offsets h = sym (stops-outcome (layoutIn b) checks 2 (long, (formed, or-right (not (countsFit F (countsIn b))) (ap not (agree-in ∙ h)))))
+
+        module _ (agree : offsetsAgree b l ≡ true) where
+          right : (not (countsFit F (countsIn b)) || not (offsetsFit F (countsIn b) b)) ≡ false
+          right = rw (fit-in ∙ fit, agree-in ∙ agree)
+
+          pub marks-short : marks < n → refused 13 n ≡ outcome checks (layoutIn b)
+          marks-short h =
+              ap (refused 13) (R .n-is)
+              ∙ sym (stops-outcome (layoutIn b) checks 3 (long, (formed, (right, lt-ltb marks (countsIn b .n) (omega (arith, R .n-is))))))
+
+          pub header-passes : n ≤ marks → answered l ≡ outcome checks (layoutIn b)
+          header-passes h =
+              ap answered layout-in
+              ∙ sym (stops-outcome (layoutIn b) checks 4 (long, (formed, (right, (le-ltb marks (countsIn b .n) (omega (arith, R .n-is)), tt)))))
+
+-- a header that is right passes
+pub all-right : (b : List ℕ) → 48 ≤ length b
+    → isForm (headerAt b 0) ≡ true
+    → countsFit (formOf (headerAt b 0)) (countsIn b) ≡ true
+    → offsetsFit (formOf (headerAt b 0)) (countsIn b) b ≡ true
+    → Pass (headerChecks b)
+all-right b long e f g = (le-ltb (length b) 48 long, (ap not e, (rw (f, g), tt)))

@@ -8,6 +8,7 @@ use lib.Dec.{eqb}
 use Rattle.lineage.specs.Lists.{Every}
 use Rattle.lineage.specs.Numbers.{Width}
 use Rattle.lineage.specs.Stored.{Form, form1, forms, formFrom, formOf}
+use Rattle.numbers.specs.Bounds.{vertexBound, entryBound}
 use Rattle.stored_header.specs.declared.Row.{Row}
 use Rattle.stored_header.specs.Header.{rowOf}
 
@@ -15,8 +16,8 @@ use Rattle.stored_header.specs.Header.{rowOf}
 pub record Within (F : Form) : Type 0 where
   pub number : F .number < 2 ^ 32
   pub width : Width (F .width)
-  pub vertices : F .vertices ≤ 200000
-  pub entries : F .entries ≤ 1000000
+  pub vertices : F .vertices ≤ vertexBound
+  pub entries : F .entries ≤ entryBound
 
 form1-within : Within form1
 form1-within = record { number = omega arith; width = record { low = omega arith; high = omega arith; even = refl }; vertices = omega arith; entries = omega arith }

@@ -1,30 +1,31 @@
 -- What bytes have whose header passes: a known form, counts within the bounds of every form, and sections one after the other that fill the bytes.
-use mathlib.Core.Bool.{Bool, true, false, not, _||_}
-use mathlib.Core.Path.{_≡_, refl, subst⁻¹}
+use mathlib.Core.Bool.{true, false}
+use mathlib.Core.Path.{_≡_, refl, ap, subst⁻¹, _∙_}
 use mathlib.Core.List.{List}
-use Prim.Native.Nat.{ℕ, _≤_}
+use Prim.Native.Nat.{ℕ, _≤_, _<_}
 use native.Mathlib.Omega.{arith}
-use lib.Dec.{eqb, leb, ltb}
+use lib.Dec.{eqb, leb}
 use lib.ListN.{length}
-use borrow.Author.Tests.{leb-true, eqb-true, not-false}
-use Rattle.lineage.specs.Lists.{sameList}
+use borrow.Author.Tests.{leb-true, eqb-true, not-false, le-leb, lt-leb}
+use Rattle.lineage.specs.Lists.{sameList, cleared}
 use Rattle.lineage.specs.Numbers.{Width}
-use Rattle.lineage.specs.Stored.{Form, Counts, headerAt, countsIn, formOf, isForm, countsFit, offsetsFit}
-use Rattle.lineage.specs.Calls.{answered, refuse, outcome}
+use Rattle.lineage.specs.Stored.{Form, Counts, headerAt, countsIn, formOf, isForm, countsFit, offsetsFit, mostLabellings}
 use Rattle.laws.proofs.Tests.{neither, both}
 use Rattle.laws.proofs.Lists.{same-list}
+use Rattle.numbers.specs.Bounds.{vertexBound, entryBound}
 use Rattle.stored_header.specs.declared.Layout.{Layout}
-use Rattle.stored_header.specs.Header.{layoutIn, offsetsIn, offsetsOf, offsetsAgree, headerChecks, Laid}
+use Rattle.stored_header.specs.Checks.{Pass}
+use Rattle.stored_header.specs.Header.{layoutBy, layoutIn, offsetsIn, offsetsOf, offsetsAgree, headerChecks, Sited, Laid}
 use Rattle.stored_header.proofs.Forms.{Within, form-within}
 
 -- counts that fit a form
 pub record Bounded (F : Form) (a : Counts) : Type 0 where
   pub width : Width (F .width)
-  pub vertices : a .n ≤ 200000
+  pub vertices : a .n ≤ vertexBound
   pub groups : a .k ≤ a .n
-  pub entries : a .c ≤ 1000000
+  pub entries : a .c ≤ entryBound
   pub least : 1 ≤ a .d
-  pub most : a .d ≤ 5
+  pub most : a .d ≤ mostLabellings
 
 pub fit-bounds : (form : ℕ) (a : Counts) → countsFit (formOf form) a ≡ true → Bounded (formOf form) a
 fit-bounds form a fit =
@@ -40,17 +41,21 @@ fit-bounds form a fit =
       groups = leb-true (a .k) (a .n) (k .0);
       entries = omega (arith, leb-true (a .c) (F .entries) (c .0), W .entries);
       least = leb-true 1 (a .d) (d .0);
-      most = leb-true (a .d) 5 (d .1);
+      most = leb-true (a .d) mostLabellings (d .1);
     }
 
--- the checks pass only all together
-inverse : (short unknown wrong : Bool) (form : ℕ) (l l' : Layout)
-    → answered l ≡ refuse short 10 0 (refuse unknown 11 form (refuse wrong 12 0 (answered l')))
-    → (short ≡ false) × ((unknown ≡ false) × ((wrong ≡ false) × (l ≡ l')))
-inverse true u w form l l' e = let z : _≡_ {A = ℕ} 0 1 = cc in absurd (omega arith)
-inverse false true w form l l' e = let z : _≡_ {A = ℕ} 0 1 = cc in absurd (omega arith)
-inverse false false true form l l' e = let z : _≡_ {A = ℕ} 0 1 = cc in absurd (omega arith)
-inverse false false false form l l' e = (refl, (refl, (refl, cc)))
+-- a layout that a width and counts give
+pub sited-by : (l : Layout) (w : ℕ) (a : Counts) → l ≡ layoutBy w a → Sited l
+sited-by l w a e =
+    subst⁻¹ Sited e (record {
+      names-at = refl;
+      groups-at = refl;
+      levels-at = refl;
+      starts-at = refl;
+      children-at = refl;
+      labels-at = refl;
+      total-at = refl;
+    })
 
 module _ (b : List ℕ) where
   laid : isForm (headerAt b 0) ≡ true
@@ -70,23 +75,40 @@ module _ (b : List ℕ) where
         entries = B .entries;
         least = B .least;
         most = B .most;
-        names-at = refl;
-        groups-at = refl;
-        levels-at = refl;
-        starts-at = refl;
-        children-at = refl;
-        labels-at = refl;
-        total-at = refl;
+        sited = sited-by (layoutIn b) (formOf (headerAt b 0) .width) (countsIn b) refl;
         long = eqb-true (length b) (layoutIn b .total) (o .1);
       }
 
   -- bytes whose header passes are laid out as it says
-  pub header-laid : (l : Layout) → answered l ≡ outcome (headerChecks b) (layoutIn b) → Laid b l
-  header-laid l e =
+  pub header-laid : Pass (headerChecks b) → Laid b (layoutIn b)
+  header-laid p =
       let F : Form = formOf (headerAt b 0) in
-      let a : Counts = countsIn b in
-      let known = isForm (headerAt b 0) in
-      let i =
-      inverse (ltb (length b) 48) (not known) (not (countsFit F a) || not (offsetsFit F a b)) (headerAt b 0) l (layoutIn b) e in
-      let w = neither (countsFit F a) (offsetsFit F a b) (i .1 .1 .0) in
-      subst⁻¹ (Laid b) (i .1 .1 .1) (laid (not-false known (i .1 .0)) (w .0) (w .1))
+      let w = neither (countsFit F (countsIn b)) (offsetsFit F (countsIn b) b) (p .1 .1 .0) in
+      laid (not-false (isForm (headerAt b 0)) (p .1 .0)) (w .0) (w .1)
+
+-- the numbers of a layout are those of the bytes
+module _ {b : List ℕ} {l : Layout} (L : Laid b l) where
+  pub width-is : l .width ≡ formOf (headerAt b 0) .width
+  width-is = ap (λ (z : Layout). z .width) (L .is)
+
+  pub n-is : l .n ≡ countsIn b .n
+  n-is = ap (λ (z : Layout). z .n) (L .is)
+
+  pub k-is : l .k ≡ countsIn b .k
+  k-is = ap (λ (z : Layout). z .k) (L .is)
+
+  pub c-is : l .c ≡ countsIn b .c
+  c-is = ap (λ (z : Layout). z .c) (L .is)
+
+  pub d-is : l .d ≡ countsIn b .d
+  d-is = ap (λ (z : Layout). z .d) (L .is)
+
+  -- so are marks that are cleared below n, and the tests of a vertex (14)
+  pub cleared-in : (marks : List ℕ) {m : List ℕ} → m ≡ cleared (l .n) marks → m ≡ cleared (countsIn b .n) marks
+  cleared-in marks e = e ∙ ap (λ (n : ℕ). cleared n marks) n-is
+
+  pub vertex-out : {v : ℕ} → l .n ≤ v → leb (countsIn b .n) v ≡ true
+  vertex-out {v} h = le-leb (countsIn b .n) v (omega (arith, n-is))
+
+  pub vertex-in : {v : ℕ} → v < l .n → leb (countsIn b .n) v ≡ false
+  vertex-in {v} h = lt-leb (countsIn b .n) v (omega (arith, n-is))

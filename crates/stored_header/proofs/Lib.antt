@@ -3,3 +3,4 @@ pub mod Checks
 pub mod Forms
 pub mod Checked
 pub mod Laid
+pub mod Admitted

@@ -7,8 +7,9 @@ use lib.Dec.{eqb}
 use lib.ListN.{length, getD, take}
 use Rattle.lineage.specs.Lists.{upto, sameList}
 use Rattle.lineage.specs.Numbers.{Width}
-use Rattle.lineage.specs.Stored.{Counts, offsets, headerAt, countsIn, formOf, isForm}
+use Rattle.lineage.specs.Stored.{Counts, offsets, headerAt, countsIn, formOf, isForm, mostLabellings}
 use Rattle.lineage.specs.Calls.{Check, Outcome, refused, answered, formChecks}
+use Rattle.numbers.specs.Bounds.{vertexBound, entryBound}
 use Rattle.stored_header.specs.declared.Row.{Row}
 use Rattle.stored_header.specs.declared.Layout.{Layout}
 use Rattle.stored_header.specs.declared.Header.{Header}
@@ -66,7 +67,7 @@ headerOf form l = form ∷ l .n ∷ l .k ∷ l .c ∷ l .d ∷ offsetsOf l
 abbrev pub offsetsAgree : List ℕ → Layout → Bool
 offsetsAgree b l = sameList (offsetsIn b) (offsetsOf l) && eqb (length b) (l .total)
 
--- the checks of a call that the header alone decides: 10, 11 and 12
+-- those of the checks 10 to 13 that the header alone decides
 abbrev pub headerChecks : List ℕ → List Check
 headerChecks b = take 3 (formChecks b 0)
 
@@ -75,17 +76,8 @@ abbrev pub headerOutcome : Header → Outcome Layout
 headerOutcome (Passed l) = answered l
 headerOutcome (Refused number extra) = refused number extra
 
--- the bytes have this layout, whose counts are within the bounds of every form: what a header that passes gives, and all that the calls above need of it
-pub record Laid (b : List ℕ) (l : Layout) : Type 0 where
-  pub known : isForm (headerAt b 0) ≡ true
-  pub is : l ≡ layoutIn b
-  pub offsets : offsetsIn b ≡ offsetsOf l
-  pub width : Width (l .width)
-  pub vertices : l .n ≤ 200000
-  pub groups : l .k ≤ l .n
-  pub entries : l .c ≤ 1000000
-  pub least : 1 ≤ l .d
-  pub most : l .d ≤ 5
+-- each section starts where the one before it ends, the first behind the header; at the end of the last is the total
+pub record Sited (l : Layout) : Type 0 where
   pub names-at : l .names ≡ 48
   pub groups-at : l .groups ≡ l .names + l .width * l .n
   pub levels-at : l .levels ≡ l .groups + l .width * l .k
@@ -93,4 +85,17 @@ pub record Laid (b : List ℕ) (l : Layout) : Type 0 where
   pub children-at : l .children ≡ l .starts + l .width * (l .k + 1)
   pub labels-at : l .labels ≡ l .children + l .width * l .c
   pub total-at : l .total ≡ l .labels + l .width * (l .d * (4 * l .k))
+
+-- the bytes have this layout, whose counts are within the bounds of every form: what a header that passes gives, and all that the calls above need of it
+pub record Laid (b : List ℕ) (l : Layout) : Type 0 where
+  pub known : isForm (headerAt b 0) ≡ true
+  pub is : l ≡ layoutIn b
+  pub offsets : offsetsIn b ≡ offsetsOf l
+  pub width : Width (l .width)
+  pub vertices : l .n ≤ vertexBound
+  pub groups : l .k ≤ l .n
+  pub entries : l .c ≤ entryBound
+  pub least : 1 ≤ l .d
+  pub most : l .d ≤ mostLabellings
+  pub sited : Sited l
   pub long : length b ≡ l .total

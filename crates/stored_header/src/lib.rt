@@ -1,18 +1,23 @@
-// The header: twelve 32-bit numbers, checked in the document's order (10, 11, 12) and read; and written.
+// The header: twelve 32-bit numbers, checked in the document's order and read, with the marks that every call on stored bytes is lent (10 to 13); and written.
 ghost use mathlib.Core.Path.{_≡_};
 ghost use Prim.Native.Nat.{_*_, _^_, _≤_, _<_};
 ghost use lib.Dec.{eqb};
 ghost use lib.ListN.{length};
 ghost use Rattle.lineage.specs.Lists.{Every};
 ghost use Rattle.lineage.specs.Numbers.{Width, written};
-ghost use Rattle.lineage.specs.Stored.{headerAt, formOf, countsFit};
-ghost use Rattle.lineage.specs.Calls.{outcome};
+ghost use Rattle.lineage.specs.Stored.{headerAt, formOf, countsFit, mostLabellings};
+ghost use Rattle.lineage.specs.Calls.{outcome, formChecks};
+ghost use Rattle.numbers.specs.Bounds.{vertexBound, entryBound};
 ghost use Rattle.numbers.specs.Put.{put};
-ghost use Rattle.stored_header.specs.Header.{rowOf, counts, layoutBy, layoutIn, offsetsAgree, headerOf, headerChecks, headerOutcome};
+ghost use Rattle.stored_header.specs.Header.{rowOf, counts, layoutBy, layoutIn, offsetsAgree, headerOf, headerOutcome};
+use refusals::BAD_HEADER;
+use refusals::BYTES_SHORT;
+use refusals::MARKS_SHORT;
+use refusals::OTHER_FORM;
 
 const HEADER_LENGTH: usize = 48;
 
-const MOST_LABELLINGS: usize = 5;
+pub const MOST_LABELLINGS: usize = 5;
 
 // A row of the table of forms: whether a form has this number, its width and its bounds.
 pub struct Row {
@@ -42,7 +47,7 @@ pub struct Layout {
 // What a header says: a layout, or a refusal with its number and its extra number.
 pub enum Header {
     Passed(Layout),
-    Refused(usize, usize),
+    Refused { number: u32, extra: u32 },
 }
 
 // The table of forms; where there is none of this number, the first form's row.
@@ -68,8 +73,8 @@ fn counts_fit(form: usize, n: usize, k: usize, c: usize, d: usize) -> bool
 
 // The numbers of the labels: four for each group and labelling.
 pub fn label_count(k: usize, d: usize) -> usize
-    requires { ⌜ (k ≤ 200000) × (d ≤ 5) ⌝ }
-    ensures { λ r. ⌜ (r ≡ d * (4 * k)) × (r ≤ 4000000) ⌝ }
+    requires { ⌜ (k ≤ vertexBound) × (d ≤ mostLabellings) ⌝ }
+    ensures { λ r. ⌜ (r ≡ d * (4 * k)) × (r ≤ mostLabellings * (4 * vertexBound)) ⌝ }
 {
     d * (4 * k)
 }
@@ -77,7 +82,7 @@ pub fn label_count(k: usize, d: usize) -> usize
 // Sections of these sizes follow the header without gaps.
 pub fn lay_out(width: usize, n: usize, k: usize, c: usize, d: usize) -> Layout
     requires { ⌜ Width width ⌝ }
-    requires { ⌜ (n ≤ 200000) × ((k ≤ n) × ((c ≤ 1000000) × (d ≤ 5))) ⌝ }
+    requires { ⌜ (n ≤ vertexBound) × ((k ≤ n) × ((c ≤ entryBound) × (d ≤ mostLabellings))) ⌝ }
     ensures { λ r. ⌜ r ≡ layoutBy width (counts n k c d) ⌝ }
 {
     let names = HEADER_LENGTH;
@@ -125,28 +130,46 @@ fn offsets_fit(index: &[u8], l: Layout) -> bool
     sections & (index.len() == l.total)
 }
 
-// Refusals 10, 11 and 12, or the layout.
-pub fn read_header(index: &[u8]) -> Header
-    ensures { λ r. ⌜ headerOutcome r ≡ outcome (headerChecks (now (index .entry))) (layoutIn (now (index .entry))) ⌝ }
+// The checks 10 to 13, which every call on stored bytes makes before its own, for so many marks: the first that applies, or the layout.
+pub fn admit(index: &[u8], marks: usize) -> Header
+    ensures { λ r. ⌜ headerOutcome r ≡ outcome (formChecks (now (index .entry)) marks) (layoutIn (now (index .entry))) ⌝ }
 {
     if index.len() < HEADER_LENGTH {
-        return Header::Refused(10, 0);
+        return Header::Refused {
+            number: BYTES_SHORT,
+            extra: 0,
+        };
     }
     let form = numbers::num(index, 4, 0);
-    let row = form_row(form);
-    if !row.known {
-        return Header::Refused(11, form);
-    }
     let n = numbers::num(index, 4, 1);
     let k = numbers::num(index, 4, 2);
     let c = numbers::num(index, 4, 3);
     let d = numbers::num(index, 4, 4);
+    let row = form_row(form);
+    if !row.known {
+        return Header::Refused {
+            number: OTHER_FORM,
+            extra: form as u32,
+        };
+    }
     if !counts_fit(form, n, k, c, d) {
-        return Header::Refused(12, 0);
+        return Header::Refused {
+            number: BAD_HEADER,
+            extra: 0,
+        };
     }
     let l = lay_out(row.width, n, k, c, d);
     if !offsets_fit(index, l) {
-        return Header::Refused(12, 0);
+        return Header::Refused {
+            number: BAD_HEADER,
+            extra: 0,
+        };
+    }
+    if marks < n {
+        return Header::Refused {
+            number: MARKS_SHORT,
+            extra: n as u32,
+        };
     }
     Header::Passed(l)
 }

@@ -20,7 +20,7 @@ Right (blankPrints size printed) = output (replicate size lf) ≡ bytes printed
 abbrev table : List Example
 table =
     -- the sample
-    prints "v 4\ne 0 1\ne 0 2\ne 3 1\no 0 1 2 3\nq 3 2\nq 0 2\nq 1 1\nq 2 0\nq 4 0\n" "q 3 2 no 6 1\nq 0 2 yes 2 0\nq 1 1 yes 1 0\nq 2 0 no 3 0\nq 4 0 refused 14 0\n"
+    prints "v 4\ne 0 1\ne 0 2\ne 3 1\no 0 1 2 3\nq 3 2\nq 0 2\nq 1 1\nq 2 0\nq 4 0\n" "q 3 2 no 6 1 0\nq 0 2 yes 2 0 1\nq 1 1 yes 1 0 0\nq 2 0 no 3 0 0\nq 4 0 refused 14 0\n"
     -- no question; no vertex; a question far beyond n
     ∷ prints "v 2\no 0 1\n" ""
     ∷ prints "v 0\no\nq 0 0\n" "q 0 0 refused 14 0\n"

@@ -28,13 +28,17 @@ decimal x = decimalBy 10 x
 abbrev pub twoNumbers : ℕ → ℕ → List ℕ
 twoNumbers x y = decimal x ++ (bytes " " ++ decimal y)
 
+-- three numbers
+abbrev pub threeNumbers : ℕ → ℕ → ℕ → List ℕ
+threeNumbers x y z = decimal x ++ (bytes " " ++ twoNumbers y z)
+
 -- `refused`, number, extra
 abbrev pub refusal : ℕ → ℕ → List ℕ
 refusal number extra = bytes "refused " ++ twoNumbers number extra
 
--- yes or no, reason, groups opened
+-- yes or no, reason, groups opened, the labelling that decided
 abbrev pub said : Said → List ℕ
-said a = cond (a .says) (bytes "yes ") (bytes "no ") ++ twoNumbers (a .reason) (a .opened)
+said a = cond (a .says) (bytes "yes ") (bytes "no ") ++ threeNumbers (a .reason) (a .opened) (a .deciding)
 
 -- an answer, or a refusal
 abbrev pub told : Outcome Said → List ℕ

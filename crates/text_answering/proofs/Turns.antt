@@ -13,12 +13,12 @@ use Rattle.text.specs.Output.{questionLine, answersTo}
 use Rattle.text_printing.specs.Printer.{Put}
 use Rattle.text_printing.proofs.Putting.{line-short, put-put, put-same, word-begins}
 
--- from number i on nothing is asked yet; what is put takes at most 27 bytes for each number passed
+-- from number i on nothing is asked yet; what is put takes at most 31 bytes for each number passed
 pub record Answering (index asked entry : List ℕ) (i at : ℕ) (out : List ℕ) : Type 0 where
   pub lines : List ℕ
   pub put : Put entry 0 lines at out
   pub whole : lines ++ answersTo index (drop i asked) ≡ answersTo index asked
-  pub short : at ≤ 27 * i
+  pub short : at ≤ 31 * i
   pub low : i ≤ length asked
   pub long : length out ≡ length entry
 
@@ -42,9 +42,9 @@ none-left index [] h = refl
 none-left index (u ∷ []) h = refl
 none-left index (u ∷ (v ∷ more)) h = absurd (omega arith)
 
-module _ {index asked entry : List ℕ} {i at : ℕ} {out : List ℕ} (A : Answering index asked entry i at out) (room : 27 * length asked ≤ length entry) where
+module _ {index asked entry : List ℕ} {i at : ℕ} {out : List ℕ} (A : Answering index asked entry i at out) (room : 31 * length asked ≤ length entry) where
   -- there is room for a line
-  pub line-room : i + 1 < length asked → at + 54 ≤ length out
+  pub line-room : i + 1 < length asked → at + 61 ≤ length out
   line-room h = omega (arith, A .short, A .long)
 
   pub answering-turns : {next : ℕ} {exit : List ℕ} → i + 1 < length asked

@@ -10,7 +10,7 @@ use text::MOST_VERTICES;
 
 // Asks a question, and puts what it is told: the answer, or the refusal.
 fn put_told(out: &mut [u8], at: usize, index: &[u8], source: u32, target: u32) -> usize
-    requires { ⌜ at + 29 ≤ length (now out) ⌝ }
+    requires { ⌜ at + 36 ≤ length (now out) ⌝ }
     ensures { λ r. ⌜ Put (now (out .entry)) at (told (askAnswer (now (index .entry)) source target mostVertices)) r (now (out .exit)) ⌝ }
 {
     let mut marks = [0u8; MOST_VERTICES];
@@ -19,19 +19,15 @@ fn put_told(out: &mut [u8], at: usize, index: &[u8], source: u32, target: u32) -
             says,
             reason,
             opened,
-        } => text_printing::put_said(out, at, says, reason, opened),
-        Asked::Refused { number, extra } => text_printing::put_refusal(
-            out,
-            at,
-            number as u32,
-            extra as u32,
-        ),
+            deciding,
+        } => text_printing::put_said(out, at, says, reason, opened, deciding),
+        Asked::Refused { number, extra } => text_printing::put_refusal(out, at, number, extra),
     }
 }
 
 // The line of one question.
 fn put_answer(out: &mut [u8], at: usize, index: &[u8], source: u32, target: u32) -> usize
-    requires { ⌜ at + 54 ≤ length (now out) ⌝ }
+    requires { ⌜ at + 61 ≤ length (now out) ⌝ }
     ensures { λ r. ⌜ Put (now (out .entry)) at (questionLine source target (askAnswer (now (index .entry)) source target mostVertices)) r (now (out .exit)) ⌝ }
 {
     let a = text_printing::put_question(out, at, source, target);
@@ -41,7 +37,7 @@ fn put_answer(out: &mut [u8], at: usize, index: &[u8], source: u32, target: u32)
 
 // One line per question.
 pub fn put_answers(out: &mut [u8], index: &[u8], asked: &[u32]) -> usize
-    requires { ⌜ 27 * length (now asked) ≤ length (now out) ⌝ }
+    requires { ⌜ 31 * length (now asked) ≤ length (now out) ⌝ }
     ensures { λ r. ⌜ Put (now (out .entry)) 0 (answersTo (now (index .entry)) (now (asked .entry))) r (now (out .exit)) ⌝ }
 {
     let mut i = 0;

@@ -1,4 +1,5 @@
--- The longest output: a text of 32,768 bytes asks at most 5,461 questions, and the line of each is at most 54 bytes long, as any number has at most ten digits.
+-- The longest output: a text of 32,768 bytes asks at most 5,461 questions, and the line of each is at most 61 bytes long, as any number has at most ten digits;
+-- 62 are reckoned, 31 for each number of the pairs that are asked.
 use mathlib.Core.Bool.{Bool, true, false}
 use mathlib.Core.List.{List, [], _∷_, _++_}
 use mathlib.Core.Path.{_≡_, refl}
@@ -18,7 +19,7 @@ use Rattle.text_printing.proofs.Putting.{two-short, line-short}
 use Rattle.text.proofs.Bounded.{says-bounded}
 
 -- a line for each pair of numbers
-answers-short : (index asked : List ℕ) → length (answersTo index asked) ≤ 27 * length asked
+answers-short : (index asked : List ℕ) → length (answersTo index asked) ≤ 31 * length asked
 unfolding answersTo
 answers-short index [] = omega arith
 answers-short index (u ∷ []) = omega arith

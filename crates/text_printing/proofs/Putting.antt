@@ -1,60 +1,31 @@
 -- Bytes put into a buffer: what is put behind what was put is put as one, and a number's digits are those of its tenth part and the last.
 use mathlib.Core.Bool.{Bool, true, false, cond}
-use mathlib.Core.List.{List, [], _∷_, _++_, append-assoc}
+use mathlib.Core.List.{List, [], _∷_, _++_}
 use mathlib.Core.Path.{_≡_, refl, sym, ap, ap₂, _∙_, subst}
 use Prim.Native.Nat.{ℕ, zero, suc, _+_, _/_, _%_, _^_, _≤_, _<_}
-use native.Mathlib.Nat.{add-zero, div-lt-iff-lt-mul, pow-suc}
+use native.Mathlib.Nat.{div-lt-iff-lt-mul, pow-suc}
 use native.Mathlib.Numerals.{add-one}
 use native.Mathlib.Omega.{arith}
 use lib.Dec.{ltb}
-use lib.ListN.{length, getD, take, drop, set, length-append, take-append-drop}
-use lib.Seq.{take-all, length-take-le, take-at, drop-at, drop-drop, take-suc, set-split}
+use lib.ListN.{length, getD, take, set, length-append}
+use lib.Seq.{take-all, take-suc}
 use borrow.Author.Tests.{lt-ltb, le-ltb}
 use Rattle.lineage.specs.Calls.{Outcome, refused, answered, Said}
-use Rattle.text.specs.Output.{digits, decimalBy, decimal, twoNumbers, said, told, question, questionLine}
+use Rattle.text.specs.Output.{digits, decimalBy, decimal, twoNumbers, threeNumbers, said, told, question, questionLine}
 use Rattle.text_lines.specs.Lines.{bytes}
-use Rattle.text_printing.specs.Printer.{placed, Put}
-
--- what stands in front of bytes that were put, and those bytes
-module _ (out : List ℕ) (at : ℕ) (xs : List ℕ) (low : at ≤ length out) where
-  head-long : length (take at out ++ xs) ≡ at + length xs
-  head-long = length-append (take at out) xs ∙ ap (λ (k : ℕ). k + length xs) (length-take-le at out low)
-
-  head-taken : take (at + length xs) (placed out at xs) ≡ take at out ++ xs
-  unfolding placed
-  head-taken =
-      ap (take (at + length xs)) (sym (append-assoc (take at out) xs (drop (at + length xs) out)))
-      ∙ take-at (take at out ++ xs) (drop (at + length xs) out) (at + length xs) head-long
-
-  -- what stands behind is kept
-  tail-kept : (k : ℕ) → drop (at + length xs + k) (placed out at xs) ≡ drop (at + length xs + k) out
-  unfolding placed
-  tail-kept k =
-      sym (drop-drop k (at + length xs) (placed out at xs))
-      ∙ (ap (drop k)
-      (ap (drop (at + length xs)) (sym (append-assoc (take at out) xs (drop (at + length xs) out)))
-      ∙ drop-at (take at out ++ xs) (drop (at + length xs) out) (at + length xs) head-long)
-      ∙ drop-drop k (at + length xs) out)
-
-  -- bytes behind bytes
-  placed-placed : (ys : List ℕ) → placed (placed out at xs) (at + length xs) ys ≡ placed out at (xs ++ ys)
-  unfolding placed
-  placed-placed ys =
-      let both : at + length xs + length ys ≡ at + length (xs ++ ys) = omega (arith, length-append xs ys) in
-      rw (head-taken, tail-kept (length ys), both)
-      (append-assoc (take at out) xs (ys ++ drop (at + length (xs ++ ys)) out)
-      ∙ ap (λ (s : List ℕ). take at out ++ s) (sym (append-assoc xs ys (drop (at + length (xs ++ ys)) out))))
+use Rattle.numbers.specs.Put.{put}
+use Rattle.numbers.proofs.Put.{put-none, put-next, put-sets}
+use Rattle.text_printing.specs.Printer.{Put}
 
 -- one byte is put
 pub put-one : (out : List ℕ) (at b : ℕ) → at < length out → Put out at (b ∷ []) (at + 1) (set out at b)
-unfolding placed
-put-one out at b low = record { behind = refl; whole = rw (add-one at) (set-split out at b low) }
+put-one out at b low = record { behind = refl; whole = put-sets out at (b ∷ []) (omega arith) }
 
 -- bytes are put behind bytes
 pub put-put : {out mid exit : List ℕ} {at next last : ℕ} {xs ys : List ℕ} → Put out at xs next mid → Put mid next ys last exit → at ≤ length out → Put out at (xs ++ ys) last exit
 put-put {out} {mid} {exit} {at} {next} {last} {xs} {ys} p q low = record {
   behind = omega (arith, p .behind, q .behind, length-append xs ys);
-  whole = q .whole ∙ (ap₂ (λ (s : List ℕ) (k : ℕ). placed s k ys) (p .whole) (p .behind) ∙ placed-placed out at xs low ys);
+  whole = q .whole ∙ (ap₂ (λ (s : List ℕ) (k : ℕ). put s k ys) (p .whole) (p .behind) ∙ put-next out at xs low ys);
 }
 
 -- the tenth part has a digit less
@@ -115,8 +86,7 @@ module _ {out mid : List ℕ} {at p : ℕ} (x : ℕ) (low : 10 ≤ x) (fits : x 
 
 -- a word is put byte by byte
 pub word-begins : (out : List ℕ) (at : ℕ) → Put out at [] (at + 0) out
-unfolding placed
-word-begins out at = record { behind = refl; whole = sym (rw (add-zero at) (take-append-drop at out)) }
+word-begins out at = record { behind = refl; whole = sym (put-none out at) }
 
 pub word-turns : (out mid word : List ℕ) (at j : ℕ) → Put out at (take j word) (at + j) mid → at + j < length mid → j < length word → at ≤ length out
     → Put out at (take (j + 1) word) (at + (j + 1)) (set mid (at + j) (getD word j 0))
@@ -129,18 +99,25 @@ pub word-ends : (out mid word : List ℕ) (at j : ℕ) → j ≡ length word →
 word-ends out mid word at j e p = put-same (take-all j word (omega arith)) p
 
 -- yes or no, by the test that was made
-pub said-is : (says t : Bool) (reason opened : ℕ) → says ≡ t → said (record { says = t; reason = reason; opened = opened }) ≡ said (record { says = says; reason = reason; opened = opened })
-said-is says t reason opened e = ap (λ (b : Bool). said (record { says = b; reason = reason; opened = opened })) (sym e)
+pub said-is : (says t : Bool) (reason opened deciding : ℕ) → says ≡ t
+    → said (record { says = t; reason = reason; opened = opened; deciding = deciding }) ≡ said (record { says = says; reason = reason; opened = opened; deciding = deciding })
+said-is says t reason opened deciding e = ap (λ (b : Bool). said (record { says = b; reason = reason; opened = opened; deciding = deciding })) (sym e)
 
 -- How long a line is at most: any number has at most ten digits.
 pub two-short : (x y : ℕ) → length (twoNumbers x y) ≤ 21
 two-short x y = omega (arith, number-short x, number-short y, length-append (decimal x) (bytes " " ++ decimal y))
 
-pub told-short : (o : Outcome Said) → length (told o) ≤ 29
+three-short : (x y z : ℕ) → length (threeNumbers x y z) ≤ 32
+three-short x y z = omega (arith, number-short x, two-short y z, length-append (decimal x) (bytes " " ++ twoNumbers y z))
+
+pub told-short : (o : Outcome Said) → length (told o) ≤ 36
 told-short (refused number extra) = omega (arith, two-short number extra)
-told-short (answered a) = go (a .says) (two-short (a .reason) (a .opened))
+told-short (answered a) = go (a .says) (three-short (a .reason) (a .opened) (a .deciding))
   where
-    go : (t : Bool) → length (twoNumbers (a .reason) (a .opened)) ≤ 21 → length (cond t (bytes "yes ") (bytes "no ") ++ twoNumbers (a .reason) (a .opened)) ≤ 29
+    numbers : List ℕ
+    numbers = threeNumbers (a .reason) (a .opened) (a .deciding)
+
+    go : (t : Bool) → length numbers ≤ 32 → length (cond t (bytes "yes ") (bytes "no ") ++ numbers) ≤ 36
     go true h = omega arith
     go false h = omega arith
 
@@ -148,7 +125,7 @@ pub question-short : (u v : ℕ) → length (question u v) ≤ 24
 question-short u v = omega (arith, length-append (twoNumbers u v) (bytes " "), two-short u v)
 
 -- the line of a question
-pub line-short : (u v : ℕ) (o : Outcome Said) → length (questionLine u v o) ≤ 54
+pub line-short : (u v : ℕ) (o : Outcome Said) → length (questionLine u v o) ≤ 61
 line-short u v o =
     omega
     (arith, length-append (question u v) (told o ++ bytes "\n"), question-short u v, length-append (told o) (bytes "\n"), told-short o)

@@ -3,7 +3,7 @@ ghost use mathlib.Core.List.{_∷_, []};
 ghost use mathlib.Core.Path.{_≡_};
 ghost use Prim.Native.Nat.{_+_, _%_, _≤_, _<_};
 ghost use lib.ListN.{length};
-ghost use Rattle.text.specs.Output.{decimal, twoNumbers, question, refusal, said};
+ghost use Rattle.text.specs.Output.{decimal, twoNumbers, threeNumbers, question, refusal, said};
 ghost use Rattle.text_printing.specs.Printer.{Put};
 
 pub fn put_byte(out: &mut [u8], at: usize, b: u8) -> usize
@@ -55,6 +55,16 @@ pub fn put_two(out: &mut [u8], at: usize, x: u32, y: u32) -> usize
     put_number(out, b, y)
 }
 
+// Three numbers, a space before each but the first.
+pub fn put_three(out: &mut [u8], at: usize, x: u32, y: u32, z: u32) -> usize
+    requires { ⌜ at + 32 ≤ length (now out) ⌝ }
+    ensures { λ r. ⌜ Put (now (out .entry)) at (threeNumbers x y z) r (now (out .exit)) ⌝ }
+{
+    let a = put_number(out, at, x);
+    let b = put_byte(out, a, b' ');
+    put_two(out, b, y, z)
+}
+
 // `q`, source, target, and the space before what the question is told.
 pub fn put_question(out: &mut [u8], at: usize, source: u32, target: u32) -> usize
     requires { ⌜ at + 24 ≤ length (now out) ⌝ }
@@ -73,16 +83,23 @@ pub fn put_refusal(out: &mut [u8], at: usize, number: u32, extra: u32) -> usize
     put_two(out, a, number, extra)
 }
 
-// Yes or no, the reason, and the groups opened.
-pub fn put_said(out: &mut [u8], at: usize, says: bool, reason: u32, opened: u32) -> usize
-    requires { ⌜ at + 25 ≤ length (now out) ⌝ }
-    ensures { λ r. ⌜ Put (now (out .entry)) at (said (record { says = says; reason = reason; opened = opened })) r (now (out .exit)) ⌝ }
+// Yes or no, the reason, the groups opened, and the labelling that decided.
+pub fn put_said(
+    out: &mut [u8],
+    at: usize,
+    says: bool,
+    reason: u32,
+    opened: u32,
+    deciding: u32,
+) -> usize
+    requires { ⌜ at + 36 ≤ length (now out) ⌝ }
+    ensures { λ r. ⌜ Put (now (out .entry)) at (said (record { says = says; reason = reason; opened = opened; deciding = deciding })) r (now (out .exit)) ⌝ }
 {
     if says {
         let a = put_word(out, at, b"yes ");
-        put_two(out, a, reason, opened)
+        put_three(out, a, reason, opened, deciding)
     } else {
         let a = put_word(out, at, b"no ");
-        put_two(out, a, reason, opened)
+        put_three(out, a, reason, opened, deciding)
     }
 }

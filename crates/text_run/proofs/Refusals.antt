@@ -20,13 +20,13 @@ use Rattle.laws.proofs.Names.{names-long}
 use Rattle.laws.proofs.Sound.{made-sound}
 use Rattle.laws.proofs.Lists.{table-long}
 use Rattle.build_orders.proofs.Permutations.{orders-of}
-use Rattle.stored_header.proofs.Checks.{passed-first}
+use Rattle.stored_header.proofs.Checks.{pass-front, answered-pass, answered-is, rest-comes}
 use Rattle.stored.proofs.Offsets.{total-at-2}
 use Rattle.open.proofs.Small.{groups-few}
 use Rattle.open.proofs.Entries.{entries-few}
 use Rattle.build.specs.Admitted.{Admitted}
 use Rattle.build.specs.declared.Built.the-variants.{Total}
-use Rattle.build.proofs.Checks.{all-pass, passed-is, pass-all, admitted}
+use Rattle.build.proofs.Checks.{admitted}
 use Rattle.build.proofs.Theorems.{Allowed, build-stores, input-right, build-opens, build-asks, build-asks-right}
 use Rattle.text.specs.Text.{mostVertices, mostEdges, Text, says, reading}
 use Rattle.text.specs.Output.{workLent, indexLent, inputOf}
@@ -138,7 +138,7 @@ module _ (text : List ℕ) (t : Text) (good : reading text ≡ says t) where
     counted : countsIn stored .n ≡ t .n
     unfolding openAnswer indexOf indexBy condense
     counted =
-        let passed = passed-is (formChecks stored mostVertices ++ (contentsCheck stored ∷ [])) (countsIn stored) (countsOf (built (inputOf t))) opens in
+        let passed = answered-is (countsIn stored) (formChecks stored mostVertices ++ (contentsCheck stored ∷ [])) (countsOf (built (inputOf t))) opens in
         ap (λ (a : Counts). a .n) (sym passed) ∙ names-long (inputOf t .graph) (input-right (inputOf t) work index (Total total) _ _ allowed total refl .ends)
 
     -- 10 to 13 pass, so the checks behind them decide
@@ -148,9 +148,9 @@ module _ (text : List ℕ) (t : Text) (good : reading text ≡ says t) where
     behind-13 u v =
         let said : Said = saidOf (answer (indexIn stored) u v) in
         let n : ℕ = countsIn stored .n in
-        let p = all-pass (formChecks stored mostVertices ++ (contentsCheck stored ∷ [])) (countsIn stored) (countsOf (built (inputOf t))) opens in
-        let passed = pass-all (formChecks stored mostVertices) said (p .0, (p .1 .0, (p .1 .1 .0, (p .1 .1 .1 .0, tt)))) in
-        passed-first (check (leb n u) 14 0 ∷ check (leb n v) 14 1 ∷ contentsCheck stored ∷ []) said said (formChecks stored mostVertices) said passed
+        let form : List Check = formChecks stored mostVertices in
+        let p = answered-pass (countsIn stored) (form ++ (contentsCheck stored ∷ [])) (countsOf (built (inputOf t))) opens in
+        rest-comes said [] form (check (leb n u) 14 0 ∷ check (leb n v) 14 1 ∷ contentsCheck stored ∷ []) (pass-front form (contentsCheck stored ∷ []) p) refl .says
         ∙ ap (λ (k : ℕ). refuse (leb k u) 14 0 (refuse (leb k v) 14 1 (outcome (contentsCheck stored ∷ []) said))) counted
 
     -- a question is refused by 14 alone

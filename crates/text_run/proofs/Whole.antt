@@ -7,12 +7,13 @@ use native.Mathlib.Omega.{arith}
 use lib.ListN.{length, drop}
 use borrow.Author.Tests.{lt-ltb, le-ltb}
 use Rattle.lineage.specs.Stored.{mostLabellings}
+use Rattle.numbers.specs.Put.{put}
 use Rattle.text_lines.specs.Lines.{bytes}
 use Rattle.text.specs.Text.{mostBytes, mostVertices}
 use Rattle.text.specs.declared.Reading.{Reading as ReadingRead}
 use Rattle.text.specs.Blocks.{readingOf, TextInto}
 use Rattle.text.specs.Output.{refusal, afterReading, output}
-use Rattle.text_printing.specs.Printer.{placed, Put}
+use Rattle.text_printing.specs.Printer.{Put}
 
 -- looked at before any line
 pub many-bytes : (text : List ℕ) → mostBytes < length text → refusal 17 0 ++ bytes "\n" ≡ output text
@@ -28,7 +29,7 @@ read-prints {text} {sources} {targets} {orders} {asked} h R e =
 
 -- what is put at the start of the output is all that is printed, and the output behind it keeps its contents
 pub printed : (text : List ℕ) {out exit xs : List ℕ} {r : ℕ} → xs ≡ output text → Put out 0 xs r exit → (r ≡ length (output text)) × (exit ≡ output text ++ drop r out)
-unfolding placed
+unfolding put
 printed text {out} {xs = xs} {r = r} e p =
     let all : r ≡ length xs = omega (arith, p .behind) in (
       all ∙ ap length e,

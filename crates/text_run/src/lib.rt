@@ -8,6 +8,7 @@ ghost use Rattle.text.specs.Text.{says};
 ghost use Rattle.text.specs.Output.{refusal, afterReading, output};
 ghost use Rattle.text_printing.specs.Printer.{Put};
 use build::Built;
+use refusals::BAD_TEXT;
 use text::MOST_BYTES;
 use text::MOST_EDGES;
 use text::MOST_ORDERS;
@@ -15,8 +16,8 @@ use text::MOST_QUESTIONS;
 use text::MOST_VERTICES;
 use text::Reading;
 
-// The most bytes of output: 54 for the line of each question.
-pub const MOST_OUTPUT: usize = 54 * MOST_QUESTIONS;
+// The most bytes of output: 62 for the line of each question.
+pub const MOST_OUTPUT: usize = 62 * MOST_QUESTIONS;
 
 // The words and bytes that a build is lent: 16n + 4 x edges + 64, and 50 + 2n + 6k + 2c + 8dk at the program's bounds.
 const WORK: usize = 16 * MOST_VERTICES + 4 * MOST_EDGES + 64;
@@ -46,7 +47,7 @@ fn put_built(
     orders: &[u32],
     asked: &[u32],
 ) -> usize
-    requires { ⌜ (30 ≤ length (now out)) × (27 * length (now asked) ≤ length (now out)) ⌝ }
+    requires { ⌜ (30 ≤ length (now out)) × (31 * length (now asked) ≤ length (now out)) ⌝ }
     ensures { λ r. ⌜ Put (now (out .entry)) 0 (afterReading (says (record { n = n; sources = now (sources .entry); targets = now (targets .entry); d = d; orders = now (orders .entry); asked = now (asked .entry) }))) r (now (out .exit)) ⌝ }
 {
     let mut work = [0u32; WORK];
@@ -63,14 +64,14 @@ pub fn run(text: &[u8], out: &mut [u8; MOST_OUTPUT]) -> usize
     ensures { λ r. ⌜ now (out .exit) ≡ output (now (text .entry)) ++ drop r (now (out .entry)) ⌝ }
 {
     if MOST_BYTES < text.len() {
-        return put_refused(out, 17, 0);
+        return put_refused(out, BAD_TEXT, 0);
     }
     let mut sources = [0u32; MOST_EDGES];
     let mut targets = [0u32; MOST_EDGES];
     let mut orders = [0u32; MOST_ORDERS * MOST_VERTICES];
     let mut asked = [0u32; 2 * (MOST_QUESTIONS + 1)];
     match text::read_text(text, &mut sources, &mut targets, &mut orders, &mut asked) {
-        Reading::BadLine(line) => put_refused(out, 17, line as u32),
+        Reading::BadLine(line) => put_refused(out, BAD_TEXT, line as u32),
         Reading::Says {
             n,
             edges,

@@ -12,11 +12,6 @@ pub struct Counted {
     pub count: u32,
 }
 
-// The lowest 32 bits.
-fn low(x: usize) -> u32 {
-    (x % 4294967296) as u32
-}
-
 #[no_mangle]
 pub extern "C" fn trial_list(
     index: &[u8],
@@ -28,11 +23,11 @@ pub extern "C" fn trial_list(
         Listed::Count(count) => Counted {
             refusal: 0,
             extra: 0,
-            count: low(count),
+            count,
         },
         Listed::Refused { number, extra } => Counted {
-            refusal: low(number),
-            extra: low(extra),
+            refusal: number,
+            extra,
             count: 0,
         },
     }

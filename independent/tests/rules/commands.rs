@@ -31,7 +31,7 @@ fn file(name: &str) -> PathBuf {
 
 #[test]
 fn text_answers_on_standard_output() {
-    let answered = "q 3 2 no 6 1\nq 9 0 refused 14 0\n";
+    let answered = "q 3 2 no 6 1 0\nq 9 0 refused 14 0\n";
     assert_eq!(run(&["text"], TEXT), (answered.into(), 0));
     assert_eq!(run(&["text"], ""), ("refused 17 1\n".into(), 0));
     let long = "x".repeat(200_000);
@@ -44,9 +44,9 @@ fn index_writes_what_ask_and_list_read() {
     let path = path.to_str().unwrap();
     assert_eq!(run(&["index", path], TEXT), (String::new(), 0));
     assert_eq!(std::fs::read(path).unwrap().len(), 120);
-    assert_eq!(run(&["ask", path, "3", "2"], ""), ("q 3 2 no 6 1\n".into(), 0));
+    assert_eq!(run(&["ask", path, "3", "2"], ""), ("q 3 2 no 6 1 0\n".into(), 0));
     assert_eq!(run(&["ask", path, "3", "4"], ""), ("refused 14 1\n".into(), 1));
-    assert_eq!(run(&["list", path, "0"], ""), ("0\n1\n2\n".into(), 0));
+    assert_eq!(run(&["list", path, "0"], ""), ("1\n2\n".into(), 0));
     assert_eq!(run(&["list", path, "4"], ""), ("refused 14 0\n".into(), 1));
 }
 

@@ -3,10 +3,10 @@
 use crate::given::{built, g, lent_bytes, lent_words, refused, rising};
 use independent::chance::{Chance, Kind};
 use independent::closure::Closure;
-use independent::list;
+use independent::{list, Graph, Index};
 
 #[test]
-fn list_holds_all_that_is_reached() {
+fn list_holds_what_is_downstream() {
     let mut chance = Chance::new(31);
     for round in 0..600 {
         let n = chance.between(1, 16);
@@ -35,14 +35,59 @@ fn list_holds_all_that_is_reached() {
 #[test]
 fn list_fits_exactly_or_is_refused_with_its_count() {
     let bytes = built(&g(), &[rising(6)]);
-    let mut out = lent_words(5);
-    assert_eq!(list(&bytes, 0, &mut [9; 6], &mut out), Ok(5));
-    assert_eq!(out, [0, 1, 2, 3, 4]);
-    for short in 0..5 {
+    let mut out = lent_words(4);
+    assert_eq!(list(&bytes, 0, &mut [9; 6], &mut out), Ok(4));
+    assert_eq!(out, [1, 2, 3, 4]);
+    for short in 0..4 {
         let mut out = lent_words(short);
         let mut marks = [9; 7];
-        assert_eq!(list(&bytes, 0, &mut marks, &mut out), refused(16, 5));
+        assert_eq!(list(&bytes, 0, &mut marks, &mut out), refused(16, 4));
         assert_eq!(out, lent_words(short));
         assert_eq!(marks, [0, 0, 0, 0, 0, 0, 9]);
+    }
+}
+
+#[test]
+fn an_empty_list_needs_no_room() {
+    let bytes = built(&g(), &[rising(6)]);
+    for vertex in [4, 5] {
+        let mut marks = [9; 7];
+        assert_eq!(list(&bytes, vertex, &mut marks, &mut []), Ok(0));
+        assert_eq!(marks, [0, 0, 0, 0, 0, 0, 9]);
+    }
+}
+
+/// The lists of all vertices of a graph, in turn.
+fn lists(graph: &Graph) -> Vec<Vec<usize>> {
+    let index = Index::of(graph, &[rising(graph.n)]);
+    (0..graph.n).map(|u| index.downstream(u)).collect()
+}
+
+#[test]
+fn the_lists_of_g() {
+    let told: [&[usize]; 6] = [&[1, 2, 3, 4], &[1, 2, 4], &[1, 2, 4], &[4], &[], &[]];
+    assert_eq!(lists(&g()), told);
+}
+
+#[test]
+fn a_vertex_is_in_its_own_list_exactly_if_its_group_has_more_than_one_vertex() {
+    // 0 and 1 feed each other and 2; 3 is fed by 2 and feeds nothing. Self-loops then stand at all of them.
+    let edges = [(0, 1), (1, 0), (1, 2), (2, 3)];
+    let loops = [(0, 0), (1, 1), (2, 2), (3, 3)];
+    let told: [&[usize]; 4] = [&[0, 1, 2, 3], &[0, 1, 2, 3], &[3], &[]];
+    assert_eq!(lists(&Graph::new(4, &edges)), told);
+    assert_eq!(lists(&Graph::new(4, &[edges, loops].concat())), told);
+}
+
+#[test]
+fn a_self_loop_changes_no_list() {
+    let mut chance = Chance::new(32);
+    for round in 0..300 {
+        let n = chance.between(1, 16);
+        let mut graph = chance.graph(Kind::ALL[round % Kind::ALL.len()], n);
+        let before = lists(&graph);
+        let vertex = chance.below(n);
+        graph.edges.push((vertex, vertex));
+        assert_eq!(lists(&graph), before);
     }
 }

@@ -55,8 +55,8 @@ fn spoil(stored: &mut Stored, number: u32) -> Refusal {
             0
         }
         16 => {
-            stored.out.truncate(4);
-            5
+            stored.out.truncate(3);
+            4
         }
         _ => unreachable!(),
     };

@@ -102,7 +102,7 @@ fn a_line_beyond_the_bounds_does_not_exhaust_the_stack() {
     let index = Index::of(&graph, &[falling(10_000)]);
     assert_eq!(index.groups.levels[0], 9_999);
     assert!(index.question(0, 9_999).answer.yes);
-    assert_eq!(index.downstream(5_000).len(), 5_000);
+    assert_eq!(index.downstream(5_000).len(), 4_999);
 }
 
 #[test]

@@ -16,10 +16,10 @@ q 4 0
 ";
 
 const SAMPLE_ANSWERED: &str = "\
-q 3 2 no 6 1
-q 0 2 yes 2 0
-q 1 1 yes 1 0
-q 2 0 no 3 0
+q 3 2 no 6 1 0
+q 0 2 yes 2 0 1
+q 1 1 yes 1 0 0
+q 2 0 no 3 0 0
 q 4 0 refused 14 0
 ";
 
@@ -51,10 +51,10 @@ fn p5_to_p8_as_text() {
     let a = "o 0 1 2 3 4 5\n";
     let b = "o 5 4 3 2 1 0\n";
     let asked = "q 3 4\nq 0 5\n";
-    prints(&format!("{g}{a}{asked}"), "q 3 4 yes 5 1\nq 0 5 no 4 0\n");
-    prints(&format!("{g}{a}{b}{asked}"), "q 3 4 yes 2 0\nq 0 5 no 4 0\n");
+    prints(&format!("{g}{a}{asked}"), "q 3 4 yes 5 1 1\nq 0 5 no 4 0 1\n");
+    prints(&format!("{g}{a}{b}{asked}"), "q 3 4 yes 2 0 2\nq 0 5 no 4 0 1\n");
     let h = SAMPLE.replace("o 0 1 2 3", "o 3 2 1 0");
-    assert!(said(&h).starts_with("q 3 2 no 4 0\n"));
+    assert!(said(&h).starts_with("q 3 2 no 4 0 1\n"));
 }
 
 #[test]
@@ -106,16 +106,16 @@ fn an_order_line_has_exactly_n_numbers() {
 #[test]
 fn program_bounds_make_a_line_bad() {
     let n512 = format!("v 512\n{}q 511 0\n", order_line(512));
-    prints(&n512, "q 511 0 no 3 0\n");
+    prints(&n512, "q 511 0 no 3 0 0\n");
     bad("v 513\n", 1);
     bad("v 99999\n", 1);
 
     let edges = |count: usize| format!("v 2\n{}o 0 1\nq 0 1\n", "e 0 1\n".repeat(count));
-    prints(&edges(2_000), "q 0 1 yes 2 0\n");
+    prints(&edges(2_000), "q 0 1 yes 2 0 1\n");
     bad(&edges(2_001), 2_002);
 
     let orders = |count: usize| format!("v 2\n{}q 0 1\n", "o 0 1\n".repeat(count));
-    prints(&orders(5), "q 0 1 no 3 0\n");
+    prints(&orders(5), "q 0 1 no 3 0 0\n");
     bad(&orders(6), 7);
 }
 
@@ -123,7 +123,7 @@ fn program_bounds_make_a_line_bad() {
 fn bytes_32768_are_read_and_32769_refused_with_line_0() {
     let full = String::from("v 1\no 0\n") + &"q 0 0\n".repeat(5_459) + "q 0 1\n";
     assert_eq!(full.len(), 32_768);
-    let answered = "q 0 0 yes 1 0\n".repeat(5_459) + "q 0 1 refused 14 1\n";
+    let answered = "q 0 0 yes 1 0 0\n".repeat(5_459) + "q 0 1 refused 14 1\n";
     prints(&full, &answered);
 
     bad(&(full + "\n"), 0);
@@ -162,7 +162,7 @@ fn no_vertices() {
 fn questions_out_of_range_are_refused_line_by_line() {
     prints(
         "v 2\no 0 1\nq 2 0\nq 0 2\nq 99999 99999\nq 1 1\n",
-        "q 2 0 refused 14 0\nq 0 2 refused 14 1\nq 99999 99999 refused 14 0\nq 1 1 yes 1 0\n",
+        "q 2 0 refused 14 0\nq 0 2 refused 14 1\nq 99999 99999 refused 14 0\nq 1 1 yes 1 0 0\n",
     );
 }
 

@@ -27,10 +27,7 @@ labellings-holds : tie.Need-labellings-holds Inv-loop μ-loop Inv-labellings μ-
 labellings-holds c = (refl, (refl, judging-none _ _ _ _ _ _))
 
 triples-requires : tie.Need-triples-requires Inv-loop μ-loop Inv-labellings μ-labellings
-triples-requires c κs =
-    let s = c .before .before .before in
-    let L = s .pre .0 in
-    (L .width, ((L .groups-few, (L .labellings-few, c .labellings-test .taken)), L .long))
+triples-requires c κs = (c .before .before .before .pre .0, c .labellings-test .taken)
 
 loop-holds : tie.Need-loop-holds Inv-loop μ-loop Inv-labellings μ-labellings
 loop-holds c = let v = c .before .before .labellings .inv in (v .0, (v .1 .0, (omega arith, λ j h. absurd (omega arith))))

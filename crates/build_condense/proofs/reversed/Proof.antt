@@ -9,37 +9,37 @@ use Rattle.build_condense.proofs.reversed.Statement.{statement}
 use Rattle.build_condense.proofs.reversed.Tie as tie
 
 abbrev Inv-loop : tie.InvT-loop
-Inv-loop w₀ from n base i₀ w i = (i ≤ n) × Written w₀ w base n i (lasts n i (part w₀ from n))
+Inv-loop work₀ from n base i₀ work i = (i ≤ n) × Written work₀ work base n i (lasts n i (part work₀ from n))
 
 abbrev μ-loop : tie.MeasureT-loop
-μ-loop w₀ from n base i₀ w i = n - i
+μ-loop work₀ from n base i₀ work i = n - i
 
 loop-holds : tie.Need-loop-holds Inv-loop μ-loop
 loop-holds c = (omega arith, reversing-none (c .pre .0))
 
-sub-w : tie.Need-sub-w Inv-loop μ-loop
-sub-w c = search needs
+sub-work : tie.Need-sub-work Inv-loop μ-loop
+sub-work c = search needs
 
-sub-w-2 : tie.Need-sub-w-2 Inv-loop μ-loop
-sub-w-2 c = search needs
+sub-work-2 : tie.Need-sub-work-2 Inv-loop μ-loop
+sub-work-2 c = search needs
 
-add-w : tie.Need-add-w Inv-loop μ-loop
-add-w c = search needs
+add-work : tie.Need-add-work Inv-loop μ-loop
+add-work c = search needs
 
-mul-w : tie.Need-mul-w Inv-loop μ-loop
-mul-w c = search needs
+mul-work : tie.Need-mul-work Inv-loop μ-loop
+mul-work c = search needs
 
-slice-read-w : tie.Need-slice-read-w Inv-loop μ-loop
-slice-read-w c = search needs
+slice-read-work : tie.Need-slice-read-work Inv-loop μ-loop
+slice-read-work c = search needs
 
-add-w-2 : tie.Need-add-w-2 Inv-loop μ-loop
-add-w-2 c = search needs
+add-work-2 : tie.Need-add-work-2 Inv-loop μ-loop
+add-work-2 c = search needs
 
-mul-w-2 : tie.Need-mul-w-2 Inv-loop μ-loop
-mul-w-2 c = search needs
+mul-work-2 : tie.Need-mul-work-2 Inv-loop μ-loop
+mul-work-2 c = search needs
 
-slice-write-w : tie.Need-slice-write-w Inv-loop μ-loop
-slice-write-w c = search needs
+slice-write-work : tie.Need-slice-write-work Inv-loop μ-loop
+slice-write-work c = search needs
 
 add-i : tie.Need-add-i Inv-loop μ-loop
 add-i c = search needs
@@ -63,14 +63,14 @@ reversed-spec =
     Inv-loop
     μ-loop
     loop-holds
-    sub-w
-    sub-w-2
-    add-w
-    mul-w
-    slice-read-w
-    add-w-2
-    mul-w-2
-    slice-write-w
+    sub-work
+    sub-work-2
+    add-work
+    mul-work
+    slice-read-work
+    add-work-2
+    mul-work-2
+    slice-write-work
     add-i
     loop-less
     loop-again

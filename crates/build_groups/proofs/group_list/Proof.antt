@@ -9,16 +9,16 @@ use Rattle.build_groups.proofs.group_list.Statement.{statement}
 use Rattle.build_groups.proofs.group_list.Tie as tie
 
 abbrev Inv-loop : tie.InvT-loop
-Inv-loop w₀ names n base places k₀ v₀ w k v = (v ≤ n) × Listing w₀ w names n base v k
+Inv-loop work₀ names n base places k₀ v₀ work k v = (v ≤ n) × Listing work₀ work names n base v k
 
 abbrev μ-loop : tie.MeasureT-loop
-μ-loop w₀ names n base places k₀ v₀ w k v = n - v
+μ-loop work₀ names n base places k₀ v₀ work k v = n - v
 
 -- the vertex at hand
 vertex :
     (c : tie.In-loop Inv-loop μ-loop)
     → let a = c .before .before .args in
-    Vertex (c .before .loop .w) (a .names) (a .n) (a .base) (c .before .loop .v) (c .before .loop .k)
+    Vertex (c .before .loop .work) (a .names) (a .n) (a .base) (c .before .loop .v) (c .before .loop .k)
 vertex c = listing-vertex (c .before .before .pre) (c .before .loop .inv .1) (c .loop-test .taken)
 
 add-places : tie.Need-add-places Inv-loop μ-loop
@@ -39,47 +39,47 @@ slice-read-name c = vertex (c .before) .name-in
 cast-own : tie.Need-cast-own Inv-loop μ-loop
 cast-own c = omega (arith, vertex (c .before))
 
-add-w : tie.Need-add-w Inv-loop μ-loop
-add-w c = omega (arith, vertex (c .before .before))
+add-work : tie.Need-add-work Inv-loop μ-loop
+add-work c = omega (arith, vertex (c .before .before))
 
-mul-w : tie.Need-mul-w Inv-loop μ-loop
-mul-w c = omega (arith, vertex (c .before .before))
+mul-work : tie.Need-mul-work Inv-loop μ-loop
+mul-work c = omega (arith, vertex (c .before .before))
 
-slice-write-w : tie.Need-slice-write-w Inv-loop μ-loop
-slice-write-w c = omega (arith, vertex (c .before .before))
+slice-write-work : tie.Need-slice-write-work Inv-loop μ-loop
+slice-write-work c = omega (arith, vertex (c .before .before))
 
-cast-w : tie.Need-cast-w Inv-loop μ-loop
-cast-w c = omega (arith, vertex (c .before .before))
+cast-work : tie.Need-cast-work Inv-loop μ-loop
+cast-work c = omega (arith, vertex (c .before .before))
 
-add-w-2 : tie.Need-add-w-2 Inv-loop μ-loop
-add-w-2 c = omega (arith, vertex (c .before .before))
+add-work-2 : tie.Need-add-work-2 Inv-loop μ-loop
+add-work-2 c = omega (arith, vertex (c .before .before))
 
-mul-w-2 : tie.Need-mul-w-2 Inv-loop μ-loop
-mul-w-2 c = omega (arith, vertex (c .before .before))
+mul-work-2 : tie.Need-mul-work-2 Inv-loop μ-loop
+mul-work-2 c = omega (arith, vertex (c .before .before))
 
-slice-write-w-2 : tie.Need-slice-write-w-2 Inv-loop μ-loop
-slice-write-w-2 c = simp length-set (omega (arith, vertex (c .before .before)))
+slice-write-work-2 : tie.Need-slice-write-work-2 Inv-loop μ-loop
+slice-write-work-2 c = simp length-set (omega (arith, vertex (c .before .before)))
 
 add-k : tie.Need-add-k Inv-loop μ-loop
 add-k c = omega (arith, vertex (c .before .before))
 
-add-w-3 : tie.Need-add-w-3 Inv-loop μ-loop
-add-w-3 c = omega (arith, vertex (c .before .before))
+add-work-3 : tie.Need-add-work-3 Inv-loop μ-loop
+add-work-3 c = omega (arith, vertex (c .before .before))
 
-mul-w-3 : tie.Need-mul-w-3 Inv-loop μ-loop
-mul-w-3 c = omega (arith, vertex (c .before .before))
+mul-work-3 : tie.Need-mul-work-3 Inv-loop μ-loop
+mul-work-3 c = omega (arith, vertex (c .before .before))
 
-slice-read-w : tie.Need-slice-read-w Inv-loop μ-loop
-slice-read-w c = omega (arith, vertex (c .before .before .before))
+slice-read-work : tie.Need-slice-read-work Inv-loop μ-loop
+slice-read-work c = omega (arith, vertex (c .before .before .before))
 
-add-w-4 : tie.Need-add-w-4 Inv-loop μ-loop
-add-w-4 c = omega (arith, vertex (c .before .before .before))
+add-work-4 : tie.Need-add-work-4 Inv-loop μ-loop
+add-work-4 c = omega (arith, vertex (c .before .before .before))
 
-mul-w-4 : tie.Need-mul-w-4 Inv-loop μ-loop
-mul-w-4 c = omega (arith, vertex (c .before .before .before))
+mul-work-4 : tie.Need-mul-work-4 Inv-loop μ-loop
+mul-work-4 c = omega (arith, vertex (c .before .before .before))
 
-slice-write-w-3 : tie.Need-slice-write-w-3 Inv-loop μ-loop
-slice-write-w-3 c = omega (arith, vertex (c .before .before .before))
+slice-write-work-3 : tie.Need-slice-write-work-3 Inv-loop μ-loop
+slice-write-work-3 c = omega (arith, vertex (c .before .before .before))
 
 add-v : tie.Need-add-v Inv-loop μ-loop
 add-v c = search needs
@@ -113,20 +113,20 @@ group-list-spec =
     mul-name
     slice-read-name
     cast-own
-    add-w
-    mul-w
-    slice-write-w
-    cast-w
-    add-w-2
-    mul-w-2
-    slice-write-w-2
+    add-work
+    mul-work
+    slice-write-work
+    cast-work
+    add-work-2
+    mul-work-2
+    slice-write-work-2
     add-k
-    add-w-3
-    mul-w-3
-    slice-read-w
-    add-w-4
-    mul-w-4
-    slice-write-w-3
+    add-work-3
+    mul-work-3
+    slice-read-work
+    add-work-4
+    mul-work-4
+    slice-write-work-3
     add-v
     loop-less
     loop-again

@@ -7,10 +7,10 @@ use Rattle.build_groups.proofs.least_word.Statement.{statement}
 use Rattle.build_groups.proofs.least_word.Tie as tie
 
 abbrev Inv-loop : tie.InvT-loop
-Inv-loop w at size least₀ i₀ least i = (i ≤ size) × Lessening w at size i least
+Inv-loop work at size least₀ i₀ least i = (i ≤ size) × Lessening work at size i least
 
 abbrev μ-loop : tie.MeasureT-loop
-μ-loop w at size least₀ i₀ least i = size - i
+μ-loop work at size least₀ i₀ least i = size - i
 
 mul-least : tie.Need-mul-least Inv-loop μ-loop
 mul-least c = search needs
@@ -21,17 +21,17 @@ shared-slice-read-least c = search needs
 loop-holds : tie.Need-loop-holds Inv-loop μ-loop
 loop-holds c = (omega arith, lessening-none _ _ _ (omega arith))
 
-add-lesser : tie.Need-add-lesser Inv-loop μ-loop
-add-lesser c = search needs
+add-lesser-word : tie.Need-add-lesser-word Inv-loop μ-loop
+add-lesser-word c = search needs
 
-mul-lesser : tie.Need-mul-lesser Inv-loop μ-loop
-mul-lesser c = search needs
+mul-lesser-word : tie.Need-mul-lesser-word Inv-loop μ-loop
+mul-lesser-word c = search needs
 
-shared-slice-read-lesser : tie.Need-shared-slice-read-lesser Inv-loop μ-loop
-shared-slice-read-lesser c = search needs
+shared-slice-read-lesser-word : tie.Need-shared-slice-read-lesser-word Inv-loop μ-loop
+shared-slice-read-lesser-word c = search needs
 
-lesser-requires : tie.Need-lesser-requires Inv-loop μ-loop
-lesser-requires c κs = search needs
+lesser-word-requires : tie.Need-lesser-word-requires Inv-loop μ-loop
+lesser-word-requires c κs = search needs
 
 add-i : tie.Need-add-i Inv-loop μ-loop
 add-i c = search needs
@@ -42,7 +42,7 @@ loop-less c = search needs
 loop-again : tie.Need-loop-again Inv-loop μ-loop
 loop-again c =
     let l = c .before .before .before in
-    (omega arith, lessening-more (omega arith) (l .loop .inv .1) (omega arith) (c .lesser .ensures))
+    (omega arith, lessening-more (omega arith) (l .loop .inv .1) (omega arith) (c .lesser-word .ensures))
 
 returns : tie.Need-returns Inv-loop μ-loop
 returns c = lessening-all (omega arith) (c .before .loop .inv .1) (omega arith)
@@ -56,10 +56,10 @@ least-word-spec =
     mul-least
     shared-slice-read-least
     loop-holds
-    add-lesser
-    mul-lesser
-    shared-slice-read-lesser
-    lesser-requires
+    add-lesser-word
+    mul-lesser-word
+    shared-slice-read-lesser-word
+    lesser-word-requires
     add-i
     loop-less
     loop-again

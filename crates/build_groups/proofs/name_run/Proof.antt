@@ -2,22 +2,22 @@
 use Prim.Native.Nat.{_-_, _≤_}
 use native.Mathlib.Omega.{arith}
 use borrow.Author.Needs.{needs}
-use Rattle.build_orders.proofs.Stamping.{Stamping, stamping-none, stamping-all}
+use Rattle.numbers.proofs.Stamping.{Stamping, stamping-none, stamping-all}
 use Rattle.build_groups.proofs.Runs.{Vertex, run-vertex, run-more}
 use Rattle.build_groups.proofs.name_run.Statement.{statement}
 use Rattle.build_groups.proofs.name_run.Tie as tie
 
 abbrev Inv-loop : tie.InvT-loop
-Inv-loop w₀ at size name base n i₀ w i = (i ≤ size) × Stamping w₀ w w₀ base n name at i
+Inv-loop work₀ at size name base n i₀ work i = (i ≤ size) × Stamping work₀ work work₀ base n name at i
 
 abbrev μ-loop : tie.MeasureT-loop
-μ-loop w₀ at size name base n i₀ w i = size - i
+μ-loop work₀ at size name base n i₀ work i = size - i
 
 -- the vertex at hand
 vertex :
     (c : tie.In-loop Inv-loop μ-loop)
     → let a = c .before .before .args in
-    Vertex (c .before .loop .w) (a .at) (a .base) (a .n) (c .before .loop .i)
+    Vertex (c .before .loop .work) (a .at) (a .base) (a .n) (c .before .loop .i)
 vertex c = run-vertex (c .before .before .pre) (c .before .loop .inv .1) (c .loop-test .taken)
 
 loop-holds : tie.Need-loop-holds Inv-loop μ-loop
@@ -35,14 +35,14 @@ slice-read-v c = vertex (c .before) .vertex-in
 cast-v : tie.Need-cast-v Inv-loop μ-loop
 cast-v c = omega (arith, vertex (c .before))
 
-add-w : tie.Need-add-w Inv-loop μ-loop
-add-w c = omega (arith, vertex (c .before))
+add-work : tie.Need-add-work Inv-loop μ-loop
+add-work c = omega (arith, vertex (c .before))
 
-mul-w : tie.Need-mul-w Inv-loop μ-loop
-mul-w c = omega (arith, vertex (c .before))
+mul-work : tie.Need-mul-work Inv-loop μ-loop
+mul-work c = omega (arith, vertex (c .before))
 
-slice-write-w : tie.Need-slice-write-w Inv-loop μ-loop
-slice-write-w c = omega (arith, vertex (c .before))
+slice-write-work : tie.Need-slice-write-work Inv-loop μ-loop
+slice-write-work c = omega (arith, vertex (c .before))
 
 add-i : tie.Need-add-i Inv-loop μ-loop
 add-i c = search needs
@@ -72,9 +72,9 @@ name-run-spec =
     mul-v
     slice-read-v
     cast-v
-    add-w
-    mul-w
-    slice-write-w
+    add-work
+    mul-work
+    slice-write-work
     add-i
     loop-less
     loop-again

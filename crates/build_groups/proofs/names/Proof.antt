@@ -8,16 +8,16 @@ use Rattle.build_groups.proofs.names.Statement.{statement}
 use Rattle.build_groups.proofs.names.Tie as tie
 
 abbrev Inv-loop : tie.InvT-loop
-Inv-loop w₀ out low n base q₀ w q = Naming w₀ w out low n base q
+Inv-loop work₀ out low n base q₀ work q = Naming work₀ work out low n base q
 
 abbrev μ-loop : tie.MeasureT-loop
-μ-loop w₀ out low n base q₀ w q = q
+μ-loop work₀ out low n base q₀ work q = q
 
 -- the tree at hand
 tree :
     (c : tie.In-loop Inv-loop μ-loop)
     → let a = c .before .before .before .args in
-    Tree (c .before .loop .w) (a .out) (a .low) (a .n) (a .base) (c .before .loop .q) (c .before .loop .q - 1)
+    Tree (c .before .loop .work) (a .out) (a .low) (a .n) (a .base) (c .before .loop .q) (c .before .loop .q - 1)
 tree c = naming-tree (c .before .before .before .pre) (c .before .loop .inv) (c .before .loop .q - 1) (omega arith)
 
 loop-holds : tie.Need-loop-holds Inv-loop μ-loop

@@ -7,10 +7,10 @@ use Rattle.build_indexed.proofs.write_labels.Statement.{statement}
 use Rattle.build_indexed.proofs.write_labels.Tie as tie
 
 abbrev Inv-loop : tie.InvT-loop
-Inv-loop out₀ l edges orders w₀ step at₀ j₀ out w at j = Turns l edges orders out₀ w₀ out w at j
+Inv-loop out₀ l edges orders work₀ step at₀ j₀ out work at j = Turns l edges orders out₀ work₀ out work at j
 
 abbrev μ-loop : tie.MeasureT-loop
-μ-loop out₀ l edges orders w₀ step at₀ j₀ out w at j = l .d - j
+μ-loop out₀ l edges orders work₀ step at₀ j₀ out work at j = l .d - j
 
 abbrev start : tie.At-loop Inv-loop μ-loop → tie.Start Inv-loop μ-loop
 start c = c .before .before .before .before .before .before

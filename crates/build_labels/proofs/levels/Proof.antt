@@ -11,11 +11,11 @@ use Rattle.build_labels.proofs.levels.Statement.{statement}
 use Rattle.build_labels.proofs.levels.Tie as tie
 
 abbrev Inv-loop : tie.InvT-loop
-Inv-loop w₀ out k starts values c base r₀ w r =
-    (r ≤ k) × Filling w₀ w (levelsOf (childrenIn w₀ starts values c k)) out k base r
+Inv-loop work₀ out k starts values c base r₀ work r =
+    (r ≤ k) × Filling work₀ work (levelsOf (childrenIn work₀ starts values c k)) out k base r
 
 abbrev μ-loop : tie.MeasureT-loop
-μ-loop w₀ out k starts values c base r₀ w r = k - r
+μ-loop work₀ out k starts values c base r₀ work r = k - r
 
 -- the function's entry, and the place at hand
 abbrev start : tie.At-loop Inv-loop μ-loop → tie.Start Inv-loop μ-loop
@@ -24,7 +24,7 @@ start l = l .before .before
 place :
     (c : tie.In-loop Inv-loop μ-loop)
     → let a = start (c .before) .args in
-    Place (c .before .loop .w) (a .out) (a .k) (a .starts) (a .values) (a .base) (c .before .loop .r)
+    Place (c .before .loop .work) (a .out) (a .k) (a .starts) (a .values) (a .base) (c .before .loop .r)
 place c = filling-place (start (c .before) .pre) (c .before .loop .inv .1) (c .loop-test .taken)
 
 loop-holds : tie.Need-loop-holds Inv-loop μ-loop
@@ -81,14 +81,14 @@ row-level-requires c κs =
     let h = c .before .before .before .before .loop-test .taken in
     (row-fit (start l .pre) (l .loop .inv .1) h, level-small (start l .pre) (l .loop .inv .1) h)
 
-add-w : tie.Need-add-w Inv-loop μ-loop
-add-w c = omega (arith, place (c .before .before .before .before .before))
+add-work : tie.Need-add-work Inv-loop μ-loop
+add-work c = omega (arith, place (c .before .before .before .before .before))
 
-mul-w : tie.Need-mul-w Inv-loop μ-loop
-mul-w c = omega (arith, place (c .before .before .before .before .before))
+mul-work : tie.Need-mul-work Inv-loop μ-loop
+mul-work c = omega (arith, place (c .before .before .before .before .before))
 
-slice-write-w : tie.Need-slice-write-w Inv-loop μ-loop
-slice-write-w c = omega (arith, place (c .before .before .before .before .before))
+slice-write-work : tie.Need-slice-write-work Inv-loop μ-loop
+slice-write-work c = omega (arith, place (c .before .before .before .before .before))
 
 add-r : tie.Need-add-r Inv-loop μ-loop
 add-r c = search needs
@@ -133,9 +133,9 @@ levels-spec =
     add-row-level
     sub-row-level
     row-level-requires
-    add-w
-    mul-w
-    slice-write-w
+    add-work
+    mul-work
+    slice-write-work
     add-r
     loop-less
     loop-again

@@ -14,11 +14,11 @@ use Rattle.build_labels.proofs.outer.Statement.{statement}
 use Rattle.build_labels.proofs.outer.Tie as tie
 
 abbrev Inv-loop : tie.InvT-loop
-Inv-loop w₀ out e k starts values c base r₀ w r =
-    (r ≤ k) × Filling w₀ w (map (outer (childrenIn w₀ starts values c k) (part w₀ e k) k) (upto k)) out k base r
+Inv-loop work₀ out e k starts values c base r₀ work r =
+    (r ≤ k) × Filling work₀ work (map (outer (childrenIn work₀ starts values c k) (part work₀ e k) k) (upto k)) out k base r
 
 abbrev μ-loop : tie.MeasureT-loop
-μ-loop w₀ out e k starts values c base r₀ w r = k - r
+μ-loop work₀ out e k starts values c base r₀ work r = k - r
 
 -- the function's entry, and the place at hand
 abbrev start : tie.At-loop Inv-loop μ-loop → tie.Start Inv-loop μ-loop
@@ -27,10 +27,10 @@ start l = l .before .before
 place :
     (c : tie.In-loop Inv-loop μ-loop)
     → let a = start (c .before) .args in
-    Place (c .before .loop .w) (a .out) (a .k) (a .starts) (a .values) (a .base) (c .before .loop .r)
+    Place (c .before .loop .work) (a .out) (a .k) (a .starts) (a .values) (a .base) (c .before .loop .r)
 place c = filling-place (start (c .before) .pre .up) (c .before .loop .inv .1) (c .loop-test .taken)
 
-rank-in : (c : tie.In-loop Inv-loop μ-loop) → let a = start (c .before) .args in a .e + getD (c .before .loop .w) (a .out + c .before .loop .r) 0 < length (c .before .loop .w)
+rank-in : (c : tie.In-loop Inv-loop μ-loop) → let a = start (c .before) .args in a .e + getD (c .before .loop .work) (a .out + c .before .loop .r) 0 < length (c .before .loop .work)
 rank-in c = omega (arith, place c, start (c .before) .pre .e-there .fits, c .before .loop .inv .1 .kept .long)
 
 loop-holds : tie.Need-loop-holds Inv-loop μ-loop
@@ -95,14 +95,14 @@ row-outer-requires c κs =
     let l = c .before .before .before .before .before .before in
     row-fit (start l .pre .up) (l .loop .inv .1) (c .before .before .before .before .before .loop-test .taken)
 
-add-w : tie.Need-add-w Inv-loop μ-loop
-add-w c = omega (arith, place (c .before .before .before .before .before .before))
+add-work : tie.Need-add-work Inv-loop μ-loop
+add-work c = omega (arith, place (c .before .before .before .before .before .before))
 
-mul-w : tie.Need-mul-w Inv-loop μ-loop
-mul-w c = omega (arith, place (c .before .before .before .before .before .before))
+mul-work : tie.Need-mul-work Inv-loop μ-loop
+mul-work c = omega (arith, place (c .before .before .before .before .before .before))
 
-slice-write-w : tie.Need-slice-write-w Inv-loop μ-loop
-slice-write-w c = omega (arith, place (c .before .before .before .before .before .before))
+slice-write-work : tie.Need-slice-write-work Inv-loop μ-loop
+slice-write-work c = omega (arith, place (c .before .before .before .before .before .before))
 
 add-r : tie.Need-add-r Inv-loop μ-loop
 add-r c = search needs
@@ -150,9 +150,9 @@ outer-spec =
     add-row-outer
     sub-row-outer
     row-outer-requires
-    add-w
-    mul-w
-    slice-write-w
+    add-work
+    mul-work
+    slice-write-work
     add-r
     loop-less
     loop-again

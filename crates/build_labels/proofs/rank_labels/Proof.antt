@@ -9,16 +9,16 @@ use Rattle.build_labels.proofs.rank_labels.Statement.{statement}
 use Rattle.build_labels.proofs.rank_labels.Tie as tie
 
 abbrev Inv-loop : tie.InvT-loop
-Inv-loop w₀ out low k base inner rank₀ w rank = Ranking w₀ w out low k base rank
+Inv-loop work₀ out low k base inner rank₀ work rank = Ranking work₀ work out low k base rank
 
 abbrev μ-loop : tie.MeasureT-loop
-μ-loop w₀ out low k base inner rank₀ w rank = rank
+μ-loop work₀ out low k base inner rank₀ work rank = rank
 
 -- the place at hand
 place :
     (c : tie.In-loop Inv-loop μ-loop)
     → let a = c .before .before .args in
-    Place (c .before .loop .w) (a .out) (a .low) (a .k) (a .base) (c .before .loop .rank - 1)
+    Place (c .before .loop .work) (a .out) (a .low) (a .k) (a .base) (c .before .loop .rank - 1)
 place c = ranking-place (c .before .before .pre) (c .before .loop .inv) (c .before .loop .rank - 1) (omega arith)
 
 add-inner : tie.Need-add-inner Inv-loop μ-loop
@@ -42,35 +42,35 @@ slice-read-p c = place (c .before) .place-in
 cast-p : tie.Need-cast-p Inv-loop μ-loop
 cast-p c = omega (arith, place (c .before))
 
-cast-w : tie.Need-cast-w Inv-loop μ-loop
-cast-w c = omega (arith, place (c .before))
+cast-work : tie.Need-cast-work Inv-loop μ-loop
+cast-work c = omega (arith, place (c .before))
 
-add-w : tie.Need-add-w Inv-loop μ-loop
-add-w c = omega (arith, place (c .before))
+add-work : tie.Need-add-work Inv-loop μ-loop
+add-work c = omega (arith, place (c .before))
 
-mul-w : tie.Need-mul-w Inv-loop μ-loop
-mul-w c = omega (arith, place (c .before))
+mul-work : tie.Need-mul-work Inv-loop μ-loop
+mul-work c = omega (arith, place (c .before))
 
-slice-write-w : tie.Need-slice-write-w Inv-loop μ-loop
-slice-write-w c = omega (arith, place (c .before))
+slice-write-work : tie.Need-slice-write-work Inv-loop μ-loop
+slice-write-work c = omega (arith, place (c .before))
 
-add-w-2 : tie.Need-add-w-2 Inv-loop μ-loop
-add-w-2 c = omega (arith, place (c .before))
+add-work-2 : tie.Need-add-work-2 Inv-loop μ-loop
+add-work-2 c = omega (arith, place (c .before))
 
-mul-w-2 : tie.Need-mul-w-2 Inv-loop μ-loop
-mul-w-2 c = omega (arith, place (c .before))
+mul-work-2 : tie.Need-mul-work-2 Inv-loop μ-loop
+mul-work-2 c = omega (arith, place (c .before))
 
-slice-read-w : tie.Need-slice-read-w Inv-loop μ-loop
-slice-read-w c = simp length-set (place (c .before .before) .low-in)
+slice-read-work : tie.Need-slice-read-work Inv-loop μ-loop
+slice-read-work c = simp length-set (place (c .before .before) .low-in)
 
-add-w-3 : tie.Need-add-w-3 Inv-loop μ-loop
-add-w-3 c = omega (arith, place (c .before .before))
+add-work-3 : tie.Need-add-work-3 Inv-loop μ-loop
+add-work-3 c = omega (arith, place (c .before .before))
 
-mul-w-3 : tie.Need-mul-w-3 Inv-loop μ-loop
-mul-w-3 c = omega (arith, place (c .before .before))
+mul-work-3 : tie.Need-mul-work-3 Inv-loop μ-loop
+mul-work-3 c = omega (arith, place (c .before .before))
 
-slice-write-w-2 : tie.Need-slice-write-w-2 Inv-loop μ-loop
-slice-write-w-2 c = simp length-set (omega (arith, place (c .before .before)))
+slice-write-work-2 : tie.Need-slice-write-work-2 Inv-loop μ-loop
+slice-write-work-2 c = simp length-set (omega (arith, place (c .before .before)))
 
 loop-less : tie.Need-loop-less Inv-loop μ-loop
 loop-less c = search needs
@@ -99,16 +99,16 @@ rank-labels-spec =
     mul-p
     slice-read-p
     cast-p
-    cast-w
-    add-w
-    mul-w
-    slice-write-w
-    add-w-2
-    mul-w-2
-    slice-read-w
-    add-w-3
-    mul-w-3
-    slice-write-w-2
+    cast-work
+    add-work
+    mul-work
+    slice-write-work
+    add-work-2
+    mul-work-2
+    slice-read-work
+    add-work-3
+    mul-work-3
+    slice-write-work-2
     loop-less
     loop-again
     same-length

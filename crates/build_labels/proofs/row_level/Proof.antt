@@ -7,16 +7,16 @@ use Rattle.build_labels.proofs.row_level.Statement.{statement}
 use Rattle.build_labels.proofs.row_level.Tie as tie
 
 abbrev Inv-loop : tie.InvT-loop
-Inv-loop w at size base k level₀ i₀ level i = (i ≤ size) × Climbing w at size base k i level
+Inv-loop work at size base k level₀ i₀ level i = (i ≤ size) × Climbing work at size base k i level
 
 abbrev μ-loop : tie.MeasureT-loop
-μ-loop w at size base k level₀ i₀ level i = size - i
+μ-loop work at size base k level₀ i₀ level i = size - i
 
 -- the place at hand
 place :
     (c : tie.In-loop Inv-loop μ-loop)
     → let a = c .before .before .before .args in
-    Place (a .w .now) (a .at) (a .size) (a .base) (a .k) (c .before .loop .i)
+    Place (a .work .now) (a .at) (a .size) (a .base) (a .k) (c .before .loop .i)
 place c = row-place (c .before .before .before .pre .0) (c .before .loop .i) (c .loop-test .taken)
 
 loop-holds : tie.Need-loop-holds Inv-loop μ-loop
@@ -34,23 +34,23 @@ shared-slice-read-q c = place (c .before) .place-in
 cast-q : tie.Need-cast-q Inv-loop μ-loop
 cast-q c = omega (arith, c .shared-slice-known2 .given (c .before .before .before .before .args .at + c .before .before .loop .i))
 
-add-greater : tie.Need-add-greater Inv-loop μ-loop
-add-greater c = omega (arith, place (c .before))
+add-greater-word : tie.Need-add-greater-word Inv-loop μ-loop
+add-greater-word c = omega (arith, place (c .before))
 
-mul-greater : tie.Need-mul-greater Inv-loop μ-loop
-mul-greater c = omega (arith, place (c .before))
+mul-greater-word : tie.Need-mul-greater-word Inv-loop μ-loop
+mul-greater-word c = omega (arith, place (c .before))
 
-shared-slice-read-greater : tie.Need-shared-slice-read-greater Inv-loop μ-loop
-shared-slice-read-greater c = place (c .before .before) .word-in
+shared-slice-read-greater-word : tie.Need-shared-slice-read-greater-word Inv-loop μ-loop
+shared-slice-read-greater-word c = place (c .before .before) .word-in
 
-add-greater-2 : tie.Need-add-greater-2 Inv-loop μ-loop
-add-greater-2 c =
+add-greater-word-2 : tie.Need-add-greater-word-2 Inv-loop μ-loop
+add-greater-word-2 c =
     let l = c .before .before .before in
     let s = l .before .before in
     omega (arith, word-small (s .pre .0) (l .loop .i) (2 ^ 32) (s .pre .1) (c .before .before .loop-test .taken))
 
-greater-requires : tie.Need-greater-requires Inv-loop μ-loop
-greater-requires c κs = search needs
+greater-word-requires : tie.Need-greater-word-requires Inv-loop μ-loop
+greater-word-requires c κs = search needs
 
 add-i : tie.Need-add-i Inv-loop μ-loop
 add-i c = search needs
@@ -61,7 +61,7 @@ loop-less c = search needs
 loop-again : tie.Need-loop-again Inv-loop μ-loop
 loop-again c =
     let l = c .before .before .before .before in
-    (omega arith, climbing-more (l .before .before .pre .0) (l .loop .i) (omega arith) (l .loop .inv .1) (c .greater .ensures))
+    (omega arith, climbing-more (l .before .before .pre .0) (l .loop .i) (omega arith) (l .loop .inv .1) (c .greater-word .ensures))
 
 returns : tie.Need-returns Inv-loop μ-loop
 returns c = climbing-all (c .before .before .before .pre .0) (c .before .loop .i) (omega arith) (c .before .loop .inv .1)
@@ -77,11 +77,11 @@ row-level-spec =
     mul-q
     shared-slice-read-q
     cast-q
-    add-greater
-    mul-greater
-    shared-slice-read-greater
-    add-greater-2
-    greater-requires
+    add-greater-word
+    mul-greater-word
+    shared-slice-read-greater-word
+    add-greater-word-2
+    greater-word-requires
     add-i
     loop-less
     loop-again

@@ -11,16 +11,16 @@ use Rattle.build_orders.proofs.bad_order.Statement.{statement}
 use Rattle.build_orders.proofs.bad_order.Tie as tie
 
 abbrev Inv-loop : tie.InvT-loop
-Inv-loop orders d n w₀ base i₀ w i = (i ≤ d) × Tried orders w₀ w base n i
+Inv-loop orders d n work₀ base i₀ work i = (i ≤ d) × Tried orders work₀ work base n i
 
 abbrev μ-loop : tie.MeasureT-loop
-μ-loop orders d n w₀ base i₀ w i = d - i
+μ-loop orders d n work₀ base i₀ work i = d - i
 
 -- the function's entry, and the window and the order at hand in what was lent
 abbrev start : tie.At-loop Inv-loop μ-loop → tie.Start Inv-loop μ-loop
 start l = l .before .before .before .before .before .before .before
 
-room : (l : tie.At-loop Inv-loop μ-loop) → start l .args .base + start l .args .n ≤ length (l .loop .w)
+room : (l : tie.At-loop Inv-loop μ-loop) → start l .args .base + start l .args .n ≤ length (l .loop .work)
 room l = omega (arith, start l .pre, l .before .before .before .clear-part .ensures .0 .long, l .loop .inv .1 .kept .long)
 
 inside : (c : tie.In-loop Inv-loop μ-loop) → let a = start (c .before) .args in c .before .loop .i * a .n + a .n ≤ length (a .orders .now)

@@ -3,17 +3,17 @@ use Prim.Native.Nat.{_-_, _≤_}
 use native.Mathlib.Omega.{arith}
 use borrow.Author.Needs.{needs}
 use Rattle.lineage.specs.Lists.{part}
-use Rattle.build_orders.specs.Stamped.{lacks}
+use Rattle.build_orders.specs.Lacks.{lacks}
 use Rattle.build_orders.proofs.First.{NoneBelow, none-begin, none-more, none-not-any}
-use Rattle.build_orders.proofs.Stamping.{word-lacks, word-has}
+use Rattle.build_orders.proofs.Lacking.{word-lacks, word-has}
 use Rattle.build_orders.proofs.one_lacks.Statement.{statement}
 use Rattle.build_orders.proofs.one_lacks.Tie as tie
 
 abbrev Inv-loop : tie.InvT-loop
-Inv-loop w base n stamp v₀ v = (v ≤ n) × NoneBelow (lacks stamp (part w base n)) v
+Inv-loop work base n stamp v₀ v = (v ≤ n) × NoneBelow (lacks stamp (part work base n)) v
 
 abbrev μ-loop : tie.MeasureT-loop
-μ-loop w base n stamp v₀ v = n - v
+μ-loop work base n stamp v₀ v = n - v
 
 loop-holds : tie.Need-loop-holds Inv-loop μ-loop
 loop-holds c = (omega arith, none-begin)
@@ -31,7 +31,7 @@ returns : tie.Need-returns Inv-loop μ-loop
 returns c =
     let l = c .before .before .before in
     let a = l .before .args in
-    word-lacks (a .w .now) (a .base) (a .n) (a .stamp) (l .loop .v) (omega arith) (c .if1 .taken)
+    word-lacks (a .work .now) (a .base) (a .n) (a .stamp) (l .loop .v) (omega arith) (c .if1 .taken)
 
 add-v : tie.Need-add-v Inv-loop μ-loop
 add-v c = search needs
@@ -43,7 +43,7 @@ loop-again : tie.Need-loop-again Inv-loop μ-loop
 loop-again c =
     let l = c .before .before .before in
     let a = l .before .args in
-    (omega arith, none-more (l .loop .inv .1) (word-has (a .w .now) (a .base) (a .n) (a .stamp) (l .loop .v) (omega arith) (c .if1 .left)))
+    (omega arith, none-more (l .loop .inv .1) (word-has (a .work .now) (a .base) (a .n) (a .stamp) (l .loop .v) (omega arith) (c .if1 .left)))
 
 returns-2 : tie.Need-returns-2 Inv-loop μ-loop
 returns-2 c = none-not-any (c .before .before .args .n) (c .before .loop .inv .1) (omega arith)

@@ -8,16 +8,16 @@ use Rattle.build_orders.proofs.ranked.Statement.{statement}
 use Rattle.build_orders.proofs.ranked.Tie as tie
 
 abbrev Inv-loop : tie.InvT-loop
-Inv-loop orders at n w₀ names place base k₀ j₀ w k j = (j ≤ n) × Ranking orders w₀ w at n names base j k
+Inv-loop orders at n work₀ names place base k₀ j₀ work k j = (j ≤ n) × Ranking orders work₀ work at n names base j k
 
 abbrev μ-loop : tie.MeasureT-loop
-μ-loop orders at n w₀ names place base k₀ j₀ w k j = n - j
+μ-loop orders at n work₀ names place base k₀ j₀ work k j = n - j
 
 -- the vertex at hand
 vertex :
     (c : tie.In-loop Inv-loop μ-loop)
     → let a = c .before .before .args in
-    Vertex (a .orders .now) (c .before .loop .w) (a .at) (a .n) (a .names) (a .place) (a .base) (c .before .loop .j) (c .before .loop .k)
+    Vertex (a .orders .now) (c .before .loop .work) (a .at) (a .n) (a .names) (a .place) (a .base) (c .before .loop .j) (c .before .loop .k)
 vertex c = ranking-vertex (c .before .before .pre) (c .before .loop .inv .1) (c .loop-test .taken)
 
 loop-holds : tie.Need-loop-holds Inv-loop μ-loop
@@ -44,23 +44,23 @@ mul-name c = omega (arith, vertex (c .before))
 slice-read-name : tie.Need-slice-read-name Inv-loop μ-loop
 slice-read-name c = vertex (c .before .before) .name-in
 
-add-w : tie.Need-add-w Inv-loop μ-loop
-add-w c = omega (arith, vertex (c .before .before))
+add-work : tie.Need-add-work Inv-loop μ-loop
+add-work c = omega (arith, vertex (c .before .before))
 
-mul-w : tie.Need-mul-w Inv-loop μ-loop
-mul-w c = omega (arith, vertex (c .before .before))
+mul-work : tie.Need-mul-work Inv-loop μ-loop
+mul-work c = omega (arith, vertex (c .before .before))
 
-slice-read-w : tie.Need-slice-read-w Inv-loop μ-loop
-slice-read-w c = vertex (c .before .before .before) .place-in
+slice-read-work : tie.Need-slice-read-work Inv-loop μ-loop
+slice-read-work c = vertex (c .before .before .before) .place-in
 
-add-w-2 : tie.Need-add-w-2 Inv-loop μ-loop
-add-w-2 c = omega (arith, vertex (c .before .before .before))
+add-work-2 : tie.Need-add-work-2 Inv-loop μ-loop
+add-work-2 c = omega (arith, vertex (c .before .before .before))
 
-mul-w-2 : tie.Need-mul-w-2 Inv-loop μ-loop
-mul-w-2 c = omega (arith, vertex (c .before .before .before))
+mul-work-2 : tie.Need-mul-work-2 Inv-loop μ-loop
+mul-work-2 c = omega (arith, vertex (c .before .before .before))
 
-slice-write-w : tie.Need-slice-write-w Inv-loop μ-loop
-slice-write-w c = omega (arith, vertex (c .before .before .before))
+slice-write-work : tie.Need-slice-write-work Inv-loop μ-loop
+slice-write-work c = omega (arith, vertex (c .before .before .before))
 
 add-k : tie.Need-add-k Inv-loop μ-loop
 add-k c = omega (arith, vertex (c .before .before .before .before))
@@ -99,12 +99,12 @@ ranked-spec =
     add-name
     mul-name
     slice-read-name
-    add-w
-    mul-w
-    slice-read-w
-    add-w-2
-    mul-w-2
-    slice-write-w
+    add-work
+    mul-work
+    slice-read-work
+    add-work-2
+    mul-work-2
+    slice-write-work
     add-k
     add-j
     loop-less

@@ -8,16 +8,16 @@ use Rattle.build_orders.proofs.roots.Statement.{statement}
 use Rattle.build_orders.proofs.roots.Tie as tie
 
 abbrev Inv-loop : tie.InvT-loop
-Inv-loop w₀ starts k sequence base c₀ j₀ w c j = (j ≤ k) × Rooting w₀ w starts k sequence base j c
+Inv-loop work₀ starts k sequence base c₀ j₀ work c j = (j ≤ k) × Rooting work₀ work starts k sequence base j c
 
 abbrev μ-loop : tie.MeasureT-loop
-μ-loop w₀ starts k sequence base c₀ j₀ w c j = k - j
+μ-loop work₀ starts k sequence base c₀ j₀ work c j = k - j
 
 -- the place at hand
 place :
     (c : tie.In-loop Inv-loop μ-loop)
     → let a = c .before .before .args in
-    Place (c .before .loop .w) (a .starts) (a .k) (a .sequence) (a .base) (c .before .loop .j) (c .before .loop .c)
+    Place (c .before .loop .work) (a .starts) (a .k) (a .sequence) (a .base) (c .before .loop .j) (c .before .loop .c)
 place c = rooting-place (c .before .before .pre) (c .before .loop .inv .1) (c .loop-test .taken)
 
 loop-holds : tie.Need-loop-holds Inv-loop μ-loop
@@ -56,14 +56,14 @@ mul-if1-2 c = omega (arith, place (c .before .before))
 slice-read-if1-2 : tie.Need-slice-read-if1-2 Inv-loop μ-loop
 slice-read-if1-2 c = place (c .before .before .before) .start-in
 
-add-w : tie.Need-add-w Inv-loop μ-loop
-add-w c = omega (arith, place (c .before .before .before .before))
+add-work : tie.Need-add-work Inv-loop μ-loop
+add-work c = omega (arith, place (c .before .before .before .before))
 
-mul-w : tie.Need-mul-w Inv-loop μ-loop
-mul-w c = omega (arith, place (c .before .before .before .before))
+mul-work : tie.Need-mul-work Inv-loop μ-loop
+mul-work c = omega (arith, place (c .before .before .before .before))
 
-slice-write-w : tie.Need-slice-write-w Inv-loop μ-loop
-slice-write-w c = omega (arith, place (c .before .before .before .before))
+slice-write-work : tie.Need-slice-write-work Inv-loop μ-loop
+slice-write-work c = omega (arith, place (c .before .before .before .before))
 
 add-c : tie.Need-add-c Inv-loop μ-loop
 add-c c = omega (arith, place (c .before .before .before .before))
@@ -106,9 +106,9 @@ roots-spec =
     add-if1-2
     mul-if1-2
     slice-read-if1-2
-    add-w
-    mul-w
-    slice-write-w
+    add-work
+    mul-work
+    slice-write-work
     add-c
     add-j
     loop-less

@@ -3,15 +3,15 @@ use mathlib.Core.Logic.{⊎-elim}
 use Prim.Native.Nat.{_+_, _-_, _≤_}
 use native.Mathlib.Omega.{arith}
 use borrow.Author.Needs.{needs}
-use Rattle.build_orders.proofs.Stamping.{Stamping, stamping-none, stamping-more, stamping-past, stamping-all}
+use Rattle.numbers.proofs.Stamping.{Stamping, stamping-none, stamping-more, stamping-past, stamping-all}
 use Rattle.build_orders.proofs.stamp_order.Statement.{statement}
 use Rattle.build_orders.proofs.stamp_order.Tie as tie
 
 abbrev Inv-loop : tie.InvT-loop
-Inv-loop orders at n stamp w₀ base j₀ w j = (j ≤ n) × Stamping w₀ w orders base n stamp at j
+Inv-loop orders at n stamp work₀ base j₀ work j = (j ≤ n) × Stamping work₀ work orders base n stamp at j
 
 abbrev μ-loop : tie.MeasureT-loop
-μ-loop orders at n stamp w₀ base j₀ w j = n - j
+μ-loop orders at n stamp work₀ base j₀ work j = n - j
 
 loop-holds : tie.Need-loop-holds Inv-loop μ-loop
 loop-holds c = (omega arith, stamping-none _ _ _ _ _ _)
@@ -28,14 +28,14 @@ shared-slice-read-v c = search needs
 cast-v : tie.Need-cast-v Inv-loop μ-loop
 cast-v c = omega (arith, c .shared-slice-known .given (c .before .before .before .args .at + c .before .before .loop .j))
 
-add-w : tie.Need-add-w Inv-loop μ-loop
-add-w c = search needs
+add-work : tie.Need-add-work Inv-loop μ-loop
+add-work c = search needs
 
-mul-w : tie.Need-mul-w Inv-loop μ-loop
-mul-w c = search needs
+mul-work : tie.Need-mul-work Inv-loop μ-loop
+mul-work c = search needs
 
-slice-write-w : tie.Need-slice-write-w Inv-loop μ-loop
-slice-write-w c = search needs
+slice-write-work : tie.Need-slice-write-work Inv-loop μ-loop
+slice-write-work c = search needs
 
 add-j : tie.Need-add-j Inv-loop μ-loop
 add-j c = search needs
@@ -71,9 +71,9 @@ stamp-order-spec =
     mul-v
     shared-slice-read-v
     cast-v
-    add-w
-    mul-w
-    slice-write-w
+    add-work
+    mul-work
+    slice-write-work
     add-j
     loop-less
     loop-again

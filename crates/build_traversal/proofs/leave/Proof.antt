@@ -47,35 +47,35 @@ mul-e-2 c = search needs
 slice-read-e : tie.Need-slice-read-e
 slice-read-e c = search needs
 
-mul-w : tie.Need-mul-w
-mul-w c = search needs
+mul-work : tie.Need-mul-work
+mul-work c = search needs
 
-add-w : tie.Need-add-w
-add-w c = search needs
+add-work : tie.Need-add-work
+add-work c = search needs
 
-add-w-2 : tie.Need-add-w-2
-add-w-2 c = search needs
+add-work-2 : tie.Need-add-work-2
+add-work-2 c = search needs
 
-mul-w-2 : tie.Need-mul-w-2
-mul-w-2 c = search needs
+mul-work-2 : tie.Need-mul-work-2
+mul-work-2 c = search needs
 
-slice-write-w : tie.Need-slice-write-w
-slice-write-w c = search needs
+slice-write-work : tie.Need-slice-write-work
+slice-write-work c = search needs
 
-mul-w-3 : tie.Need-mul-w-3
-mul-w-3 c = search needs
+mul-work-3 : tie.Need-mul-work-3
+mul-work-3 c = search needs
 
-add-w-3 : tie.Need-add-w-3
-add-w-3 c = search needs
+add-work-3 : tie.Need-add-work-3
+add-work-3 c = search needs
 
-add-w-4 : tie.Need-add-w-4
-add-w-4 c = search needs
+add-work-4 : tie.Need-add-work-4
+add-work-4 c = search needs
 
-mul-w-4 : tie.Need-mul-w-4
-mul-w-4 c = search needs
+mul-work-4 : tie.Need-mul-work-4
+mul-work-4 c = search needs
 
-slice-write-w-2 : tie.Need-slice-write-w-2
-slice-write-w-2 c = simp length-set (omega arith)
+slice-write-work-2 : tie.Need-slice-write-work-2
+slice-write-work-2 c = simp length-set (omega arith)
 
 same-length : tie.Need-same-length
 same-length c = search needs
@@ -84,4 +84,4 @@ returns : tie.Need-returns
 returns c = search needs
 
 pub leave-spec : {M : Type 1} → statement M
-leave-spec = tie.close (tie.spec add-v add-v-2 mul-v slice-read-v mul-low add-low add-low-2 mul-low-2 slice-read-low mul-e add-e add-e-2 mul-e-2 slice-read-e mul-w add-w add-w-2 mul-w-2 slice-write-w mul-w-3 add-w-3 add-w-4 mul-w-4 slice-write-w-2 same-length returns)
+leave-spec = tie.close (tie.spec add-v add-v-2 mul-v slice-read-v mul-low add-low add-low-2 mul-low-2 slice-read-low mul-e add-e add-e-2 mul-e-2 slice-read-e mul-work add-work add-work-2 mul-work-2 slice-write-work mul-work-3 add-work-3 add-work-4 mul-work-4 slice-write-work-2 same-length returns)

@@ -11,13 +11,13 @@ use Rattle.build_traversal.proofs.row_end.Tie as tie
 
 -- the vertex in the frame below
 abbrev vertex : tie.Else1 → ℕ
-vertex c = let a = c .before .args in getD (a .w .now) (a .base + a .n + (a .d - 1)) 0
+vertex c = let a = c .before .args in getD (a .work .now) (a .base + a .n + (a .d - 1)) 0
 
-frame-low : (c : tie.Else1) → let a = c .before .args in getD (part (a .w .now) (a .base + a .n) (a .n)) (a .d - 1) 0 < a .n
+frame-low : (c : tie.Else1) → let a = c .before .args in getD (part (a .work .now) (a .base + a .n) (a .n)) (a .d - 1) 0 < a .n
 frame-low c = c .before .pre .1 .1 .1 _ (search needs)
 
 vertex-low : (c : tie.Else1) → vertex c < c .before .args .n
-vertex-low c = let a = c .before .args in rw (vertex-is (a .w .now) (a .starts) (a .base) (a .n) (a .d) (c .if1 .left) (search needs)) (frame-low c)
+vertex-low c = let a = c .before .args in rw (vertex-is (a .work .now) (a .starts) (a .base) (a .n) (a .d) (c .if1 .left) (search needs)) (frame-low c)
 
 returns : tie.Need-returns
 returns c = search needs
@@ -59,7 +59,7 @@ returns-2 : tie.Need-returns-2
 returns-2 c =
     let t = c .before .before in
     let a = t .before .args in
-    end-above (a .w .now) (a .starts) (a .base) (a .n) (a .q) (a .d) (t .if1 .left) (search needs) (frame-low t)
+    end-above (a .work .now) (a .starts) (a .base) (a .n) (a .q) (a .d) (t .if1 .left) (search needs) (frame-low t)
 
 pub row-end-spec : {M : Type 1} → statement M
 row-end-spec =

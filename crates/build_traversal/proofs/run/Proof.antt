@@ -12,19 +12,19 @@ use Rattle.build_traversal.proofs.run.Statement.{statement}
 use Rattle.build_traversal.proofs.run.Tie as tie
 
 abbrev Inv-loop : tie.InvT-loop
-Inv-loop w₀ starts values c roots q n base d₀ k₀ e₀ at₀ end₀ w d k e at end = Going w₀ w starts values c roots q n base d k e at end
+Inv-loop work₀ starts values c roots q n base d₀ k₀ e₀ at₀ end₀ work d k e at end = Going work₀ work starts values c roots q n base d k e at end
 
 abbrev μ-loop : tie.MeasureT-loop
-μ-loop w₀ starts values c roots q n base d₀ k₀ e₀ at₀ end₀ w d k e at end = toGo w base n c q d e
+μ-loop work₀ starts values c roots q n base d₀ k₀ e₀ at₀ end₀ work d k e at end = toGo work base n c q d e
 
 abbrev start : tie.At-loop Inv-loop μ-loop → tie.Start Inv-loop μ-loop
 start c = c .before .before
 
 -- the next entry: it lies in memory, it is a vertex, and the place behind it fits
 abbrev vertex : tie.Then1 Inv-loop μ-loop → ℕ
-vertex c = getD (c .before .loop .w) (c .before .loop .at + c .before .loop .e) 0
+vertex c = getD (c .before .loop .work) (c .before .loop .at + c .before .loop .e) 0
 
-inside : (c : tie.Then1 Inv-loop μ-loop) → c .before .loop .at + c .before .loop .e < length (c .before .loop .w)
+inside : (c : tie.Then1 Inv-loop μ-loop) → c .before .loop .at + c .before .loop .e < length (c .before .loop .work)
 inside c = entry-inside (start (c .before) .pre .0) (c .before .loop .inv) (c .if1 .taken)
 
 vertex-low : (c : tie.Then1 Inv-loop μ-loop) → vertex c < start (c .before) .args .n
@@ -33,7 +33,7 @@ vertex-low c = v-low (start (c .before) .pre .0) (c .before .loop .inv) (c .if1 
 small : (c : tie.Then1 Inv-loop μ-loop) → c .before .loop .e + 1 < 2 ^ 32
 small c = next-fits (start (c .before) .pre .0) (c .before .loop .inv) (c .if1 .taken)
 
-room : (c : tie.At-loop Inv-loop μ-loop) → start c .args .base + 6 * start c .args .n ≤ length (c .loop .w)
+room : (c : tie.At-loop Inv-loop μ-loop) → start c .args .base + 6 * start c .args .n ≤ length (c .loop .work)
 room c = room-now (start c .pre .0) (c .loop .inv)
 
 -- it is new: there is a frame for it
@@ -87,7 +87,7 @@ enter-requires : tie.Need-enter-requires Inv-loop μ-loop
 enter-requires c κs = let t = c .before .before .before .before in omega (arith, frame (c .before), vertex-low t, room (t .before))
 
 -- where the row of the vertex entered lies
-row-fits : (c : tie.Then1 Inv-loop μ-loop) → let s = start (c .before) in s .args .starts + vertex c + 1 < length (s .args .w .now)
+row-fits : (c : tie.Then1 Inv-loop μ-loop) → let s = start (c .before) in s .args .starts + vertex c + 1 < length (s .args .work .now)
 row-fits c = omega (arith, vertex-low c, start (c .before) .pre .0 .starts-there .fits)
 
 row-inside : (c : tie.After-enter Inv-loop μ-loop) → let t = c .before .before .before .before .before in start (t .before) .args .starts + vertex t + 1 < length (c .enter .last .0)

@@ -3,7 +3,7 @@
 use mathlib.Core.Path.{_≡_, _∙_}
 use native.Mathlib.Omega.{arith}
 use lib.ListN.{length}
-use Rattle.build_writing.proofs.Groups.{fit-starts, groups-put}
+use Rattle.build_writing.proofs.Groups.{fit-sited, groups-put}
 use Rattle.build_writing.proofs.write_groups.Statement.{statement}
 use Rattle.build_writing.proofs.write_groups.Tie as tie
 
@@ -48,25 +48,25 @@ long₅ c = c .write-words5 .kept .0 ∙ long₄ (starts c)
 write-header-requires : tie.Need-write-header-requires
 write-header-requires c κs =
     let fit = c .before .before .before .pre in
-    (omega (arith, fit-starts fit), fit .small)
+    (omega (arith, fit-sited fit), fit .small)
 
 write-words-requires : tie.Need-write-words-requires
 write-words-requires c κs =
     let h = c .before .before .before in
     let fit = start h .pre in
-    (fit .width, (omega (arith, long₀ h, fit-starts fit, fit .room), fit .names-in))
+    (fit .width, (omega (arith, long₀ h, fit-sited fit, fit .room), fit .names-in))
 
 write-words-requires-2 : tie.Need-write-words-requires-2
 write-words-requires-2 c κs =
     let h = c .before .before .before in
     let fit = start (header h) .pre in
-    (fit .width, (omega (arith, long₁ h, fit-starts fit, fit .room), fit .groups-in))
+    (fit .width, (omega (arith, long₁ h, fit-sited fit, fit .room), fit .groups-in))
 
 write-words-requires-3 : tie.Need-write-words-requires-3
 write-words-requires-3 c κs =
     let h = c .before .before .before in
     let fit = start (header (names h)) .pre in
-    (fit .width, (omega (arith, long₂ h, fit-starts fit, fit .room), fit .levels-in))
+    (fit .width, (omega (arith, long₂ h, fit-sited fit, fit .room), fit .levels-in))
 
 add-write-words : tie.Need-add-write-words
 add-write-words c =
@@ -77,13 +77,13 @@ write-words-requires-4 : tie.Need-write-words-requires-4
 write-words-requires-4 c κs =
     let h = c .before .before .before .before in
     let fit = start (header (names (groups h))) .pre in
-    (fit .width, (omega (arith, long₃ h, fit-starts fit, fit .room), fit .starts-in))
+    (fit .width, (omega (arith, long₃ h, fit-sited fit, fit .room), fit .starts-in))
 
 write-words-requires-5 : tie.Need-write-words-requires-5
 write-words-requires-5 c κs =
     let h = c .before .before .before in
     let fit = start (header (names (groups (levels h)))) .pre in
-    (fit .width, (omega (arith, long₄ h, fit-starts fit, fit .room), fit .children-in))
+    (fit .width, (omega (arith, long₄ h, fit-sited fit, fit .room), fit .children-in))
 
 same-length : tie.Need-same-length
 same-length c = long₅ (c .before .before)

@@ -1,34 +1,22 @@
--- `drobisten::drobisten_ask` meets its contract: it hands on what `ask` gives, whose refusals' numbers are of 32 bits; yes is 1 and no is 0.
+-- `drobisten::drobisten_ask` meets its contract: it hands on what `ask` gives; yes is 1 and no is 0.
 use mathlib.Core.Bool.{Bool, true, false}
 use mathlib.Core.Path.{_≡_, refl, sym, ap, _∙_}
-use Prim.Native.Nat.{ℕ, _<_}
-use native.Mathlib.Omega.{arith}
+use Prim.Native.Nat.{ℕ}
 use mir.Val.{boolByte}
 use borrow.Author.Needs.{needs}
-use lib.ListN.{getD}
 use Rattle.lineage.specs.Calls.{answered}
 use Rattle.ask.specs.Asked.{askedOf}
 use Rattle.drobisten.specs.Host.{hostAsked}
-use Rattle.ask.proofs.Words.{Words, ask-refused}
 use Rattle.drobisten.proofs.drobisten_ask.Statement.{statement}
 use Rattle.drobisten.proofs.drobisten_ask.Tie as tie
 
--- what is lent are bytes
-bytes : (o : tie.After-ask) (i : ℕ) → getD (o .before .before .before .before .args .index .now) i 0 < 256
-bytes o i = omega (arith, o .before .before .before .shared-slice-known .given i)
-
 -- an answer: the cast makes 1 of yes and 0 of no
 answer-is :
-    (says : Bool) (reason opened : ℕ)
-    → record { refusal = 0; extra = 0; yes = boolByte says; reason = reason; opened = opened } ≡ hostAsked (answered (record { says = says; reason = reason; opened = opened }))
-answer-is true reason opened = refl
-answer-is false reason opened = refl
-
--- a refusal
-refusal : (c : tie.After-known-told2) → let g = c .before .number .given .0 in Words (g .0) (g .1 .0)
-refusal c =
-    let o = c .before .before .before .before .before in
-    ask-refused _ (bytes o) _ _ _ _ _ (ap askedOf (sym (c .before .number .given .1)) ∙ o .ask .ensures .0)
+    (says : Bool) (reason opened deciding : ℕ)
+    → record { refusal = 0; extra = 0; yes = boolByte says; reason = reason; opened = opened; labelling = deciding }
+    ≡ hostAsked (answered (record { says = says; reason = reason; opened = opened; deciding = deciding }))
+answer-is true reason opened deciding = refl
+answer-is false reason opened deciding = refl
 
 ask-requires : tie.Need-ask-requires
 ask-requires c κs = search needs
@@ -36,17 +24,11 @@ ask-requires c κs = search needs
 enum-known-says : tie.Need-enum-known-says
 enum-known-says c = search needs
 
-cast-t14 : tie.Need-cast-t14
-cast-t14 c = search needs
+cast-t15 : tie.Need-cast-t15
+cast-t15 c = search needs
 
 enum-known-number : tie.Need-enum-known-number
 enum-known-number c = search needs
-
-cast-t15 : tie.Need-cast-t15
-cast-t15 c = omega (arith, refusal c .0)
-
-cast-t16 : tie.Need-cast-t16
-cast-t16 c = omega (arith, refusal c .1)
 
 same-length : tie.Need-same-length
 same-length c = search needs
@@ -54,7 +36,7 @@ same-length c = search needs
 returns : tie.Need-returns
 returns c =
     let o = c .before .before .before .before .before in
-    (answer-is (c .before .says .given .0 .0) _ _ ∙ ap hostAsked (ap askedOf (sym (c .before .says .given .1)) ∙ o .ask .ensures .0), o .ask .ensures .1)
+    (answer-is (c .before .says .given .0 .0) _ _ _ ∙ ap hostAsked (ap askedOf (sym (c .before .says .given .1)) ∙ o .ask .ensures .0), o .ask .ensures .1)
 
 same-length-2 : tie.Need-same-length-2
 same-length-2 c = search needs
@@ -70,10 +52,8 @@ drobisten-ask-spec =
     (tie.spec
     ask-requires
     enum-known-says
-    cast-t14
-    enum-known-number
     cast-t15
-    cast-t16
+    enum-known-number
     same-length
     returns
     same-length-2

@@ -1,49 +1,102 @@
--- `list::list` meets its contract: the header refuses, or what follows it does.
+-- `list::list` meets its contract: each return is where its checks stop, and behind 15 the list of sound bytes decides, over marks that the check of the
+-- contents has cleared.
 use mathlib.Core.Path.{sym, ap, _∙_}
+use native.Mathlib.Omega.{arith}
 use borrow.Author.Needs.{needs}
+use borrow.Author.Tests.{not-false}
+use lib.ListN.{length}
+use Rattle.numbers.proofs.Cleared.{cleared-again}
 use Rattle.stored_header.specs.Header.{headerOutcome}
-use Rattle.list.proofs.Refusals.{allowed-header}
+use Rattle.stored_header.proofs.Laid.{vertex-out, vertex-in, cleared-in}
+use Rattle.stored_header.proofs.Admitted.{Admits, admitted-laid, admitted-room}
+use Rattle.open.proofs.Checks.{contents-applies}
+use Rattle.list.proofs.Refusals.{lists-refused, lists-at, lists-filled}
 use Rattle.list.proofs.list.Statement.{statement}
 use Rattle.list.proofs.list.Tie as tie
 
-read-header-requires : tie.Need-read-header-requires
-read-header-requires c κs = search needs
+-- what was lent, and let through
+abbrev entry : tie.After-admit → tie.Start
+entry a = a .before .before .before .before
+
+abbrev start : tie.After-l → tie.Start
+start a = entry (a .before .before)
+
+admits : (a : tie.After-l) → Admits (start a .args .index .now) (length (start a .args .marks .now)) (a .l .given .0 .0)
+admits a = record { passes = sym (ap headerOutcome (a .l .given .1)) ∙ a .before .before .admit .ensures }
+
+admit-requires : tie.Need-admit-requires
+admit-requires c κs = search needs
 
 enum-known-number : tie.Need-enum-known-number
 enum-known-number c = search needs
 
+returns : tie.Need-returns
+returns c =
+    let a = c .before .before .before in
+    lists-refused _ _ (entry a .args .marks .now) (entry a .args .out .now) (sym (ap headerOutcome (c .before .number .given .1)) ∙ a .admit .ensures)
+
 enum-known-l : tie.Need-enum-known-l
 enum-known-l c = search needs
 
-list-laid-requires : tie.Need-list-laid-requires
-list-laid-requires c κs =
-    let p = c .before .before .before in
-    record { header = sym (ap headerOutcome (p .l .given .1)) ∙ p .before .before .read-header .ensures }
+returns-2 : tie.Need-returns-2
+returns-2 c = let A = admits (c .before .before) in lists-at _ _ _ _ A 0 (vertex-out (admitted-laid A) (c .if1 .taken))
 
-returns : tie.Need-returns
-returns c =
-    let n = c .before in
-    let A = allowed-header _ _ _ _ _ _ (sym (ap headerOutcome (n .number .given .1)) ∙ n .before .before .read-header .ensures) in
-    (A .answers, (A .leaves, A .writes))
+contents-sound-requires : tie.Need-contents-sound-requires
+contents-sound-requires c κs = let A = admits (c .before .before .before) in (admitted-laid A, admitted-room A)
 
 same-length : tie.Need-same-length
 same-length c = search needs
 
+returns-3 : tie.Need-returns-3
+returns-3 c =
+    let s = c .before .before .before in
+    let v = s .before .before in
+    let A = admits (v .before .before) in
+    let L = admitted-laid A in
+    let (o, (m, f)) = lists-at _ _ _ _ A 1 (vertex-in L (v .if1 .left), contents-applies L (s .contents-sound .ensures .0) ∙ c .if2 .taken) in
+    (o, (cleared-in L _ (s .contents-sound .ensures .1) ∙ m, f))
+
+list-sound-requires : tie.Need-list-sound-requires
+list-sound-requires c κs =
+    let e = c .before .before in
+    let s = e .before .before .before in
+    let v = s .before .before in
+    let A = admits (v .before .before) in (
+      record { laid = admitted-laid A; contents = sym (s .contents-sound .ensures .0) ∙ not-false _ (e .if2 .left) },
+      ((omega (arith, admitted-room A, s .contents-sound .kept), v .if1 .left), cleared-again _ _ (s .contents-sound .ensures .1)),
+    )
+
 same-length-2 : tie.Need-same-length-2
 same-length-2 c = search needs
 
-returns-2 : tie.Need-returns-2
-returns-2 c = let A = c .before .before .before .before .list-laid .ensures in (A .answers, (A .leaves, A .writes))
+same-length-3 : tie.Need-same-length-3
+same-length-3 c = search needs
+
+returns-4 : tie.Need-returns-4
+returns-4 c =
+    let a = c .before .before .before .before in
+    let e = a .before .before .before in
+    let s = e .before .before .before in
+    let v = s .before .before in
+    let A = admits (v .before .before) in
+    let L = admitted-laid A in
+    let (o, (m, f)) =
+    lists-filled _ _ _ _ A (vertex-in L (v .if1 .left), (contents-applies L (s .contents-sound .ensures .0) ∙ e .if2 .left, tt)) (a .list-sound .ensures .0) in
+    (o, (a .list-sound .ensures .1 ∙ cleared-in L _ (s .contents-sound .ensures .1) ∙ m, f))
 
 pub list-spec : {M : Type 1} → statement M
 list-spec =
     tie.close
     (tie.spec
-    read-header-requires
+    admit-requires
     enum-known-number
-    enum-known-l
-    list-laid-requires
     returns
+    enum-known-l
+    returns-2
+    contents-sound-requires
     same-length
+    returns-3
+    list-sound-requires
     same-length-2
-    returns-2)
+    same-length-3
+    returns-4)

@@ -1,13 +1,16 @@
 -- `list::list_sound` meets its contract: the marked vertices are those downstream; they are counted, and written where there is room.
 use native.Mathlib.Omega.{arith}
 use borrow.Author.Needs.{needs}
-use Rattle.list.proofs.Found.{names-there, list-short, list-found}
+use Rattle.list.proofs.Found.{names-there, marks-again, count-few, list-short, list-found}
 use Rattle.list.proofs.list_sound.Statement.{statement}
 use Rattle.list.proofs.list_sound.Tie as tie
 
--- what was lent
+-- what was lent; and the vertices as they were counted
 abbrev entry : tie.After-names → tie.Start
 entry c = c .before .before .before .before .before .before .before .before
+
+abbrev names : tie.After-count-listed → tie.After-names
+names k = k .before .before .before
 
 mark-reached-requires : tie.Need-mark-reached-requires
 mark-reached-requires c κs = search needs
@@ -22,10 +25,21 @@ count-listed-requires : tie.Need-count-listed-requires
 count-listed-requires c κs =
     let r = c .before .before in
     let s = entry r in
-    names-there (s .pre .1 .0) (r .names .ensures) (s .pre .1 .1 .0 .1) _ (s .pre .1 .1 .0 .0) (r .before .before .before .mark-reached .ensures)
+    names-there (s .pre .0) (r .names .ensures) (s .pre .1 .0 .1) _ (s .pre .1 .0 .0) (r .before .before .before .mark-reached .ensures)
 
 clear-marks-requires : tie.Need-clear-marks-requires
 clear-marks-requires c κs = search needs
+
+cast-t21 : tie.Need-cast-t21
+cast-t21 c =
+    let k = c .before .before .before .before .before in
+    let r = names k in
+    let s = entry r in
+    omega (
+      arith,
+      count-few (s .pre .0) (r .names .ensures) (s .pre .1 .0 .1) _ (s .pre .1 .0 .0) (r .before .before .before .mark-reached .ensures) (k .before .before .in-own-list .ensures)
+          (k .count-listed .ensures),
+    )
 
 same-length : tie.Need-same-length
 same-length c = search needs
@@ -34,23 +48,35 @@ returns : tie.Need-returns
 returns c =
     let t = c .before .before .before .before in
     let k = t .before in
-    let o = k .before .before in
-    let r = o .before in
+    let r = names k in
     let s = entry r in
-    list-short (s .pre .1 .0) (r .names .ensures) (s .pre .1 .1 .0 .1) _ (s .pre .1 .1 .0 .0) (r .before .before .before .mark-reached .ensures) (o .in-own-list .ensures)
-    (s .pre .0) (k .count-listed .ensures) (s .args .out .now) (t .if1 .taken) (c .before .before .clear-marks .ensures)
+    let reached = r .before .before .before .mark-reached .ensures in (
+      list-short (s .pre .0) (r .names .ensures) (s .pre .1 .0 .1) _ (s .pre .1 .0 .0) reached (k .before .before .in-own-list .ensures) (k .count-listed .ensures) _ (t .if1 .taken),
+      marks-again (s .pre .0) (r .names .ensures) (s .pre .1 .0 .1) _ (s .pre .1 .0 .0) reached (s .pre .1 .1) (c .before .before .clear-marks .ensures),
+    )
 
 write-listed-requires : tie.Need-write-listed-requires
 write-listed-requires c κs =
     let t = c .before .before in
-    let r = t .before .before .before .before in
+    let r = names (t .before) in
     let s = entry r in (
-      names-there (s .pre .1 .0) (r .names .ensures) (s .pre .1 .1 .0 .1) _ (s .pre .1 .1 .0 .0) (r .before .before .before .mark-reached .ensures),
+      names-there (s .pre .0) (r .names .ensures) (s .pre .1 .0 .1) _ (s .pre .1 .0 .0) (r .before .before .before .mark-reached .ensures),
       omega (arith, t .if1 .left, t .before .count-listed .ensures),
     )
 
 clear-marks-requires-2 : tie.Need-clear-marks-requires-2
 clear-marks-requires-2 c κs = search needs
+
+cast-t28 : tie.Need-cast-t28
+cast-t28 c =
+    let k = c .before .before .before .before .before .before .before .before .before .before in
+    let r = names k in
+    let s = entry r in
+    omega (
+      arith,
+      count-few (s .pre .0) (r .names .ensures) (s .pre .1 .0 .1) _ (s .pre .1 .0 .0) (r .before .before .before .mark-reached .ensures) (k .before .before .in-own-list .ensures)
+          (k .count-listed .ensures),
+    )
 
 same-length-2 : tie.Need-same-length-2
 same-length-2 c = search needs
@@ -63,11 +89,13 @@ returns-2 c =
     let x = c .before .before .before .before .before .before in
     let t = x .before .before .before in
     let k = t .before in
-    let o = k .before .before in
-    let r = o .before in
+    let r = names k in
     let s = entry r in
-    list-found (s .pre .1 .0) (r .names .ensures) (s .pre .1 .1 .0 .1) _ (s .pre .1 .1 .0 .0) (r .before .before .before .mark-reached .ensures) (o .in-own-list .ensures)
-    (s .pre .0) (k .count-listed .ensures) (s .args .out .now) (t .if1 .left) (c .before .before .clear-marks2 .ensures) (x .write-listed .ensures)
+    let reached = r .before .before .before .mark-reached .ensures in (
+      list-found (s .pre .0) (r .names .ensures) (s .pre .1 .0 .1) _ (s .pre .1 .0 .0) reached (k .before .before .in-own-list .ensures) (k .count-listed .ensures) _ (t .if1 .left)
+          (x .write-listed .ensures),
+      marks-again (s .pre .0) (r .names .ensures) (s .pre .1 .0 .1) _ (s .pre .1 .0 .0) reached (s .pre .1 .1) (c .before .before .clear-marks2 .ensures),
+    )
 
 pub list-sound-spec : {M : Type 1} → statement M
 list-sound-spec =
@@ -78,10 +106,12 @@ list-sound-spec =
     in-own-list-requires
     count-listed-requires
     clear-marks-requires
+    cast-t21
     same-length
     returns
     write-listed-requires
     clear-marks-requires-2
+    cast-t28
     same-length-2
     same-length-3
     returns-2)

@@ -1,7 +1,7 @@
 -- `open::contents_sound` meets its contract: the six parts hold what `decode` reads.
 use mathlib.Core.Path.{_∙_}
 use borrow.Author.Needs.{needs}
-use Rattle.open.proofs.Contents.{contents-are}
+use Rattle.stored.proofs.Contents.{contents-are}
 use Rattle.open.proofs.contents_sound.Statement.{statement}
 use Rattle.open.proofs.contents_sound.Tie as tie
 
@@ -43,7 +43,14 @@ returns c =
     let gr = lv .before in
     let nm = gr .before in (
       p .parts-sound .ensures .0
-          ∙ contents-are (entry nm .pre .0) (nm .names .ensures) (gr .groups .ensures) (lv .levels .ensures) (st .starts .ensures) (ch .children .ensures) (l .labels .ensures),
+          ∙ contents-are (entry nm .pre .0) (record {
+            names-in = nm .names .ensures;
+            groups-in = gr .groups .ensures;
+            levels-in = lv .levels .ensures;
+            starts-in = st .starts .ensures;
+            children-in = ch .children .ensures;
+            labels-in = l .labels .ensures;
+          }),
       p .parts-sound .ensures .1,
     )
 

@@ -1,7 +1,7 @@
 -- `open::parts_sound` meets its contract: the tests of groups and those of labels, looked at where the first hold, are the test of the index.
 use mathlib.Core.Path.{_∙_}
 use borrow.Author.Needs.{needs}
-use Rattle.sound_groups.proofs.Passed.{answered, and-fails, and-goes}
+use Rattle.laws.proofs.Tests.{told-true, and-fails, and-goes}
 use Rattle.sound_groups.proofs.Groups.{places-passed}
 use Rattle.open.proofs.Contents.{parts-is}
 use Rattle.open.proofs.parts_sound.Statement.{statement}
@@ -30,7 +30,7 @@ labels-sound-requires c κs =
     let t = c .before in
     let s = entry (t .before .before) in
     let P = s .pre .0 in
-    (places-passed (P .condensed) (answered (t .before .groups-pass .ensures) (t .if1 .left)), (P .labelled, (P .fewer, s .pre .1)))
+    (places-passed (P .condensed) (told-true (t .before .groups-pass .ensures) (t .if1 .left)), (P .labelled, (P .fewer, s .pre .1)))
 
 same-length-2 : tie.Need-same-length-2
 same-length-2 c = search needs

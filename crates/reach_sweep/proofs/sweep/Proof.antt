@@ -1,10 +1,10 @@
 -- `reach_sweep::sweep` meets its contract. The invariant: sweeping the ranks that are left comes to the whole sweep.
-use Prim.Native.Nat.{_+_, _-_, _≤_, _<_}
+use Prim.Native.Nat.{_-_, _≤_, _<_}
 use native.Mathlib.Omega.{arith}
 use Rattle.lineage.specs.Numbers.{numbers}
 use Rattle.stored.specs.Sections.{childrenIn}
 use Rattle.sound_groups.proofs.Read.{can-read, was-read}
-use Rattle.reach_sweep.proofs.Sweeping.{Sweeping, sweeping-none, sweeping-marked, sweeping-passed, sweeping-all}
+use Rattle.reach_sweep.proofs.Sweeping.{rank-low, rank-was, Sweeping, sweeping-none, sweeping-marked, sweeping-passed, sweeping-all}
 use Rattle.reach_sweep.proofs.sweep.Statement.{statement}
 use Rattle.reach_sweep.proofs.sweep.Tie as tie
 
@@ -19,12 +19,9 @@ abbrev μ-loop : tie.MeasureT-loop
 abbrev lent : tie.At-loop Inv-loop μ-loop → tie.Start Inv-loop μ-loop
 lent l = l .before .before .before .before .before .before
 
--- in a turn: the next rank, which is one of the ranks, and the place there
-rank-low : (c : tie.In-loop Inv-loop μ-loop) → lent (c .before) .args .top - (c .before .loop .done + 1) < lent (c .before) .args .k
-rank-low c = omega (arith, lent (c .before) .pre .1 .1)
-
+-- in a turn: the place at the rank that is read
 place-low : (c : tie.After-num Inv-loop μ-loop) → c .num .result < lent (c .before .before) .args .k
-place-low c = omega (arith, lent (c .before .before) .pre .1 .0 .place-low _ (rank-low (c .before)), c .num .ensures .0)
+place-low c = let s = lent (c .before .before) in rank-low (s .pre .1 .0) (c .num .ensures .0) (omega (arith, s .pre .1 .1))
 
 loop-holds : tie.Need-loop-holds Inv-loop μ-loop
 loop-holds c = (omega arith, sweeping-none _ _ _ _ _ _ (omega arith))
@@ -36,7 +33,7 @@ sub-num : tie.Need-sub-num Inv-loop μ-loop
 sub-num c = omega arith
 
 num-requires : tie.Need-num-requires Inv-loop μ-loop
-num-requires c κs = can-read (lent (c .before) .pre .1 .0 .places-held) (rank-low c)
+num-requires c κs = can-read (lent (c .before) .pre .1 .0 .places-held) (omega (arith, lent (c .before) .pre .1 .1))
 
 num-requires-2 : tie.Need-num-requires-2 Inv-loop μ-loop
 num-requires-2 c κs = can-read (lent (c .before .before) .pre .0 .groups-held) (place-low c)
@@ -59,7 +56,7 @@ loop-again c =
     let t = c .before .before .before .before .before .before in
     let l = t .before .before .before in (
       omega arith,
-      sweeping-marked (l .loop .inv .1) (omega arith) (was-read (lent l .pre .1 .0 .places-held) (rank-low (t .before .before)) (t .before .num .ensures .0))
+      sweeping-marked (l .loop .inv .1) (omega arith) (rank-was (lent l .pre .1 .0) (t .before .num .ensures .0) (omega (arith, lent l .pre .1 .1)))
           (was-read (lent l .pre .0 .groups-held) (place-low (t .before)) (t .num2 .ensures .0)) (c .before .before .before .before .if1 .taken)
           (c .before .before .mark-children .ensures) (c .before .before .mark-children .kept .1 .1 .1 .0),
     )
@@ -72,7 +69,7 @@ loop-again-2 c =
     let t = c .before .before in
     let l = t .before .before .before in (
       omega arith,
-      sweeping-passed (l .loop .inv .1) (omega arith) (was-read (lent l .pre .1 .0 .places-held) (rank-low (t .before .before)) (t .before .num .ensures .0))
+      sweeping-passed (l .loop .inv .1) (omega arith) (rank-was (lent l .pre .1 .0) (t .before .num .ensures .0) (omega (arith, lent l .pre .1 .1)))
           (was-read (lent l .pre .0 .groups-held) (place-low (t .before)) (t .num2 .ensures .0)) (c .if1 .left),
     )
 

@@ -3,8 +3,8 @@
 use mathlib.Core.Path.{_∙_}
 use native.Mathlib.Omega.{arith}
 use Rattle.lineage.specs.Sound.{childOf}
+use Rattle.laws.proofs.Tests.{told-true, told-false}
 use Rattle.stored.specs.Sections.{childrenIn, labellingIn}
-use Rattle.sound_groups.proofs.Passed.{answered, refused}
 use Rattle.sound_groups.proofs.Read.{can-read}
 use Rattle.sound_ranks.proofs.Read.{m-was, place-was}
 use Rattle.sound_blocks.proofs.Walk.{Walks, walks-none, walks-end, walks-stop, walks-less, walks-left}
@@ -55,7 +55,7 @@ returns c =
     let s = start l in
     let N = s .pre .1 .0 in
     walks-stop (l .loop .inv) (goes-left N) (n .before .loop-test .taken) (place-was (N .labels) (omega arith) (n .num .ensures .0))
-    (refused (c .before .child-in .ensures) (c .if1 .taken))
+    (told-false (c .before .child-in .ensures) (c .if1 .taken))
     ∙ block-is (s .pre .0) N (s .pre .1 .1) (l .before .before .label .ensures .0) (l .before .label2 .ensures .0)
 
 label-requires-3 : tie.Need-label-requires-3 Inv-loop μ-loop
@@ -85,7 +85,7 @@ loop-again c =
     let N = start l .pre .1 .0 in
     walks-left (l .loop .inv) (goes-left N) (n .before .loop-test .taken) (place-was (N .labels) (omega arith) (n .num .ensures .0))
     (m-was (N .labels .triples-held) _ (place-low N (omega arith) (n .num .ensures .0)) (c .label3 .ensures .0))
-    (answered (c .before .before .child-in .ensures) (c .before .if1 .left))
+    (told-true (c .before .before .child-in .ensures) (c .before .if1 .left))
 
 returns-2 : tie.Need-returns-2 Inv-loop μ-loop
 returns-2 c =

@@ -1,6 +1,6 @@
 -- `sound_groups::groups_pass` meets its contract: the four functions compute the test's parts, each looked at where those before it hold.
 use mathlib.Core.Path.{_∙_}
-use Rattle.sound_groups.proofs.Passed.{and-fails, and-goes, answered}
+use Rattle.laws.proofs.Tests.{and-fails, and-goes, told-true}
 use Rattle.sound_groups.proofs.Groups.{groups-is, children-after, places-after}
 use Rattle.sound_groups.proofs.groups_pass.Statement.{statement}
 use Rattle.sound_groups.proofs.groups_pass.Tie as tie
@@ -27,7 +27,7 @@ returns-2 c =
 rows-pass-requires : tie.Need-rows-pass-requires
 rows-pass-requires c κs =
     let one = c .before .before in
-    children-after (entry (one .before .before) .pre) (answered (one .before .starts-pass .ensures) (one .if1 .left))
+    children-after (entry (one .before .before) .pre) (told-true (one .before .starts-pass .ensures) (one .if1 .left))
 
 returns-3 : tie.Need-returns-3
 returns-3 c =
@@ -41,7 +41,7 @@ levels-pass-requires : tie.Need-levels-pass-requires
 levels-pass-requires c κs =
     let one = c .before .before .before .before in
     let G = entry (one .before .before) .pre in
-    (places-after G (answered (one .before .starts-pass .ensures) (one .if1 .left)) (answered (c .before .rows-pass .ensures) (c .if3 .left)), G .levels-held)
+    (places-after G (told-true (one .before .starts-pass .ensures) (one .if1 .left)) (told-true (c .before .rows-pass .ensures) (c .if3 .left)), G .levels-held)
 
 returns-4 : tie.Need-returns-4
 returns-4 c =

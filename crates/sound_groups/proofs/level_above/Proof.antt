@@ -41,11 +41,11 @@ num-requires-2 c κs =
     let l = c .before .before in
     can-read (start l .pre .1 .0) (child-low (start l .pre .0) (l .before .row-span .ensures) (c .before .loop-test .taken) (c .num .ensures .0))
 
-add-larger : tie.Need-add-larger Inv-loop μ-loop
-add-larger c = omega arith
+add-greater : tie.Need-add-greater Inv-loop μ-loop
+add-greater c = omega arith
 
-larger-requires : tie.Need-larger-requires Inv-loop μ-loop
-larger-requires c κs = tt
+greater-requires : tie.Need-greater-requires Inv-loop μ-loop
+greater-requires c κs = tt
 
 add-i : tie.Need-add-i Inv-loop μ-loop
 add-i c = omega arith
@@ -62,7 +62,7 @@ loop-again c =
     let low = n .before .loop-test .taken in
     let q = n .num .ensures .0 in
     greatest-more (l .loop .inv) (omega (arith, row-has (P .entries) R)) (child-was (P .entries) R low q)
-    (add-one _ ∙ ap suc (was-read (start l .pre .1 .0) (child-low P R low q) (c .before .num2 .ensures .0))) (c .larger .ensures)
+    (add-one _ ∙ ap suc (was-read (start l .pre .1 .0) (child-low P R low q) (c .before .num2 .ensures .0))) (c .greater .ensures)
 
 returns : tie.Need-returns Inv-loop μ-loop
 returns c =
@@ -80,8 +80,8 @@ level-above-spec =
     add-num
     num-requires
     num-requires-2
-    add-larger
-    larger-requires
+    add-greater
+    greater-requires
     add-i
     loop-less
     loop-again

@@ -1,8 +1,8 @@
 -- `sound_groups::names_pass` meets its contract: the two functions compute the test's two halves.
 use mathlib.Core.Path.{_∙_}
 use borrow.Author.Needs.{needs}
+use Rattle.laws.proofs.Tests.{and-fails, and-goes}
 use Rattle.sound_groups.proofs.Names.{names-is}
-use Rattle.sound_groups.proofs.Passed.{and-fails, and-goes}
 use Rattle.sound_groups.proofs.names_pass.Statement.{statement}
 use Rattle.sound_groups.proofs.names_pass.Tie as tie
 

@@ -1,10 +1,9 @@
 -- `sound_groups::own_names` meets its contract. The invariant: every vertex passed has a name by the rules.
-use mathlib.Core.Path.{sym}
 use Prim.Native.Nat.{_-_}
 use native.Mathlib.Omega.{arith}
 use Rattle.lineage.specs.Numbers.{numbers}
+use Rattle.laws.proofs.Passed.{Passed, passed-none, passed-more, passed-all, passed-not}
 use Rattle.sound_groups.specs.Tests.{ownName}
-use Rattle.sound_groups.proofs.Passed.{Passed, passed-none, passed-more, passed-all, passed-not}
 use Rattle.sound_groups.proofs.own_names.Statement.{statement}
 use Rattle.sound_groups.proofs.own_names.Tie as tie
 
@@ -14,26 +13,17 @@ Inv-loop names w n v₀ v = Passed (ownName (numbers w names n)) n v
 abbrev μ-loop : tie.MeasureT-loop
 μ-loop names w n v₀ v = n - v
 
-loop-holds : tie.Need-loop-holds Inv-loop μ-loop
-loop-holds c = passed-none _ _
-
 own-name-requires : tie.Need-own-name-requires Inv-loop μ-loop
 own-name-requires c κs = (c .before .before .before .pre, omega arith)
 
 returns : tie.Need-returns Inv-loop μ-loop
-returns c = sym (passed-not (c .before .before .before .loop .inv) (c .before .before .loop-test .taken) (c .before .own-name .ensures) (c .if1 .taken))
-
-add-v : tie.Need-add-v Inv-loop μ-loop
-add-v c = omega arith
-
-loop-less : tie.Need-loop-less Inv-loop μ-loop
-loop-less c = omega arith
+returns c = passed-not (c .before .before .before .loop .inv) (c .before .before .loop-test .taken) (c .before .own-name .ensures) (c .if1 .taken)
 
 loop-again : tie.Need-loop-again Inv-loop μ-loop
 loop-again c = passed-more (c .before .before .before .loop .inv) (c .before .before .loop-test .taken) (c .before .own-name .ensures) (c .if1 .left)
 
 returns-2 : tie.Need-returns-2 Inv-loop μ-loop
-returns-2 c = sym (passed-all (c .before .loop .inv) (c .loop-test .left))
+returns-2 c = passed-all (c .before .loop .inv) (c .loop-test .left)
 
 pub own-names-spec : {M : Type 1} → statement M
 own-names-spec =
@@ -41,10 +31,10 @@ own-names-spec =
     (tie.spec
     Inv-loop
     μ-loop
-    loop-holds
+    (λ c. passed-none _ _)
     own-name-requires
     returns
-    add-v
-    loop-less
+    (λ c. omega arith)
+    (λ c. omega arith)
     loop-again
     returns-2)

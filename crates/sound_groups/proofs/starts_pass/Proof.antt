@@ -1,9 +1,10 @@
 -- `sound_groups::starts_pass` meets its contract. The invariant: no start passed falls.
+use mathlib.Core.Path.{sym}
 use Prim.Native.Nat.{_+_, _-_}
 use native.Mathlib.Omega.{arith}
 use Rattle.lineage.specs.Numbers.{numbers}
 use Rattle.laws.proofs.Lists.{all-broken}
-use Rattle.sound_groups.proofs.Passed.{Passed, passed-none, passed-next, passed-all}
+use Rattle.laws.proofs.Passed.{Passed, passed-none, passed-next, passed-all}
 use Rattle.sound_groups.proofs.Read.{can-read}
 use Rattle.sound_groups.proofs.Starts.{notFalling, start-keeps, start-falls, starts-wrong, starts-fall, starts-end}
 use Rattle.sound_groups.proofs.starts_pass.Statement.{statement}
@@ -69,7 +70,7 @@ returns-3 : tie.Need-returns-3 Inv-loop μ-loop
 returns-3 c =
     let t = c .before in
     let l = t .before in
-    starts-end (start l .pre) _ (first l .num .ensures .0) (l .before .if1 .left) (passed-all (l .loop .inv) (t .loop-test .left)) (c .num4 .ensures .0)
+    starts-end (start l .pre) _ (first l .num .ensures .0) (l .before .if1 .left) (sym (passed-all (l .loop .inv) (t .loop-test .left))) (c .num4 .ensures .0)
 
 pub starts-pass-spec : {M : Type 1} → statement M
 starts-pass-spec =

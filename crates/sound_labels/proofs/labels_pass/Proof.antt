@@ -1,7 +1,7 @@
 -- `sound_labels::labels_pass` meets its contract: the six functions compute the test's parts, each looked at where those before it hold.
 use mathlib.Core.Path.{_∙_}
-use Rattle.sound_groups.proofs.Passed.{and-fails, and-goes}
-use Rattle.sound_ranks.specs.Fit.{Labelled}
+use Rattle.laws.proofs.Tests.{and-fails, and-goes}
+use Rattle.sound_ranks.specs.Fit.{LabelledRows}
 use Rattle.sound_blocks.proofs.Ranked.{roots-are}
 use Rattle.sound_labels.proofs.Labels.{labels-is, ranked-after}
 use Rattle.sound_labels.proofs.labels_pass.Statement.{statement}
@@ -12,7 +12,7 @@ abbrev entry : tie.After-shared-slice-known5 → tie.Start
 entry c = c .before .before .before .before .before
 
 -- what the tests of e and s ask for
-labelled : (c : tie.After-shared-slice-known5) → let a = entry c .args in Labelled (a .w) (a .starts .now) (a .children .now) (a .triples .now) (a .k) (a .c)
+labelled : (c : tie.After-shared-slice-known5) → let a = entry c .args in LabelledRows (a .w) (a .starts .now) (a .children .now) (a .triples .now) (a .k) (a .c)
 labelled c = record { below = entry c .pre .0; triples-held = entry c .pre .1 .0 .triples-held }
 
 ranks-pass-requires : tie.Need-ranks-pass-requires

@@ -13,8 +13,8 @@ use Rattle.sound_places.proofs.place_of.Tie as tie
 least-place-requires : tie.Need-least-place-requires
 least-place-requires c κs = c .before .pre .1 .0 .1
 
-most-place-requires : tie.Need-most-place-requires
-most-place-requires c κs = search needs
+lesser-requires : tie.Need-lesser-requires
+lesser-requires c κs = search needs
 
 count-below-requires : tie.Need-count-below-requires
 count-below-requires c κs =
@@ -31,7 +31,7 @@ count-below-requires c κs =
           p .1 .1 .0,
           (
             omega (arith, least, numbers-long (a .w) (a .groups .now) (a .k), c .before .least-place .ensures),
-            (omega (arith, most, stretch.count-most (a .w) (a .k) (a .groups .now) (a .name), c .most-place .ensures), omega (arith, c .most-place .ensures)),
+            (omega (arith, most, stretch.count-most (a .w) (a .k) (a .groups .now) (a .name), c .lesser .ensures), omega (arith, c .lesser .ensures)),
           ),
         ),
       ),
@@ -44,4 +44,4 @@ returns c =
     c .count-below .ensures ∙ position-below (a .name) (numbers (a .w) (a .groups .now) (a .k)) (s .pre .1 .1 .0) (s .pre .1 .1 .1 .1)
 
 pub place-of-spec : {M : Type 1} → statement M
-place-of-spec = tie.close (tie.spec least-place-requires most-place-requires count-below-requires returns)
+place-of-spec = tie.close (tie.spec least-place-requires lesser-requires count-below-requires returns)

@@ -3,8 +3,8 @@ use mathlib.Core.Path.{sym, _∙_}
 use Prim.Native.Nat.{_-_}
 use native.Mathlib.Omega.{arith}
 use Rattle.laws.proofs.Lists.{all-broken}
+use Rattle.laws.proofs.Passed.{Passed, passed-none, passed-next, passed-all}
 use Rattle.stored.specs.Sections.{childrenIn}
-use Rattle.sound_groups.proofs.Passed.{Passed, passed-none, passed-next, passed-all}
 use Rattle.sound_groups.proofs.Row.{can-read-child, child-low}
 use Rattle.sound_ranks.specs.Tests.{triplesAlone, fallsTo}
 use Rattle.sound_ranks.proofs.Falls.{fall-is, falls, falls-not}
@@ -73,7 +73,7 @@ loop-again c =
 returns-2 : tie.Need-returns-2 Inv-loop μ-loop
 returns-2 c =
     let l = c .before in
-    sym (passed-all (l .loop .inv) (c .loop-test .left)) ∙ fall-is (start l .pre .0) (spanned l .row-span .ensures)
+    passed-all (l .loop .inv) (c .loop-test .left) ∙ fall-is (start l .pre .0) (spanned l .row-span .ensures)
 
 pub fall-passes-spec : {M : Type 1} → statement M
 fall-passes-spec =

@@ -46,8 +46,8 @@ label-requires-2 c κs =
     let L = start l .pre .0 in
     (L .triples-held, (child-low (L .below) (spanned l .row-span .ensures) (c .before .loop-test .taken) (c .num .ensures .0), omega arith))
 
-smaller-requires : tie.Need-smaller-requires Inv-loop μ-loop
-smaller-requires c κs = tt
+lesser-requires : tie.Need-lesser-requires Inv-loop μ-loop
+lesser-requires c κs = tt
 
 add-i : tie.Need-add-i Inv-loop μ-loop
 add-i c = omega arith
@@ -64,7 +64,7 @@ loop-again c =
     let low = n .before .loop-test .taken in
     let q = n .num .ensures .0 in
     least-more (l .loop .inv) (omega (arith, row-has (L .below .entries) R)) (child-was (L .below .entries) R low q)
-    (s-was (L .triples-held) [] (child-low (L .below) R low q) (c .before .label2 .ensures .0)) (c .smaller .ensures)
+    (s-was (L .triples-held) [] (child-low (L .below) R low q) (c .before .label2 .ensures .0)) (c .lesser .ensures)
 
 returns : tie.Need-returns Inv-loop μ-loop
 returns c =
@@ -83,7 +83,7 @@ least-below-spec =
     add-num
     num-requires
     label-requires-2
-    smaller-requires
+    lesser-requires
     add-i
     loop-less
     loop-again

@@ -1,10 +1,9 @@
 -- `sound_ranks::outers_pass` meets its contract. The invariant: the s passed have passed.
-use mathlib.Core.Path.{sym}
 use Prim.Native.Nat.{_-_}
 use native.Mathlib.Omega.{arith}
 use Rattle.lineage.specs.Sound.{outerPasses}
+use Rattle.laws.proofs.Passed.{Passed, passed-none, passed-more, passed-all, passed-not}
 use Rattle.stored.specs.Sections.{childrenIn}
-use Rattle.sound_groups.proofs.Passed.{Passed, passed-none, passed-more, passed-all, passed-not}
 use Rattle.sound_ranks.specs.Tests.{triplesAlone}
 use Rattle.sound_ranks.proofs.outers_pass.Statement.{statement}
 use Rattle.sound_ranks.proofs.outers_pass.Tie as tie
@@ -15,27 +14,18 @@ Inv-loop starts children triples w k c p₀ p = Passed (outerPasses (childrenIn 
 abbrev μ-loop : tie.MeasureT-loop
 μ-loop starts children triples w k c p₀ p = k - p
 
-loop-holds : tie.Need-loop-holds Inv-loop μ-loop
-loop-holds c = passed-none _ _
-
 outer-passes-requires : tie.Need-outer-passes-requires Inv-loop μ-loop
 outer-passes-requires c κs = (c .before .before .before .before .before .pre, c .loop-test .taken)
 
 returns : tie.Need-returns Inv-loop μ-loop
-returns c = sym (passed-not (c .before .before .before .loop .inv) (c .before .before .loop-test .taken) (c .before .outer-passes .ensures) (c .if1 .taken))
-
-add-p : tie.Need-add-p Inv-loop μ-loop
-add-p c = omega arith
-
-loop-less : tie.Need-loop-less Inv-loop μ-loop
-loop-less c = omega arith
+returns c = passed-not (c .before .before .before .loop .inv) (c .before .before .loop-test .taken) (c .before .outer-passes .ensures) (c .if1 .taken)
 
 loop-again : tie.Need-loop-again Inv-loop μ-loop
 loop-again c = passed-more (c .before .before .before .loop .inv) (c .before .before .loop-test .taken) (c .before .outer-passes .ensures) (c .if1 .left)
 
 returns-2 : tie.Need-returns-2 Inv-loop μ-loop
-returns-2 c = sym (passed-all (c .before .loop .inv) (c .loop-test .left))
+returns-2 c = passed-all (c .before .loop .inv) (c .loop-test .left)
 
 pub outers-pass-spec : {M : Type 1} → statement M
 outers-pass-spec =
-    tie.close (tie.spec Inv-loop μ-loop loop-holds outer-passes-requires returns add-p loop-less loop-again returns-2)
+    tie.close (tie.spec Inv-loop μ-loop (λ c. passed-none _ _) outer-passes-requires returns (λ c. omega arith) (λ c. omega arith) loop-again returns-2)

@@ -4,10 +4,12 @@ use native.Mathlib.Nat.{mul-le-mul, mul-le-mul-left}
 use mathlib.Core.Path.{refl}
 use Prim.Native.Nat.{ℕ, _*_, _≤_}
 use borrow.Author.Needs.{needs}
+use Rattle.lineage.specs.Stored.{mostLabellings}
+use Rattle.numbers.specs.Bounds.{vertexBound}
 use Rattle.stored_header.proofs.label_count.Statement.{statement}
 use Rattle.stored_header.proofs.label_count.Tie as tie
 
-four-times : (k d : ℕ) → k ≤ 200000 → d ≤ 5 → d * (4 * k) ≤ 4000000
+four-times : (k d : ℕ) → k ≤ vertexBound → d ≤ mostLabellings → d * (4 * k) ≤ mostLabellings * (4 * vertexBound)
 four-times k d hk hd = mul-le-mul hd (mul-le-mul-left 4 hk)
 
 mul-result : tie.Need-mul-result

@@ -14,7 +14,7 @@ abbrev start : tie.After-put-question → tie.Start
 start q = q .before .before .before .before
 
 -- there is room for what the question is told, and for LF
-room : (q : tie.After-put-question) → q .put-question .result + 30 ≤ length (q .put-question .last .0)
+room : (q : tie.After-put-question) → q .put-question .result + 37 ≤ length (q .put-question .last .0)
 room q =
     let s = start q in
     omega (arith, question-short (s .args .source) (s .args .target), q .put-question .ensures .behind, q .put-question .kept .0, s .pre)

@@ -1,25 +1,11 @@
--- `text_answering::put_told` meets its contract: what `ask` gives is put, an answer or a refusal, whose numbers are of 32 bits.
+-- `text_answering::put_told` meets its contract: what `ask` gives is put, an answer or a refusal.
 use mathlib.Core.Path.{sym, ap, _∙_}
-use Prim.Native.Nat.{ℕ, _<_}
-use native.Mathlib.Omega.{arith}
 use borrow.Author.Needs.{needs}
-use lib.ListN.{getD}
 use Rattle.ask.specs.Asked.{askedOf}
-use Rattle.ask.proofs.Words.{Words, ask-refused}
 use Rattle.text.specs.Output.{told}
 use Rattle.text_printing.proofs.Putting.{put-same}
 use Rattle.text_answering.proofs.put_told.Statement.{statement}
 use Rattle.text_answering.proofs.put_told.Tie as tie
-
--- what is lent are bytes
-index-bytes : (a : tie.After-ask) (i : ℕ) → getD (a .before .before .before .before .args .index .now) i 0 < 256
-index-bytes a i = omega (arith, a .before .before .shared-slice-known .given i)
-
--- a refusal
-refusal : (r : tie.After-number) → let g = r .number .given .0 in Words (g .0) (g .1 .0)
-refusal r =
-    let a = r .before .before .before in
-    ask-refused _ (index-bytes a) _ _ _ _ _ (ap askedOf (sym (r .number .given .1)) ∙ a .ask .ensures .0)
 
 slice-aggregate-ask : tie.Need-slice-aggregate-ask
 slice-aggregate-ask c = search needs
@@ -35,12 +21,6 @@ put-said-requires c κs = search needs
 
 enum-known-number : tie.Need-enum-known-number
 enum-known-number c = search needs
-
-cast-put-refusal : tie.Need-cast-put-refusal
-cast-put-refusal c = omega (arith, refusal (c .before .before) .0)
-
-cast-put-refusal-2 : tie.Need-cast-put-refusal-2
-cast-put-refusal-2 c = omega (arith, refusal (c .before .before) .1)
 
 put-refusal-requires : tie.Need-put-refusal-requires
 put-refusal-requires c κs = search needs
@@ -70,8 +50,6 @@ put-told-spec =
     enum-known-says
     put-said-requires
     enum-known-number
-    cast-put-refusal
-    cast-put-refusal-2
     put-refusal-requires
     same-length
     returns

@@ -4,7 +4,7 @@ use native.Mathlib.Omega.{arith}
 use lib.ListN.{length-set}
 use borrow.Author.Needs.{needs}
 use Rattle.sound_groups.proofs.Read.{can-read}
-use Rattle.sound_places.proofs.Lent.{Six}
+use Rattle.stored.specs.Sections.{Six}
 use Rattle.list.proofs.Contents.{stretchOf, names-only}
 use Rattle.list.proofs.Fitted.{names-fit, rank-low, named-low, reach-is}
 use Rattle.list.proofs.reach.mark_reached.Statement.{statement}

@@ -4,7 +4,8 @@ use native.Mathlib.Omega.{arith}
 use borrow.Author.Needs.{needs}
 use Rattle.numbers.proofs.Numbers.{room}
 use Rattle.sound_places.proofs.Vertices.{list-rises, list-low, name-listed, vertex-low, vertex-placed}
-use Rattle.sound_places.proofs.Lent.{Six, lent}
+use Rattle.stored.specs.Sections.{Six}
+use Rattle.sound_places.proofs.Lent.{lent}
 use Rattle.list.proofs.Contents.{stretchOf, with-names}
 use Rattle.list.proofs.Fitted.{rank-read, rank-is}
 use Rattle.list.proofs.reach.rank_of.Statement.{statement}

@@ -4,7 +4,7 @@ use Rattle.list.proofs.Contents.{stretchOf, with-rows}
 use Rattle.list.proofs.Fitted.{spots, ranked, swept-is}
 use Rattle.list.proofs.reach.sweep_down.Statement.{statement}
 use Rattle.list.proofs.reach.sweep_down.Tie as tie
-use Rattle.sound_places.proofs.Lent.{Six}
+use Rattle.stored.specs.Sections.{Six}
 
 -- what was lent
 abbrev entry : tie.After-by-rank → tie.Start

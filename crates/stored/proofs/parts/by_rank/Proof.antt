@@ -18,7 +18,7 @@ add-numbers-from c = search needs
 numbers-from-requires : tie.Need-numbers-from-requires
 numbers-from-requires c κs =
     let s = c .before .before in
-    (s .pre .0, labelling-fits _ _ _ _ _ _ _ (omega (arith, c .label-count .ensures .0)) (s .pre .1 .0) (s .pre .1 .1))
+    (s .pre .0 .width, labelling-fits (s .pre .0) _ _ _ (s .pre .1) (omega (arith, c .label-count .ensures .0)))
 
 returns : tie.Need-returns
 returns c = part-from _ _ _ _ _ _ (omega (arith, c .before .label-count .ensures .0)) (c .numbers-from .ensures)

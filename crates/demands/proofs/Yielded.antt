@@ -1,0 +1,80 @@
+-- Bytes that a graph and orders yield, where their header is right. The bytes are short, so all counts but that of the orders are read again from the header; where
+-- there is a vertex there is a group, each labelling then takes bytes, and the number of the orders is read again too.
+use mathlib.Core.Bool.{true}
+use mathlib.Core.Path.{_≡_, refl, sym, ap, subst, _∙_}
+use mathlib.Core.List.{List, [], _∷_}
+use Prim.Native.Nat.{ℕ, zero, suc, _+_, _*_, _^_, _≤_, _<_}
+use native.Mathlib.Nat.{mul-le-mul, mul-le-mul-left}
+use native.Mathlib.Omega.{arith}
+use lib.ListN.{length}
+use Rattle.lineage.specs.Lists.{joined}
+use Rattle.lineage.specs.Index.{Index, indexOf}
+use Rattle.lineage.specs.Stored.{Counts, countsOf, countsFit, encode, countsIn}
+use Rattle.laws.specs.Sound.{Sound}
+use Rattle.laws.proofs.Sound.{made-sound}
+use Rattle.laws.proofs.Grouped.{place-low}
+use Rattle.stored_header.specs.Header.{layoutIn, Laid}
+use Rattle.stored_header.proofs.Laid.{header-laid}
+use Rattle.open.specs.Yields.{Yields, HeaderRight}
+use Rattle.open.proofs.Checks.{right-passes}
+use Rattle.open.proofs.Small.{groups-few}
+use Rattle.open.proofs.Bounds.{yielded-long, counts-bounded, laid-short}
+use Rattle.ask.proofs.Theorems.{orders-long}
+use Rattle.demands.specs.Stored.{formIn}
+
+none-joined : (xs : List (List ℕ)) → length xs ≡ 0 → length (joined xs) ≡ 0
+none-joined [] e = refl
+none-joined (x ∷ xs) e = absurd (omega arith)
+
+module _ {b : List ℕ} (R : HeaderRight b) (Y : Yields (formIn b) b) where
+  abbrev I : Index
+  I = indexOf (Y .graph) (Y .orders)
+
+  S : Sound I
+  S = made-sound (Y .graph) (Y .ends) (Y .orders) (Y .permuted)
+
+  L : Laid b (layoutIn b)
+  L = header-laid b (layoutIn b) (right-passes b R)
+
+  short : length (encode (formIn b) I) < 2 ^ 31
+  short = subst (λ (z : List ℕ). length z < 2 ^ 31) (sym (Y .bytes)) (laid-short L)
+
+  -- a vertex has its group, and with no vertex the bytes would end behind the first child start
+  some-group : 0 < countsIn b .n → 0 < length (I .groups)
+  some-group some = go (length (I .names)) refl
+    where
+      go : (n : ℕ) → length (I .names) ≡ n → 0 < length (I .groups)
+      go zero e =
+          let none : length (I .children) ≡ 0 = omega (arith, S .condensed .children-long, groups-few S) in
+          let no-labels : 4 * length (I .groups) ≤ 0 = omega (arith, groups-few S) in
+          let start : 1 ≤ countsIn b .k + 1 = omega arith in
+          absurd
+          (omega (
+            arith,
+            yielded-long S,
+            ap length (Y .bytes),
+            groups-few S,
+            none-joined (I .children) none,
+            mul-le-mul-left (length (I .labels)) no-labels,
+            L .long,
+            mul-le-mul (L .width .low) some,
+            mul-le-mul (L .width .low) start,
+          ))
+      go (suc n) e = omega (arith, S .condensed .children-long, place-low (S .condensed) 0 (omega arith))
+
+  -- the header's counts are the index's
+  counts-are : length (I .labels) < 2 ^ 31 → countsIn b ≡ countsOf I
+  counts-are few = ap countsIn (sym (Y .bytes)) ∙ counts-bounded S short few
+
+  -- as many orders as the header says, where there is a vertex
+  pub orders-are : 0 < countsIn b .n → length (Y .orders) ≡ countsIn b .d
+  orders-are some =
+      let one : 1 ≤ 4 * length (I .groups) = omega (arith, some-group some) in
+      let few : length (I .labels) < 2 ^ 31 = omega (arith, short, yielded-long S, mul-le-mul-left (length (I .labels)) one) in
+      sym (orders-long (Y .graph) (Y .orders)) ∙ ap (λ (a : Counts). a .d) (sym (counts-are few))
+
+  -- with as many orders the index is within the form's bounds
+  pub bounds-are : length (Y .orders) ≡ countsIn b .d → countsFit (formIn b) (countsOf I) ≡ true
+  bounds-are d =
+      let few : length (I .labels) < 2 ^ 31 = omega (arith, orders-long (Y .graph) (Y .orders), L .most) in
+      ap (countsFit (formIn b)) (sym (counts-are few)) ∙ R .counts

@@ -1,0 +1,89 @@
+-- Demand 1: every call ends and answers, for all numbers, lists and bytes it may be lent; bad input gets one refusal by a fixed order of checks, and the contents
+-- of every lent buffer after it are fixed.
+use mathlib.Core.Bool.{true, false}
+use mathlib.Core.Logic.{_↔_}
+use mathlib.Core.Path.{_≡_}
+use mathlib.Core.List.{List, [], _∷_, _++_}
+use Prim.Native.Nat.{ℕ, _<_}
+use lib.ListN.{length, getD}
+use contract.Lifetimes.{Lfts}
+use denote.Ref.{now}
+use denote.Triple.Clauses.{AtExit}
+use borrow.Fn.Kinds.{PK, RK, In, Out, Dens, resT, endedOf}
+use Rattle.lineage.specs.Stored.{Form}
+use Rattle.lineage.specs.Calls.{Check, check, refused, Input, buildEarly, buildLate, buildAnswer, formChecks, contentsCheck, openAnswer, askEarly, askAnswer, listEarly, listLate, listAnswer}
+use Rattle.build.specs.Input.{inputOf}
+use Rattle.build.proofs.build as build-call
+use Rattle.build.proofs.Theorems as build
+use Rattle.open.proofs.open as open-call
+use Rattle.open.proofs.Theorem as opening
+use Rattle.ask.proofs.ask as ask-call
+use Rattle.ask.proofs.Theorems as ask
+use Rattle.list.proofs.list as list-call
+use Rattle.list.specs.Listed as list
+use Rattle.text_run.proofs.run as run-call
+use Rattle.text_run.proofs.Theorems as run
+use Rattle.drobisten.proofs.drobisten_open as host-open-call
+use Rattle.drobisten.proofs.drobisten_ask as host-ask-call
+use Rattle.drobisten.proofs.Theorems as host
+
+-- Of one call. `meets` is its theorem as the checker states it; `asked` and `learnt` are its contract as callers have it: what is asked of the arguments a, and what
+-- is said of them, of the answer r and of the arguments e as they are left. `same`: the lent buffers are left alike. κs are the lifetimes of what is lent.
+pub record Answers {n : ℕ} (ps : List (PK n)) (res : RK n) (meets : Type 1 → Type 2) (asked : In n ps) (learnt allowed : Out n ps res)
+    (same : (κs : Lfts n) → AtExit (endedOf n ps res) κs → AtExit (endedOf n ps res) κs → Type 0)
+    : Type 2 where
+  -- it meets its contract: called with anything that it may be lent it is safe, ends, and answers and leaves what the contract says
+  pub met : {M : Type 1} → meets M
+  -- the contract asks nothing
+  pub nothing-asked : (κs : Lfts n) (a : Dens κs ps) → asked κs a
+  -- what it says is allowed
+  pub allows : (κs : Lfts n) (a : Dens κs ps) (r : resT res κs .Denot) (e : AtExit (endedOf n ps res) κs) → learnt κs a r e → allowed κs a r e
+  -- and one answer and one content of each lent buffer is
+  pub once : (κs : Lfts n) (a : Dens κs ps) (r r' : resT res κs .Denot) (e e' : AtExit (endedOf n ps res) κs)
+      → allowed κs a r e
+      → allowed κs a r' e'
+      → (r ≡ r') × same κs e e'
+
+-- the first of the checks that applies has this number and this extra number
+pub record Refuses (cs : List Check) (number extra : ℕ) : Type 0 where
+  pub at : ℕ
+  pub within : at < length cs
+  pub none-before : (i : ℕ) → i < at → getD cs i (check false 0 0) .applies ≡ false
+  pub here : getD cs at (check false 0 0) ≡ check true number extra
+
+-- Of every call: its arguments in the order of its parameters, the answer r, and the arguments as they are left; `now` is what a buffer holds.
+pub record EveryCall : Type 2 where
+  pub build : Answers build-call.Kinds.ps build-call.Kinds.r build-call.Statement.statement build-call.Reads.Asked build-call.Reads.Learnt
+      (λ κs (n, (sources, (targets, (orders, (d, (work, (out, _))))))) r (_, (_, (_, (_, (_, (work', (out', _))))))).
+      build.Allowed (inputOf n (now sources) (now targets) d (now orders)) (now work) (now out) r (now work') (now out'))
+      (λ κs (_, (_, (_, (_, (_, (work, (out, _))))))) (_, (_, (_, (_, (_, (work', (out', _))))))). (now work ≡ now work') × (now out ≡ now out'))
+  pub opens : Answers open-call.Kinds.ps open-call.Kinds.r open-call.Statement.statement open-call.Reads.Asked open-call.Reads.Learnt
+      (λ κs (index, (marks, _)) r (_, (marks', _)). opening.Allowed (now index) (now marks) r (now marks'))
+      (λ κs (_, (marks, _)) (_, (marks', _)). now marks ≡ now marks')
+  pub ask : Answers ask-call.Kinds.ps ask-call.Kinds.r ask-call.Statement.statement ask-call.Reads.Asked ask-call.Reads.Learnt
+      (λ κs (index, (source, (target, (marks, _)))) r (_, (_, (_, (marks', _)))). ask.Allowed (now index) source target (now marks) r (now marks'))
+      (λ κs (_, (_, (_, (marks, _)))) (_, (_, (_, (marks', _)))). now marks ≡ now marks')
+  pub list : Answers list-call.Kinds.ps list-call.Kinds.r list-call.Statement.statement list-call.Reads.Asked list-call.Reads.Learnt
+      (λ κs (index, (vertex, (marks, (out, _)))) r (_, (_, (marks', (out', _)))).
+      list.Allowed (now index) vertex (now marks) (now out) r (now marks') (now out'))
+      (λ κs (_, (_, (marks, (out, _)))) (_, (_, (marks', (out', _)))). (now marks ≡ now marks') × (now out ≡ now out'))
+  -- the text program's run
+  pub run : Answers run-call.Kinds.ps run-call.Kinds.r run-call.Statement.statement run-call.Reads.Asked run-call.Reads.Learnt
+      (λ κs (text, (out, _)) r (_, (out', _)). run.Allowed (now text) (now out) r (now out'))
+      (λ κs (_, (out, _)) (_, (out', _)). now out ≡ now out')
+  -- the C face
+  pub host-open : Answers host-open-call.Kinds.ps host-open-call.Kinds.r host-open-call.Statement.statement host-open-call.Reads.Asked host-open-call.Reads.Learnt
+      (λ κs (index, (marks, _)) r (_, (marks', _)). host.Opens (now index) (now marks) r (now marks'))
+      (λ κs (_, (marks, _)) (_, (marks', _)). now marks ≡ now marks')
+  pub host-ask : Answers host-ask-call.Kinds.ps host-ask-call.Kinds.r host-ask-call.Statement.statement host-ask-call.Reads.Asked host-ask-call.Reads.Learnt
+      (λ κs (index, (marks, (source, (target, _)))) r (_, (marks', _)). host.Asks (now index) source target (now marks) r (now marks'))
+      (λ κs (_, (marks, _)) (_, (marks', _)). now marks ≡ now marks')
+  -- a refusal is given exactly when its check applies and none above it does
+  pub build-refuses : (F : Form) (B : Input) (work out number extra : ℕ)
+      → (buildAnswer F B work out ≡ refused number extra) ↔ Refuses (buildEarly F B work ++ buildLate F B out) number extra
+  pub open-refuses : (b : List ℕ) (marks number extra : ℕ)
+      → (openAnswer b marks ≡ refused number extra) ↔ Refuses (formChecks b marks ++ (contentsCheck b ∷ [])) number extra
+  pub ask-refuses : (b : List ℕ) (u v marks number extra : ℕ)
+      → (askAnswer b u v marks ≡ refused number extra) ↔ Refuses (askEarly b u v marks ++ (contentsCheck b ∷ [])) number extra
+  pub list-refuses : (b : List ℕ) (u marks out number extra : ℕ)
+      → (listAnswer b u marks out ≡ refused number extra) ↔ Refuses (listEarly b u marks ++ listLate b u out) number extra

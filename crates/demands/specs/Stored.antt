@@ -1,0 +1,117 @@
+-- Demand 2: groups, levels, labels and walk are GRAIL's as document 01 states them; yes exactly when a path of zero or more edges exists. A group is named by its
+-- smallest vertex. What is stored opens again with the same answers, and bytes open only if some edge list, of any length, and some orders would have produced
+-- exactly those bytes.
+use mathlib.Core.Bool.{true}
+use mathlib.Core.Logic.{_↔_}
+use mathlib.Core.Path.{_≡_}
+use mathlib.Core.List.{List, _++_}
+use Prim.Native.Nat.{ℕ, _<_, _≤_}
+use lib.ListN.{length, take, drop}
+use Rattle.lineage.specs.Lists.{Every}
+use Rattle.lineage.specs.Graph.{Graph, Ends, Reaches}
+use Rattle.lineage.specs.Labels.{Order}
+use Rattle.lineage.specs.Index.{Index, indexOf}
+use Rattle.lineage.specs.Stored.{Form, form1, Counts, countsOf, countsFit, encode, countsIn}
+use Rattle.lineage.specs.Question.{placeIn, answer}
+use Rattle.lineage.specs.Calls.{answered, Input, ordersOf, lengthOf, indexIn, Said, saidOf}
+use Rattle.laws_answers.specs.Answers.{Holds, Opened, Marked}
+use Rattle.numbers.proofs.Written.{Bytes}
+use Rattle.build.specs.declared.Built.{Built}
+use Rattle.build.specs.Admitted.{Admitted}
+use Rattle.build.specs.Answers.{builtOf}
+use Rattle.build.proofs.Theorems as build
+use Rattle.open.specs.declared.Opened.{Opened as OpenAnswer}
+use Rattle.open.specs.Opened.{openedOf}
+use Rattle.open.specs.Yields.{Yields}
+use Rattle.open.proofs.Theorem as opening
+use Rattle.ask.specs.declared.Asked.{Asked}
+use Rattle.ask.specs.Asked.{askedOf}
+use Rattle.ask.proofs.Theorems as ask
+use Rattle.drobisten.specs.declared.DrobistenAsked.{DrobistenAsked}
+use Rattle.drobisten.proofs.Theorems as host
+use Rattle.demands.specs.Grail.{Grail}
+
+-- the form that is built, and the form that bytes are of: there is one
+abbrev pub form : Form
+form = form1
+
+abbrev pub formIn : List ℕ → Form
+formIn b = form
+
+-- a finished build from a graph under some orders left these bytes, by what its contract allows
+pub record Builds (G : Graph) (orders : List (List ℕ)) (b : List ℕ) : Type 0 where
+  pub input : Input
+  pub work : List ℕ
+  pub out : List ℕ
+  pub r : Built
+  pub work' : List ℕ
+  pub out' : List ℕ
+  pub allowed : build.Allowed input work out r work' out'
+  pub total : ℕ
+  pub finished : builtOf r ≡ answered total
+  pub from-graph : input .graph ≡ G
+  pub from-orders : ordersOf input ≡ orders
+  pub left : take total out' ≡ b
+
+-- a question from u to v on the index I of a graph G: what is answered, and the marks left
+pub record Right (G : Graph) (I : Index) (u v : ℕ) (marks : List ℕ) (r : Asked) (m : List ℕ) : Type 0 where
+  -- the answer and the marks of document 01, "A question"
+  pub said : askedOf r ≡ answered (saidOf (answer I u v))
+  pub marked : m ≡ answer I u v .marks ++ drop (G .n) marks
+  -- yes exactly when a path of zero or more edges exists
+  pub path : (answer I u v .says ≡ true) ↔ Reaches G u v
+  -- the first rule that holds decides
+  pub rule : Holds I (placeIn I u) (placeIn I v) (answer I u v .reason)
+  pub none-before : (q : ℕ) → q < answer I u v .reason → Holds I (placeIn I u) (placeIn I v) q → ⊥
+  -- the groups that the walk opens are counted and marked, each once
+  pub walk : (o : List ℕ) × Opened I (placeIn I u) (placeIn I v) (answer I u v .reason) o × Marked I o (answer I u v)
+
+-- the bytes are those of the index of a graph under some orders
+pub record Stored (G : Graph) (orders : List (List ℕ)) (b : List ℕ) : Type 0 where
+  pub ends : Ends G
+  pub permuted : Every (Order (G .n)) orders
+  pub bytes : encode (formIn b) (indexOf G orders) ≡ b
+  pub holds : indexOf G orders ≡ indexIn b
+  -- its groups, levels and labels are GRAIL's
+  pub grail : Grail G orders (indexIn b)
+  -- it opens
+  pub opens : (marks : List ℕ) (r : OpenAnswer) (m : List ℕ) → G .n ≤ length marks → opening.Allowed b marks r m
+      → openedOf r ≡ answered (countsOf (indexOf G orders))
+  -- every question between vertices is answered, and rightly; the host's too
+  pub asks : (u v : ℕ) (marks : List ℕ) (r : Asked) (m : List ℕ) → u < G .n → v < G .n → G .n ≤ length marks
+      → ask.Allowed b u v marks r m
+      → Right G (indexOf G orders) u v marks r m
+  pub host-asks : (u v : ℕ) (marks : List ℕ) (r : DrobistenAsked) (m : List ℕ) → u < G .n → v < G .n → G .n ≤ length marks
+      → host.Asks b u v marks r m
+      → (r .refusal ≡ 0) × ((r .yes ≡ 1) ↔ Reaches G u v)
+
+pub record AsGrail : Type 0 where
+  -- edges between vertices and orders within the form's bounds, with room for work and output, are built
+  pub finishes : {B : Input} {work out : List ℕ} {r : Built} {work' out' : List ℕ} → build.Allowed B work out r work' out'
+      → Admitted form B (length work)
+      → Every (Order (B .graph .n)) (ordersOf B)
+      → lengthOf form (indexOf (B .graph) (ordersOf B)) ≤ length out
+      → builtOf r ≡ answered (lengthOf form (indexOf (B .graph) (ordersOf B)))
+  -- what a finished build leaves is a stored index of its edge list under its orders
+  pub built : {G : Graph} {orders : List (List ℕ)} {b : List ℕ} → Builds G orders b → Stored G orders b
+  -- bytes open exactly when some edge list, of any length, and some orders yield them within the form's bounds
+  pub opened : {b marks : List ℕ} {r : OpenAnswer} {m : List ℕ} → Bytes b → countsIn b .n ≤ length marks → opening.Allowed b marks r m
+      → ((a : Counts) × (openedOf r ≡ answered a))
+      ↔ ((Y : Yields (formIn b) b) × (countsFit (formIn b) (countsOf (indexOf (Y .graph) (Y .orders))) ≡ true))
+  -- bytes that open are a stored index of whatever edge list and d orders yield them (without a vertex 2^32 orders more would yield them too)
+  pub yielded : {b marks : List ℕ} {r : OpenAnswer} {m : List ℕ} {a : Counts} → opening.Allowed b marks r m → openedOf r ≡ answered a
+      → (Y : Yields (formIn b) b)
+      → length (Y .orders) ≡ a .d
+      → Stored (Y .graph) (Y .orders) b
+  -- they answer every question between their vertices, with the marks that the definition gives
+  pub answers : {b marks : List ℕ} {r : OpenAnswer} {m : List ℕ} {a : Counts} → opening.Allowed b marks r m → openedOf r ≡ answered a
+      → {u v : ℕ} {marks' : List ℕ} {r' : Asked} {m' : List ℕ} → u < a .n → v < a .n → a .n ≤ length marks'
+      → ask.Allowed b u v marks' r' m'
+      → (askedOf r' ≡ answered (saidOf (answer (indexIn b) u v))) × (m' ≡ answer (indexIn b) u v .marks ++ drop (a .n) marks')
+  -- an answer is yes exactly when a path of zero or more edges exists, in whatever edge list yields the bytes under whatever orders; the host's too
+  pub path : {b : List ℕ} {u v : ℕ} {marks : List ℕ} {r : Asked} {m : List ℕ} {s : Said} → ask.Allowed b u v marks r m → askedOf r ≡ answered s
+      → (Y : Yields (formIn b) b)
+      → (s .says ≡ true) ↔ Reaches (Y .graph) u v
+  pub host-path : {b : List ℕ} {u v : ℕ} {marks : List ℕ} {r : DrobistenAsked} {m : List ℕ} → host.Asks b u v marks r m → r .refusal ≡ 0
+      → (Y : Yields (formIn b) b)
+      → (r .yes ≡ 1) ↔ Reaches (Y .graph) u v
