@@ -7,7 +7,7 @@ use Prim.Native.Nat.{ℕ, zero, suc, _+_, _*_, _≤_, _<_}
 use native.Mathlib.Omega.{arith}
 use native.Mathlib.Numerals.{add-one}
 use lib.Dec.{leb}
-use lib.ListN.{length, getD, set, replicate, length-replicate}
+use lib.ListN.{length, getD, set, drop, replicate, length-append, length-drop, length-replicate}
 use borrow.Author.Tests.{leb-false, le-leb, lt-leb}
 use Rattle.lineage.specs.Lists.{joined}
 use Rattle.lineage.specs.Question.{Answer}
@@ -15,7 +15,7 @@ use Rattle.laws.proofs.Tests.{or-left, or-right}
 use Rattle.laws.proofs.Lists.{table-same}
 use Rattle.laws.proofs.Joined.{joined-more, table-blocks-long}
 use Rattle.numbers.specs.Put.{put}
-use Rattle.numbers.proofs.Put.{put-none, put-long, put-next, put-sets}
+use Rattle.numbers.proofs.Put.{put-none, put-start, put-next, put-sets}
 use Rattle.ask_walk.specs.Stamps.{seenAs, Under}
 use Rattle.ask_walk.proofs.Stamped.{seen-new, zero-under}
 use Rattle.ask.specs.declared.question.Reply.{Reply}
@@ -71,7 +71,16 @@ module _ {n : ℕ} {ans : ℕ → ℕ → Answer} {sources targets answers₀ ma
     (A : Asking n ans sources targets answers₀ marks answers i used last) where
   -- the answers stay as long as they are
   pub asking-long : 6 * length sources ≤ length answers₀ → length answers ≡ length answers₀
-  asking-long fits = ap length (A .wrote) ∙ put-long answers₀ 0 (sixes n ans sources targets i) (omega (arith, sixes-long n ans sources targets i, A .low))
+  asking-long fits =
+      let s : List ℕ = sixes n ans sources targets i in
+      omega (
+        arith,
+        ap length (A .wrote ∙ put-start answers₀ s),
+        length-append s (drop (length s) answers₀),
+        length-drop (length s) answers₀,
+        sixes-long n ans sources targets i,
+        A .low,
+      )
 
   -- behind the last pair
   pub asking-all :

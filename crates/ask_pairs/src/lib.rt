@@ -17,6 +17,7 @@ ghost use Rattle.ask.specs.Replies.{answerBy};
 ghost use Rattle.ask_pairs.specs.Pairs.{sixes, lastMarks};
 ghost use Rattle.ask_pairs.specs.Places.{Ready, byPlace};
 use ask::question::Reply;
+use refusals::BAD_VERTEX;
 use stored_header::Layout;
 
 pub mod places;
@@ -192,7 +193,26 @@ fn ask_each(
     last
 }
 
-// Answers the pairs over the six sections: the places are laid out once, in lent words, and the pairs are asked one by one.
+// Whether a mark bears the stamp: 1 or 0.
+fn bears(mark: u8, stamp: u8) -> u8
+    ensures { λ r. ⌜ r ≡ cond (eqb mark stamp) 1 0 ⌝ }
+{
+    if mark == stamp { 1 } else { 0 }
+}
+
+// Sets each mark that bears the stamp to 1, and all others to 0.
+fn settle(marks: &mut [u8], stamp: u8)
+    ensures { λ _. ⌜ now (marks .exit) ≡ seenAs stamp (now (marks .entry)) ⌝ }
+{
+    let mut i = 0;
+    while i < marks.len() {
+        marks[i] = bears(marks[i], stamp);
+        i += 1;
+    }
+}
+
+// Answers the pairs over the six sections: the places are laid out once, in lent words, and the pairs are asked one by one. The marks, one for each vertex, are all 0
+// before; afterwards they are those of the last pair that was not refused.
 pub fn ask_pairs(
     names: &[u8],
     groups: &[u8],
@@ -206,19 +226,19 @@ pub fn ask_pairs(
     places: &mut [u32],
     marks: &mut [u8],
     answers: &mut [u32],
-) -> u8
+)
     requires { ⌜ Lent l (now names) (now groups) (now levels) (now starts) (now children) (now labels) ⌝ }
     requires { ⌜ l .n ≤ length (now places) ⌝ }
     requires { ⌜ (now marks ≡ replicate (l .n) 0) × ((length (now sources) ≡ length (now targets)) × (6 * length (now sources) ≤ length (now answers))) ⌝ }
     ensures { λ _. ⌜ now (answers .exit) ≡ put (now (answers .entry)) 0 (sixes (l .n) (answer (indexAt l (now (names .entry)) (now (groups .entry)) (now (levels .entry)) (now (starts .entry)) (now (children .entry)) (now (labels .entry)))) (now (sources .entry)) (now (targets .entry)) (length (now (sources .entry)))) ⌝ }
-    ensures { λ r. ⌜ seenAs r (now (marks .exit)) ≡ lastMarks (l .n) (answer (indexAt l (now (names .entry)) (now (groups .entry)) (now (levels .entry)) (now (starts .entry)) (now (children .entry)) (now (labels .entry)))) (now (sources .entry)) (now (targets .entry)) (length (now (sources .entry))) ⌝ }
+    ensures { λ _. ⌜ now (marks .exit) ≡ lastMarks (l .n) (answer (indexAt l (now (names .entry)) (now (groups .entry)) (now (levels .entry)) (now (starts .entry)) (now (children .entry)) (now (labels .entry)))) (now (sources .entry)) (now (targets .entry)) (length (now (sources .entry))) ⌝ }
 {
     let w = l.width;
     let n = l.n;
     let k = l.k;
     places::place_groups(groups, w, k, places);
     places::place_vertices(names, w, n, places);
-    ask_each(
+    let last = ask_each(
         groups,
         levels,
         starts,
@@ -233,23 +253,6 @@ pub fn ask_pairs(
         targets,
         marks,
         answers,
-    )
-}
-
-// Whether a mark bears the stamp: 1 or 0.
-fn bears(mark: u8, stamp: u8) -> u8
-    ensures { λ r. ⌜ r ≡ cond (eqb mark stamp) 1 0 ⌝ }
-{
-    if mark == stamp { 1 } else { 0 }
-}
-
-// Sets each mark that bears the stamp to 1, and all others to 0.
-pub fn settle(marks: &mut [u8], stamp: u8)
-    ensures { λ _. ⌜ now (marks .exit) ≡ seenAs stamp (now (marks .entry)) ⌝ }
-{
-    let mut i = 0;
-    while i < marks.len() {
-        marks[i] = bears(marks[i], stamp);
-        i += 1;
-    }
+    );
+    settle(marks, last)
 }

@@ -1,4 +1,4 @@
--- `ask_pairs::ask_pairs` meets its contract: the table is laid out over all vertices, and answers by it are those of the index.
+-- `ask_pairs::ask_pairs` meets its contract: the table is laid out over all vertices, and answers by it are those of the index; the marks are settled by the last stamp.
 use native.Mathlib.Omega.{arith}
 use mathlib.Core.Path.{ap, _∙_}
 use borrow.Author.Needs.{needs}
@@ -33,6 +33,9 @@ ask-each-requires c κs =
     let s = start g in
     (ready (s .pre .0) (g .place-groups .ensures) (v .place-vertices .ensures) (omega (arith, s .pre .1 .0, g .place-groups .kept, v .place-vertices .kept)), s .pre .1 .1)
 
+settle-requires : tie.Need-settle-requires
+settle-requires c κs = search needs
+
 same-length : tie.Need-same-length
 same-length c = search needs
 
@@ -44,13 +47,14 @@ same-length-3 c = search needs
 
 returns : tie.Need-returns
 returns c =
-    let a = c .before .before .before .before in
+    let t = c .before .before in
+    let a = t .before .before .before .before .before .before in
     let v = a .before .before .before .before .before .before in
     let g = grouped v in
     let s = start g in
     let same = answers-same (s .pre .0) (g .place-groups .ensures) (v .place-vertices .ensures) in
     let e = a .ask-each .ensures in
-    (e .0 ∙ ap (put (s .args .answers .now) 0) (sixes-same _ _ _ same _ _ _), e .1 ∙ marks-same _ _ _ same _ _ _)
+    (e .0 ∙ ap (put (s .args .answers .now) 0) (sixes-same _ _ _ same _ _ _), t .settle .ensures ∙ e .1 ∙ marks-same _ _ _ same _ _ _)
 
 pub ask-pairs-spec : {M : Type 1} → statement M
 ask-pairs-spec =
@@ -59,6 +63,7 @@ ask-pairs-spec =
     place-groups-requires
     place-vertices-requires
     ask-each-requires
+    settle-requires
     same-length
     same-length-2
     same-length-3
