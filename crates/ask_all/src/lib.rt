@@ -12,8 +12,8 @@ ghost use Rattle.stored_header.specs.Header.{Laid};
 ghost use Rattle.ask_pairs.specs.Pairs.{sixes, lastMarks};
 ghost use Rattle.ask_all.specs.Batch.{batchAnswer, batchAnswers, batchMarks};
 ghost use Rattle.ask_all.specs.Batched.{batchedOf};
-use refusals::LISTS_DIFFER;
 use refusals::LIST_SHORT;
+use refusals::LISTS_DIFFER;
 use refusals::NOT_SOUND;
 use stored_header::Header;
 use stored_header::Layout;
@@ -24,10 +24,7 @@ const MOST_VERTICES: usize = 4096;
 // The number of pairs, or a refusal with its number and its extra number.
 pub enum Batched {
     Count(usize),
-    Refused {
-        number: u32,
-        extra: usize,
-    },
+    Refused { number: u32, extra: usize },
 }
 
 // Answers the pairs over sound bytes of a layout. The marks below n are 0 before; afterwards they are those of the last pair that was not refused.

@@ -1,0 +1,114 @@
+-- What the answers of a call for all pairs say, wherever none of its refusals applies: read back, pair i has the answer of a single question, so yes exactly where a path
+-- leads from its source to its target; the marks are those of opening and then asking pair after pair on the same buffer; and two results that the contract allows are
+-- equal.
+use mathlib.Core.Bool.{Bool, true, false, cond}
+use mathlib.Core.Logic.{_↔_}
+use mathlib.Core.Path.{_≡_, refl, sym, ap, _∙_}
+use mathlib.Core.List.{List, [], _∷_, _++_, map}
+use Prim.Native.Nat.{ℕ, _+_, _*_, _<_}
+use native.Mathlib.Omega.{arith}
+use lib.Dec.{eqb}
+use native.Mathlib.Nat.{add-zero}
+use lib.ListN.{length, getD, drop, List·getD-append}
+use borrow.Author.Tests.{ne-eqb}
+use Rattle.lineage.specs.Lists.{upto, joined}
+use Rattle.lineage.specs.Graph.{Reaches}
+use Rattle.lineage.specs.Index.{Made}
+use Rattle.lineage.specs.Question.{answer}
+use Rattle.lineage.specs.Calls.{Outcome, refused, answered, anyApplies, formChecks, contentsCheck, indexIn, Said, saidOf, askEarly, askAnswer}
+use Rattle.laws.proofs.Lists.{table-at, table-long}
+use Rattle.laws.proofs.Every.{every-table}
+use Rattle.laws.proofs.Parts.{part-at}
+use Rattle.laws.proofs.Joined.{block-at, table-blocks-long}
+use Rattle.stored_header.specs.Checks.{Pass, Told}
+use Rattle.stored_header.proofs.Checks.{outcome-told, answered-pass}
+use Rattle.ask.proofs.Theorems.{asked-right}
+use Rattle.ask_all.specs.declared.Batched.{Batched}
+use Rattle.ask_all.specs.declared.Batched.the-variants.{Count, Refused}
+use Rattle.ask_all.specs.Batched.{batchedOf}
+use Rattle.ask_all.specs.Batch.{sixOf, pairIn, askedAt, batchLate, batchAnswer, batchAnswers, batchMarks}
+
+-- what a call is allowed to return, and to leave
+pub record Allowed (b sources targets marks answers : List ℕ) (r : Batched) (m a : List ℕ) : Type 0 where
+  pub returns : batchedOf r ≡ batchAnswer b sources targets (length marks) (length answers)
+  pub leaves : m ≡ batchMarks b sources targets (length answers) marks
+  pub writes : a ≡ batchAnswers b sources targets (length marks) answers
+
+batched-one : (r r' : Batched) → batchedOf r ≡ batchedOf r' → r ≡ r'
+batched-one (Count c) (Count c') e = cc
+batched-one (Count c) (Refused number extra) e = let z : _≡_ {A = ℕ} 0 1 = cc in absurd (omega arith)
+batched-one (Refused number extra) (Count c) e = let z : _≡_ {A = ℕ} 0 1 = cc in absurd (omega arith)
+batched-one (Refused number extra) (Refused number' extra') e = cc
+
+pub batch-once :
+    {b sources targets marks answers : List ℕ} {r r' : Batched} {m m' a a' : List ℕ}
+    → Allowed b sources targets marks answers r m a → Allowed b sources targets marks answers r' m' a' → (r ≡ r') × ((m ≡ m') × (a ≡ a'))
+batch-once {r = r} {r'} A B = (batched-one r r' (A .returns ∙ sym (B .returns)), (A .leaves ∙ sym (B .leaves), A .writes ∙ sym (B .writes)))
+
+-- The six numbers of a pair determine its outcome, since no refusal has the number 0.
+abbrev Some : ℕ → ℕ → Type 0
+Some number extra = 0 < number
+
+abbrev Any : Said → Type 0
+Any s = Unit {0}
+
+yes-back : (b : Bool) → eqb (cond b 1 0) 1 ≡ b
+yes-back true = refl
+yes-back false = refl
+
+-- what is read from the place of pair i, where these six numbers stand
+module _ (answers : List ℕ) (i : ℕ) where
+  pub six-back : (o : Outcome Said) → Told Some Any o → ((j : ℕ) → j < 6 → getD answers (6 * i + j) 0 ≡ getD (sixOf o) j 0) → pairIn answers i ≡ o
+  six-back (refused number extra) some at =
+      let first : getD answers (6 * i) 0 ≡ number = ap (λ (z : ℕ). getD answers z 0) (sym (add-zero (6 * i))) ∙ at 0 (omega arith) in
+      rw (first, at 1 (omega arith), ne-eqb number 0 (λ e. omega (arith, e, some))) refl
+  six-back (answered s) some at =
+      let first : getD answers (6 * i) 0 ≡ 0 = ap (λ (z : ℕ). getD answers z 0) (sym (add-zero (6 * i))) ∙ at 0 (omega arith) in
+      rw (first, at 2 (omega arith), at 3 (omega arith), at 4 (omega arith), at 5 (omega arith), yes-back (s .says)) refl
+
+-- no refusal of a question has the number 0
+asked-some : (b : List ℕ) (u v m : ℕ) → Told Some Any (askAnswer b u v m)
+unfolding askAnswer
+asked-some b u v m =
+    outcome-told (saidOf (answer (indexIn b) u v)) Some Any (askEarly b u v m ++ (contentsCheck b ∷ []))
+    (omega arith, (omega arith, (omega arith, (omega arith, (omega arith, (omega arith, (omega arith, tt))))))) tt
+
+six-size : (o : Outcome Said) → length (sixOf o) ≡ 6
+six-size (refused number extra) = refl
+six-size (answered s) = refl
+
+-- number j of pair i in a table of six numbers a pair
+table-six :
+    (f : ℕ → Outcome Said) (p i j : ℕ) (rest : List ℕ) → i < p → j < 6
+    → getD (joined (map (λ k. sixOf (f k)) (upto p)) ++ rest) (6 * i + j) 0 ≡ getD (sixOf (f i)) j 0
+table-six f p i j rest h l =
+    let X : List (List ℕ) = map (λ k. sixOf (f k)) (upto p) in
+    let long : length (joined X) ≡ 6 * p = table-blocks-long (λ k. sixOf (f k)) 6 p (λ k b. six-size (f k)) in
+    let sized = every-table (λ x. length x ≡ 6) (λ k. sixOf (f k)) p (λ k b. six-size (f k)) in
+    List·getD-append (joined X) rest 0 (6 * i + j) (omega (arith, long))
+    ∙ part-at (joined X) (6 * i) 6 j l
+    ∙ ap (λ (z : List ℕ). getD z j 0) (block-at 6 X i sized (omega (arith, table-long (λ k. sixOf (f k)) p)) ∙ table-at (λ k. sixOf (f k)) p i [] h)
+
+-- Of a call that is not refused.
+module _ (b sources targets marks answers : List ℕ) (count : ℕ) (e : batchAnswer b sources targets (length marks) (length answers) ≡ answered count) where
+  passes : Pass (formChecks b (length marks) ++ batchLate b sources targets (length answers))
+  unfolding batchAnswer
+  passes = answered-pass (length sources) (formChecks b (length marks) ++ batchLate b sources targets (length answers)) count e
+
+  none : anyApplies (formChecks b (length marks) ++ batchLate b sources targets (length answers)) ≡ false
+  none = rw (passes .0, passes .1 .0, passes .1 .1 .0, passes .1 .1 .1 .0, passes .1 .1 .1 .1 .0, passes .1 .1 .1 .1 .1 .0, passes .1 .1 .1 .1 .1 .1 .0) refl
+
+  module _ (i : ℕ) (h : i < length sources) where
+    -- pair by pair the answer of a single question
+    pub batch-each : pairIn (batchAnswers b sources targets (length marks) answers) i ≡ askAnswer b (getD sources i 0) (getD targets i 0) (length marks)
+    unfolding batchAnswers
+    batch-each =
+        rw none
+        (six-back (joined (map (λ k. sixOf (askedAt b sources targets (length marks) k)) (upto (length sources))) ++ drop (6 * length sources) answers) i (askAnswer b (getD sources i 0) (getD targets i 0) (length marks)) (asked-some b (getD sources i 0) (getD targets i 0) (length marks))
+        (λ j l. table-six (askedAt b sources targets (length marks)) (length sources) i j (drop (6 * length sources) answers) h l))
+
+    -- so yes exactly where a path leads from source to target, in whatever graph yields the bytes
+    pub batch-right :
+        (s : Said) → pairIn (batchAnswers b sources targets (length marks) answers) i ≡ answered s → (M : Made (indexIn b))
+        → (s .says ≡ true) ↔ Reaches (M .graph) (getD sources i 0) (getD targets i 0)
+    batch-right s f M = asked-right b (getD sources i 0) (getD targets i 0) marks s (sym batch-each ∙ f) M
