@@ -1,28 +1,32 @@
 -- What the answers of a call for all pairs say, wherever none of its refusals applies: read back, pair i has the answer of a single question, so yes exactly where a path
 -- leads from its source to its target; the marks are those of opening and then asking pair after pair on the same buffer; and two results that the contract allows are
 -- equal.
-use mathlib.Core.Bool.{Bool, true, false, cond}
+use mathlib.Core.Bool.{Bool, true, false, _||_, cond}
 use mathlib.Core.Logic.{_↔_}
 use mathlib.Core.Path.{_≡_, refl, sym, ap, _∙_}
 use mathlib.Core.List.{List, [], _∷_, _++_, map}
-use Prim.Native.Nat.{ℕ, _+_, _*_, _<_}
+use Prim.Native.Nat.{ℕ, zero, suc, _+_, _*_, _≤_, _<_}
 use native.Mathlib.Omega.{arith}
-use lib.Dec.{eqb}
+use lib.Dec.{eqb, leb}
 use native.Mathlib.Nat.{add-zero}
-use lib.ListN.{length, getD, drop, List·getD-append}
-use borrow.Author.Tests.{ne-eqb}
-use Rattle.lineage.specs.Lists.{upto, joined}
+use lib.ListN.{length, getD, drop, length-append, length-drop, length-replicate, List·getD-append}
+use lib.Seq.{drop-at}
+use borrow.Author.Tests.{ltb-false, ne-eqb}
+use Rattle.lineage.specs.Lists.{upto, joined, cleared}
+use Rattle.lineage.specs.Stored.{countsIn}
 use Rattle.lineage.specs.Graph.{Reaches}
 use Rattle.lineage.specs.Index.{Made}
 use Rattle.lineage.specs.Question.{answer}
-use Rattle.lineage.specs.Calls.{Outcome, refused, answered, anyApplies, formChecks, contentsCheck, indexIn, Said, saidOf, askEarly, askAnswer}
+use Rattle.lineage.specs.Calls.{Check, check, Outcome, refused, answered, outcome, anyApplies, formChecks, contentsCheck, indexIn, openMarks, Said, saidOf, askEarly, askAnswer, askMarks}
+use Rattle.laws.proofs.Tests.{clash}
 use Rattle.laws.proofs.Lists.{table-at, table-long}
 use Rattle.laws.proofs.Every.{every-table}
 use Rattle.laws.proofs.Parts.{part-at}
 use Rattle.laws.proofs.Joined.{block-at, table-blocks-long}
 use Rattle.stored_header.specs.Checks.{Pass, Told}
-use Rattle.stored_header.proofs.Checks.{outcome-told, answered-pass}
-use Rattle.ask.proofs.Theorems.{asked-right}
+use Rattle.stored_header.proofs.Checks.{outcome-told, answered-pass, pass-front}
+use Rattle.ask.proofs.Theorems.{asked-right, answer-long}
+use Rattle.ask_pairs.specs.Pairs.{lastMarks}
 use Rattle.ask_all.specs.declared.Batched.{Batched}
 use Rattle.ask_all.specs.declared.Batched.the-variants.{Count, Refused}
 use Rattle.ask_all.specs.Batched.{batchedOf}
@@ -89,6 +93,66 @@ table-six f p i j rest h l =
     ∙ part-at (joined X) (6 * i) 6 j l
     ∙ ap (λ (z : List ℕ). getD z j 0) (block-at 6 X i sized (omega (arith, table-long (λ k. sixOf (f k)) p)) ∙ table-at (λ k. sixOf (f k)) p i [] h)
 
+-- Checks that pass, then 14 for source and target, then 15 that does not apply: whether one applies, and what is answered where none does.
+passed-any : (cs : List Check) → Pass cs → anyApplies cs ≡ false
+passed-any [] p = refl
+passed-any (c ∷ cs) p = rw (p .0) (passed-any cs (p .1))
+
+passed-early : (cs : List Check) (s t : Bool) → Pass cs → anyApplies (cs ++ (check s 14 0 ∷ check t 14 1 ∷ [])) ≡ (s || t)
+passed-early [] true t p = refl
+passed-early [] false true p = refl
+passed-early [] false false p = refl
+passed-early (c ∷ cs) s t p = rw (p .0) (passed-early cs s t (p .1))
+
+passed-late : (cs : List Check) (late : Check) (s t : Bool) → Pass cs → late .applies ≡ false → anyApplies ((cs ++ (check s 14 0 ∷ check t 14 1 ∷ [])) ++ (late ∷ [])) ≡ (s || t)
+passed-late [] late true t p l = refl
+passed-late [] late false true p l = refl
+passed-late [] late false false p l = rw l refl
+passed-late (c ∷ cs) late s t p l = rw (p .0) (passed-late cs late s t (p .1) l)
+
+passed-answer : (cs : List Check) (late : Check) (s t : Bool) (a : Said) → Pass cs → late .applies ≡ false → (s || t) ≡ false
+    → outcome ((cs ++ (check s 14 0 ∷ check t 14 1 ∷ [])) ++ (late ∷ [])) a ≡ answered a
+passed-answer [] late true t a p l f = absurd (clash refl f)
+passed-answer [] late false true a p l f = absurd (clash refl f)
+passed-answer [] late false false a p l f = rw l refl
+passed-answer (c ∷ cs) late s t a p l f = rw (p .0) (passed-answer cs late s t a (p .1) l f)
+
+-- one pair more, asked on marks that begin with n of an earlier pair's
+module _ (b : List ℕ) (u v : ℕ) (marks m : List ℕ) (form-pass : Pass (formChecks b (length marks))) (contents : contentsCheck b .applies ≡ false)
+    (room : countsIn b .n ≤ length marks) (long : length m ≡ countsIn b .n) where
+  abbrev refuses : Bool
+  refuses = leb (countsIn b .n) u || leb (countsIn b .n) v
+
+  own-long : (r : Bool) → refuses ≡ r → length (cond r m (answer (indexIn b) u v .marks)) ≡ countsIn b .n
+  unfolding askAnswer
+  own-long true e = long
+  own-long false e =
+      answer-long b u v marks (saidOf (answer (indexIn b) u v))
+      (passed-answer (formChecks b (length marks)) (contentsCheck b) (leb (countsIn b .n) u) (leb (countsIn b .n) v) (saidOf (answer (indexIn b) u v)) form-pass contents e)
+
+  whole : length (m ++ drop (countsIn b .n) marks) ≡ length marks
+  whole = omega (arith, length-append m (drop (countsIn b .n) marks), length-drop (countsIn b .n) marks, long, room)
+
+  joins : (r : Bool) (x a : List ℕ) → cond r (cond r (m ++ drop (countsIn b .n) marks) x) (a ++ drop (countsIn b .n) (m ++ drop (countsIn b .n) marks)) ≡ cond r m a ++ drop (countsIn b .n) marks
+  joins true x a = refl
+  joins false x a = ap (λ (z : List ℕ). a ++ z) (drop-at m (drop (countsIn b .n) marks) (countsIn b .n) long)
+
+  pair-more :
+      (before : List ℕ) → before ≡ m ++ drop (countsIn b .n) marks
+      → (askMarks b u v before ≡ cond refuses m (answer (indexIn b) u v .marks) ++ drop (countsIn b .n) marks)
+      × (length (cond refuses m (answer (indexIn b) u v .marks)) ≡ countsIn b .n)
+  unfolding askMarks
+  pair-more before is = (
+    rw (
+      is,
+      whole,
+      passed-late (formChecks b (length marks)) (contentsCheck b) (leb (countsIn b .n) u) (leb (countsIn b .n) v) form-pass contents,
+      passed-early (formChecks b (length marks)) (leb (countsIn b .n) u) (leb (countsIn b .n) v) form-pass,
+    )
+        (joins refuses (cleared (countsIn b .n) (m ++ drop (countsIn b .n) marks)) (answer (indexIn b) u v .marks)),
+    own-long refuses refl,
+  )
+
 -- Of a call that is not refused.
 module _ (b sources targets marks answers : List ℕ) (count : ℕ) (e : batchAnswer b sources targets (length marks) (length answers) ≡ answered count) where
   passes : Pass (formChecks b (length marks) ++ batchLate b sources targets (length answers))
@@ -112,3 +176,35 @@ module _ (b sources targets marks answers : List ℕ) (count : ℕ) (e : batchAn
         (s : Said) → pairIn (batchAnswers b sources targets (length marks) answers) i ≡ answered s → (M : Made (indexIn b))
         → (s .says ≡ true) ↔ Reaches (M .graph) (getD sources i 0) (getD targets i 0)
     batch-right s f M = asked-right b (getD sources i 0) (getD targets i 0) marks s (sym batch-each ∙ f) M
+
+  -- The marks are those of opening the index, and then asking pair after pair on the same buffer: a pair that is refused with 14 leaves them.
+  abbrev pub askedOn : ℕ → List ℕ
+  askedOn zero = openMarks b marks
+  askedOn (suc i) = askMarks b (getD sources i 0) (getD targets i 0) (askedOn i)
+
+  abbrev last : ℕ → List ℕ
+  last i = lastMarks (countsIn b .n) (answer (indexIn b)) sources targets i
+
+  form-pass : Pass (formChecks b (length marks))
+  form-pass = pass-front (formChecks b (length marks)) (batchLate b sources targets (length answers)) passes
+
+  contents : contentsCheck b .applies ≡ false
+  contents = passes .1 .1 .1 .1 .0
+
+  room : countsIn b .n ≤ length marks
+  room = ltb-false (length marks) (countsIn b .n) (form-pass .1 .1 .1 .0)
+
+  -- before pair i
+  folded : (i : ℕ) → (askedOn i ≡ last i ++ drop (countsIn b .n) marks) × (length (last i) ≡ countsIn b .n)
+  unfolding openMarks lastMarks cleared
+  folded zero = (
+    rw (passed-any (formChecks b (length marks)) form-pass) refl,
+    length-replicate (countsIn b .n) 0,
+  )
+  folded (suc i) =
+      let (is, long) = folded i in
+      pair-more b (getD sources i 0) (getD targets i 0) marks (last i) form-pass contents room long (askedOn i) is
+
+  pub batch-fold : batchMarks b sources targets (length answers) marks ≡ askedOn (length sources)
+  unfolding batchMarks
+  batch-fold = rw none (sym (folded (length sources) .0))
