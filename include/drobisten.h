@@ -1,6 +1,6 @@
 /* Drobisten: is this vertex reached from that one? Opens and asks a stored reachability index, for a host in C.
  *
- * The two calls take plain numbers and byte buffers that the caller lends. They allocate nothing, keep nothing between calls, and always return: whatever
+ * The calls take plain numbers and byte buffers that the caller lends. They allocate nothing, keep nothing between calls, and always return: whatever
  * bytes are lent as an index, the result is an answer or a refusal with its number. That they return what this page says is proved
  * (crates/drobisten; the definitions are in crates/lineage/specs/Calls.antt).
  *
@@ -25,8 +25,9 @@
  * for each of the d labellings through the k groups and the c child entries; it also looks up each group once, by halving, among the children of another.
  * A question then takes at most k openings and c tries of a child, with at most d labellings read a try.
  *
- * STACK. The walk of a question nests once for each level of the index that it goes down, 336 bytes each time: 1.4 MB for an index that is one line of 4,096
- * groups, and a few hundred bytes for a flat one. Everything else is loops.
+ * STACK. The walk of a question nests once for each level of the index that it goes down, 368 bytes each time: 1.5 MB for an index that is one line of 4,096
+ * groups, and a few hundred bytes for a flat one. drobisten_ask_all takes 16 KB more,
+ * for a table. Everything else is loops.
  */
 #ifndef DROBISTEN_H
 #define DROBISTEN_H
@@ -44,7 +45,7 @@ enum {
     DROBISTEN_FORM = 11,     /* the form is not 1; extra: the form found */
     DROBISTEN_HEADER = 12,   /* n over 4,096, k over n, c over 16,384, d not 1 to 5, an offset or the total not as these give, or bytes not of that total */
     DROBISTEN_MARKS = 13,    /* marks shorter than n; extra: n */
-    DROBISTEN_VERTEX = 14,   /* drobisten_ask only: a vertex is n or more; extra: 0 where it is the source, 1 where it is the target alone */
+    DROBISTEN_VERTEX = 14,   /* a vertex is n or more, in drobisten_ask_all in its own pair's answer; extra: 0 where it is the source, 1 where it is the target alone */
     DROBISTEN_CONTENTS = 15, /* no edge list and no orders yield these bytes */
     DROBISTEN_LISTS = 2,     /* drobisten_ask_all only, checked behind 15: sources and targets differ in length */
     DROBISTEN_ANSWERS = 16   /* drobisten_ask_all only: the answer list is short; extra: the number of pairs */
@@ -77,7 +78,7 @@ typedef struct {
                            under 5 the inner interval of the child that ended the walk; 0 under 1, 3 and 6 */
 } drobisten_asked;
 
-/* What both calls need: `index` points to index_len bytes that can be read, `marks` to marks_len bytes that can be read and written; the two do not overlap;
+/* What all calls need: `index` points to index_len bytes that can be read, `marks` to marks_len bytes that can be read and written; the two do not overlap;
  * neither pointer is NULL, even where its length is 0. Nothing is asked of what the bytes hold, nor of how the pointers are aligned. No byte
  * outside the two is touched, and the index is never written. */
 
