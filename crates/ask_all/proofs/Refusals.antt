@@ -1,14 +1,14 @@
 -- What `ask_all` answers and leaves, by where its checks stop: at one of 10 to 13, at 15, 2 or 16, or behind them.
 use mathlib.Core.Bool.{Bool, true, false, not, cond}
 use mathlib.Core.Path.{_≡_, refl, sym, _∙_}
-use mathlib.Core.List.{List, [], _++_, map}
-use Prim.Native.Nat.{ℕ, _*_, _/_, _≤_, _<_}
+use mathlib.Core.List.{List, [], _∷_, _++_, map}
+use Prim.Native.Nat.{ℕ, zero, suc, _+_, _*_, _/_, _≤_, _<_}
 use native.Mathlib.Omega.{arith}
 use native.Mathlib.Nat.{div-lt-iff-lt-mul, mul-div-le}
 use lib.Dec.{eqb, leb, ltb}
-use lib.ListN.{length, take, drop, replicate, length-replicate}
+use lib.ListN.{length, getD, take, drop, replicate, length-replicate}
 use lib.Seq.{take-at}
-use borrow.Author.Tests.{leb-true}
+use borrow.Author.Tests.{leb-true, eq-eqb, ne-eqb}
 use Rattle.lineage.specs.Lists.{upto, joined, cleared}
 use Rattle.lineage.specs.Stored.{Form, form1, formOf, headerAt, countsIn, countsFit, offsetsFit}
 use Rattle.lineage.specs.Question.{answer}
@@ -23,7 +23,7 @@ use Rattle.stored_header.proofs.Checks.{refused-comes, stops-comes}
 use Rattle.stored_header.proofs.Laid.{n-is}
 use Rattle.stored_header.proofs.Admitted.{Admits, admitted, admitted-laid}
 use Rattle.ask_pairs.specs.Pairs.{sixes, lastMarks}
-use Rattle.ask_all.specs.Batch.{sixOf, askedAt, batchLate, batchAnswer, batchAnswers, batchMarks}
+use Rattle.ask_all.specs.Batch.{sixOf, pairIn, askedAt, batchLate, batchAnswer, batchAnswers, batchMarks}
 use Rattle.ask_all.proofs.Sixes.{answers-are}
 
 module _ (b sources targets marks answers : List ℕ) where
@@ -97,3 +97,29 @@ small {b} A =
     let F : Form = formOf (headerAt b 0) in
     let fits = both (leb (countsIn b .n) (F .vertices)) _ (neither (countsFit F (countsIn b)) (offsetsFit F (countsIn b) b) (admitted A .1 .1 .0) .0) in
     omega (arith, n-is (admitted-laid A), leb-true (countsIn b .n) (F .vertices) (fits .0), form-small (headerAt b 0))
+
+-- A pair read back.
+pub past-end : (a : List ℕ) (p : ℕ) → length a ≤ p → _≡_ {A = ℕ} (getD a p 0) 0
+past-end [] p h = refl
+past-end (x ∷ a) zero h = absurd (omega arith)
+past-end (x ∷ a) (suc p) h = past-end a p (omega arith)
+
+module _ (a : List ℕ) (i : ℕ) where
+  pub pair-past : length a ≤ i → pairIn a i ≡ answered (record { says = false; reason = 0; opened = 0; deciding = 0 })
+  pair-past h =
+      rw (
+        past-end a (6 * i) (omega arith),
+        past-end a (6 * i + 2) (omega arith),
+        past-end a (6 * i + 3) (omega arith),
+        past-end a (6 * i + 4) (omega arith),
+        past-end a (6 * i + 5) (omega arith),
+      )
+      refl
+
+  pub pair-answered :
+      {f y r o d : ℕ} → f ≡ getD a (6 * i) 0 → y ≡ getD a (6 * i + 2) 0 → r ≡ getD a (6 * i + 3) 0 → o ≡ getD a (6 * i + 4) 0 → d ≡ getD a (6 * i + 5) 0 → f ≡ 0
+      → answered (record { says = eqb y 1; reason = r; opened = o; deciding = d }) ≡ pairIn a i
+  pair-answered {f} ef ey er eo ed z = rw (← ef, ← ey, ← er, ← eo, ← ed, eq-eqb f 0 z) refl
+
+  pub pair-refused : {f x : ℕ} → f ≡ getD a (6 * i) 0 → x ≡ getD a (6 * i + 1) 0 → (f ≡ 0 → ⊥) → refused f x ≡ pairIn a i
+  pair-refused {f} ef ex z = rw (← ef, ← ex, ne-eqb f 0 z) refl

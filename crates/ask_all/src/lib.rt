@@ -3,15 +3,17 @@ ghost use mathlib.Core.Bool.{true};
 ghost use mathlib.Core.Path.{_≡_};
 ghost use mathlib.Core.List.{_++_};
 ghost use Prim.Native.Nat.{_*_, _≤_};
-ghost use lib.ListN.{length, take, drop, replicate};
+ghost use lib.ListN.{length, getD, take, drop, replicate};
 ghost use Rattle.lineage.specs.Question.{answer};
 ghost use Rattle.lineage.specs.Sound.{contentsSound};
 ghost use Rattle.lineage.specs.Calls.{indexIn};
 ghost use Rattle.numbers.specs.Put.{put};
 ghost use Rattle.stored_header.specs.Header.{Laid};
 ghost use Rattle.ask_pairs.specs.Pairs.{sixes, lastMarks};
-ghost use Rattle.ask_all.specs.Batch.{batchAnswer, batchAnswers, batchMarks};
+ghost use Rattle.ask.specs.Asked.{askedOf};
+ghost use Rattle.ask_all.specs.Batch.{pairIn, batchAnswer, batchAnswers, batchMarks};
 ghost use Rattle.ask_all.specs.Batched.{batchedOf};
+use ask::Asked;
 use refusals::LIST_SHORT;
 use refusals::LISTS_DIFFER;
 use refusals::NOT_SOUND;
@@ -103,4 +105,44 @@ pub fn ask_all(
     }
     ask_sound(index, l, sources, targets, marks, answers);
     Batched::Count(pairs)
+}
+
+// Number p of an answer list; past its end all are 0.
+fn number_at(answers: &[u32], p: usize) -> u32
+    ensures { λ r. ⌜ r ≡ getD (now (answers .entry)) p 0 ⌝ }
+{
+    if p < answers.len() { answers[p] } else { 0 }
+}
+
+// The answer of pair i, read back from an answer list.
+pub fn answer_at(answers: &[u32], i: usize) -> Asked
+    ensures { λ r. ⌜ askedOf r ≡ pairIn (now (answers .entry)) i ⌝ }
+{
+    if answers.len() <= i {
+        return Asked::Answer {
+            says: false,
+            reason: 0,
+            opened: 0,
+            deciding: 0,
+        };
+    }
+    let at = 6 * i;
+    let refusal = number_at(answers, at);
+    let extra = number_at(answers, at + 1);
+    let yes = number_at(answers, at + 2);
+    let reason = number_at(answers, at + 3);
+    let opened = number_at(answers, at + 4);
+    let deciding = number_at(answers, at + 5);
+    if refusal == 0 {
+        return Asked::Answer {
+            says: yes == 1,
+            reason,
+            opened,
+            deciding,
+        };
+    }
+    Asked::Refused {
+        number: refusal,
+        extra,
+    }
 }
