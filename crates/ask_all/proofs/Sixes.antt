@@ -2,14 +2,13 @@
 use mathlib.Core.Bool.{Bool, true, false, cond}
 use mathlib.Core.Path.{_≡_, refl, sym, ap, _∙_}
 use mathlib.Core.List.{List, [], _∷_, _++_, map}
-use Prim.Native.Nat.{ℕ, _*_, _≤_}
-use native.Mathlib.Omega.{arith}
+use Prim.Native.Nat.{ℕ, _*_}
 use lib.Dec.{leb}
 use lib.ListN.{length, getD, drop}
 use Rattle.lineage.specs.Lists.{upto, joined}
 use Rattle.lineage.specs.Stored.{countsIn}
 use Rattle.lineage.specs.Question.{Answer, answer}
-use Rattle.lineage.specs.Calls.{Check, check, outcome, formChecks, contentsCheck, indexIn, saidOf, askEarly, askAnswer}
+use Rattle.lineage.specs.Calls.{Check, check, outcome, formChecks, contentsCheck, indexIn, saidOf, askAnswer}
 use Rattle.laws.proofs.Lists.{table-same}
 use Rattle.numbers.specs.Put.{put}
 use Rattle.numbers.proofs.Put.{put-start}

@@ -1,6 +1,6 @@
 -- Many pairs at once (document 02, [3]): lists of sources and targets, the stored bytes checked once. Of the call its checks in order, its answer, and what every lent
 -- buffer holds afterwards.
-use mathlib.Core.Bool.{true, false, not, cond}
+use mathlib.Core.Bool.{not, cond}
 use mathlib.Core.List.{List, [], _∷_, _++_, map}
 use Prim.Native.Nat.{ℕ, _+_, _*_}
 use lib.Dec.{eqb, ltb}

@@ -1,5 +1,4 @@
 -- `ask_all::answer_at` meets its contract: the six numbers are read, and their first tells a refusal from an answer.
-use native.Mathlib.Omega.{arith}
 use mathlib.Core.Path.{sym}
 use Rattle.ask_all.proofs.Refusals.{pair-past, pair-answered, pair-refused}
 use borrow.Author.Needs.{needs}
