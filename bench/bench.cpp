@@ -1,9 +1,10 @@
 // Measures the library beside its peers (peers.hpp) on the same graphs, orders and pairs, and compares all that they answer: the first difference ends it with an error.
 //
-//     bench all | build | quick
+//     bench all | build | monday | quick
 //
 // prints a line for each figure: measure, kind of graph, n, d, kind of pairs, who, and nanoseconds of processor time for one build, one opening or one question. A
-// figure is the least of several repetitions, in which those that are compared take turns. `build` measures the build alone, on random acyclic graphs; `quick` is one
+// figure is the least of several repetitions, in which those that are compared take turns. `build` measures the build alone, on random acyclic graphs, `monday` the call
+// for all pairs of two lists alone; `quick` is one
 // small size with few repetitions, and serves to see that all agree.
 #include "graphs.hpp"
 #include "peers.hpp"
@@ -18,9 +19,11 @@ extern "C" {
 struct counted {
     uint32_t refusal, extra, count;
 };
-counted trial_build(const uint32_t *sources, size_t sources_len, const uint32_t *targets, size_t targets_len, const uint32_t *orders, size_t orders_len, uint32_t *work,
+__attribute__((weak)) counted trial_build(const uint32_t *sources, size_t sources_len, const uint32_t *targets, size_t targets_len, const uint32_t *orders, size_t orders_len, uint32_t *work,
                     size_t work_len, uint8_t *out, size_t out_len, uint32_t n, uint32_t d);
-// the library's own drobisten_ask, in a copy whose check of the contents says yes and does nothing (bench/run makes it)
+// the library's own drobisten_ask_all and drobisten_ask, in a copy whose check of the contents says yes and does nothing (bench/run makes it)
+drobisten_asked_all unchecked_ask_all(const uint8_t *index, size_t index_len, uint8_t *marks, size_t marks_len, const uint32_t *sources, size_t sources_len,
+                                      const uint32_t *targets, size_t targets_len, uint32_t *answers, size_t answers_len);
 drobisten_asked unchecked_ask(const uint8_t *index, size_t index_len, uint8_t *marks, size_t marks_len, uint32_t source, uint32_t target);
 }
 
@@ -272,6 +275,33 @@ static void questions(Where w, Case &c) {
     printf("opened\t%s\t%u\t%d\t%s\tours\t%.2f\n", w.kind, w.n, w.d, w.pairs, opened / pairs.size());
 }
 
+// All pairs of one graph in one call, the check cut; the whole call on no pairs is what the check and the rest of a call cost.
+static void monday(Where w, Case &c) {
+    const Pairs &pairs = c.pairs.at(w.pairs);
+    const size_t few = std::min<size_t>(pairs.size(), 1000);
+    Bytes marks(w.n);
+    Numbers sources, targets, answers(6 * pairs.size()), theirs(6 * pairs.size());
+    for (auto [u, v] : pairs) sources.push_back(u), targets.push_back(v);
+    auto ours = [&] {
+        sink = unchecked_ask_all(c.index.data(), c.index.size(), marks.data(), w.n, sources.data(), sources.size(), targets.data(), targets.size(), answers.data(),
+                                 answers.size()).count;
+    };
+    auto call = [&] { sink = drobisten_ask_all(c.index.data(), c.index.size(), marks.data(), w.n, sources.data(), 0, targets.data(), 0, answers.data(), 0).refusal; };
+    auto each_pair = [&](size_t count, auto answer) {
+        return [&pairs, count, answer] {
+            uint32_t yes = 0;
+            for (size_t i = 0; i < count; i++) yes += answer(pairs[i].first, pairs[i].second);
+            sink = yes;
+        };
+    };
+    w.measure = "monday";
+    measure(w, pairs.size(), {{"ours", ours}, {"grail", [&] { c.grail.ask_all(sources, targets, theirs.data()); }},
+                              {"closure", each_pair(pairs.size(), [&](uint32_t u, uint32_t v) { return c.closure.reaches(u, v); })}});
+    must(answers == theirs, "GRAIL answers the pairs otherwise");
+    measure(w, few, {{"search", each_pair(few, [&](uint32_t u, uint32_t v) { return c.search.reaches(u, v); })}});
+    measure(w, 1, {{"call", call}});
+}
+
 // The copy without the check has none: it answers over a labelling whose last place by rank is wrong, which no question reads and every check finds.
 static void check_is_cut(Case c) {
     Bytes marks(c.graph.n);
@@ -284,13 +314,13 @@ static void check_is_cut(Case c) {
 
 int main(int words, char **word) {
     std::string what = words == 2 ? word[1] : "";
-    must(what == "all" || what == "build" || what == "quick", "all, build or quick?");
+    must(what == "all" || what == "build" || what == "monday" || what == "quick", "all, build, monday or quick?");
     quick = what == "quick";
     for (const std::string &kind : KINDS) {
         if (what == "build" && kind != "dag") continue;
         for (uint32_t n : quick ? Numbers{500} : Numbers{500, 1000, 2000, 4096}) {
             Chance chance(n);
-            Cases cases(quick ? 2 : 8192 / n);
+            Cases cases(what == "monday" ? 1 : quick ? 2 : 8192 / n);
             for (Case &c : cases) {
                 c.graph = graph(kind, n, chance);
                 c.search.build(c.graph), c.closure.build(c.graph);
@@ -303,15 +333,20 @@ int main(int words, char **word) {
                     Numbers order = chance.order(n);
                     orders.insert(orders.end(), order.begin(), order.end());
                 }
-                build(w, cases, orders);
-                if (what == "build") continue;
-                open(w, cases);
-                damage(cases[0].index, chance);
-                check_is_cut(cases[0]);
+                if (what == "monday") {
+                    cases[0].grail.build(cases[0].graph, orders, d);
+                    cases[0].index = stored_form(cases[0].grail);
+                } else {
+                    build(w, cases, orders);
+                    if (what == "build") continue;
+                    open(w, cases);
+                    damage(cases[0].index, chance);
+                    check_is_cut(cases[0]);
+                }
                 for (const char *which : {"reachable", "unreachable", "mixed"}) {
                     w.pairs = which;
-                    asks(w, cases);
-                    questions(w, cases[0]);
+                    if (what != "monday") asks(w, cases), questions(w, cases[0]);
+                    monday(w, cases[0]);
                 }
             }
         }

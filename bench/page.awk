@@ -83,6 +83,29 @@ function tables(    a, j, p, kind, d, pairs) {
     }
 }
 
+# pairs from which on the whole call is faster than search: what a call costs without pairs, over what it saves a pair
+function pays(kind, d, pairs,    saved) {
+    saved = time("monday", kind, most, d, pairs, "search") - time("monday", kind, most, d, pairs, "ours")
+    return saved > 0 ? sprintf("%d", time("monday", kind, most, d, pairs, "call") / saved + 1) : "never"
+}
+
+function mondays(    a, j, p, i, kind, d, pairs, r, sum, rows, high) {
+    print "### All pairs of two lists: ours to GRAIL, which writes the same six numbers a pair; the check cut\n"
+    heading("| graph, pairs | d | n = 500 | 1,000 | 2,000 | 4,096 | ours, 4,096 | GRAIL | search | closure | a call without pairs | faster than search from |", 12)
+    for (a = 1; a in KIND; a++) for (p = 1; p in PAIRS; p++) for (j = 1; j in D; j++) {
+        kind = KIND[a]; d = D[j]; pairs = PAIRS[p]
+        for (i = 1; i <= sizes; i++) {
+            r = time("monday", kind, N[i], d, pairs, "ours") / time("monday", kind, N[i], d, pairs, "grail")
+            sum += log(r); rows++
+            if (r > high) { high = r; where = title[kind] ", " pairs ", d = " d ", n = " N[i] }
+        }
+        print "| " title[kind] ", " pairs " | " d ratios("monday", kind, d, pairs, "grail") " | " told(time("monday", kind, most, d, pairs, "ours")) \
+            " | " told(time("monday", kind, most, d, pairs, "grail")) " | " told(time("monday", kind, most, d, pairs, "search")) \
+            " | " told(time("monday", kind, most, d, pairs, "closure")) " | " told(time("monday", kind, most, d, pairs, "call")) " | " pays(kind, d, pairs) " pairs |"
+    }
+    printf "\nGeometric mean of the %d ratios %.2f, the highest %.2f (%s).\n", rows, exp(sum / rows), high, where
+}
+
 # ---------------------------------------------------------------- the plot: four panels, cost over size, both logarithmic
 
 function draw(line) { print line > svg }
@@ -140,6 +163,7 @@ function plot() {
 }
 
 END {
-    if (svg == "") builds()
-    else { tables(); plot() }
+    if (only == "monday") mondays()
+    else if (svg == "") builds()
+    else { tables(); print ""; mondays(); plot() }
 }

@@ -38,8 +38,7 @@ static int vertex(const char *word, uint32_t *number) {
     return *word >= '0' && *word <= '9' && *end == '\0' && value <= UINT32_MAX;
 }
 
-static void ask(const uint8_t *index, size_t size, uint8_t *marks, size_t n, uint32_t source, uint32_t target) {
-    drobisten_asked a = drobisten_ask(index, size, marks, n, source, target);
+static void print(uint32_t source, uint32_t target, drobisten_asked a) {
     printf("q %u %u ", source, target);
     if (a.refusal)
         printf("refused %u %u\n", a.refusal, a.extra);
@@ -73,14 +72,24 @@ int main(int words, char **word) {
         return 1;
     }
     printf("n %u k %u c %u d %u\n", o.n, o.k, o.c, o.d);
-    for (int i = 2; i < words; i += 2) {
-        uint32_t source, target;
-        if (!vertex(word[i], &source) || !vertex(word[i + 1], &target)) {
-            fprintf(stderr, "%s %s: no pair of vertices\n", word[i], word[i + 1]);
+    /* all pairs in one call, which checks the index once more and for all of them */
+    size_t pairs = (size_t)(words - 2) / 2;
+    uint32_t *sources = malloc((pairs + 1) * sizeof *sources), *targets = malloc((pairs + 1) * sizeof *targets);
+    drobisten_asked *answers = malloc((pairs + 1) * sizeof *answers);
+    if (!sources || !targets || !answers) return 2;
+    for (size_t i = 0; i < pairs; i++) {
+        char **pair = word + 2 + 2 * i;
+        if (!vertex(pair[0], &sources[i]) || !vertex(pair[1], &targets[i])) {
+            fprintf(stderr, "%s %s: no pair of vertices\n", pair[0], pair[1]);
             return 2;
         }
-        ask(index, size, marks, o.n, source, target);
     }
+    drobisten_asked_all r = drobisten_ask_all(index, size, marks, o.n, sources, pairs, targets, pairs, (uint32_t *)answers, 6 * pairs);
+    if (r.refusal) return 2;
+    for (size_t i = 0; i < r.count; i++) print(sources[i], targets[i], answers[i]);
+    free(answers);
+    free(targets);
+    free(sources);
     if (marks != none) free(marks);
     free(index);
     return 0;

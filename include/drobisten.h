@@ -1,6 +1,6 @@
 /* Drobisten: is this vertex reached from that one? Opens and asks a stored reachability index, for a host in C.
  *
- * The two calls take plain numbers and byte buffers that the caller lends. They allocate nothing, keep nothing between calls, and always return: whatever
+ * The calls take plain numbers and byte buffers that the caller lends. They allocate nothing, keep nothing between calls, and always return: whatever
  * bytes are lent as an index, the result is an answer or a refusal with its number. That they return what this page says is proved
  * (crates/drobisten; the definitions are in crates/lineage/specs/Calls.antt).
  *
@@ -23,10 +23,11 @@
  *
  * TIME. Every call checks the bytes anew, unless the header, the marks' length or a vertex refuses it. It goes a fixed number of times through the n names, and
  * for each of the d labellings through the k groups and the c child entries; it also looks up each group once, by halving, among the children of another.
- * A question then takes at most k openings and c tries of a child, with at most 2d interval tests a try.
+ * A question then takes at most k openings and c tries of a child, with at most d labellings read a try.
  *
- * STACK. The walk of a question nests once for each level of the index that it goes down, 336 bytes each time: 1.4 MB for an index that is one line of 4,096
- * groups, and a few hundred bytes for a flat one. Everything else is loops.
+ * STACK. The walk of a question nests once for each level of the index that it goes down, 368 bytes each time: 1.5 MB for an index that is one line of 4,096
+ * groups, and a few hundred bytes for a flat one. drobisten_ask_all takes 16 KB more,
+ * for a table. Everything else is loops.
  */
 #ifndef DROBISTEN_H
 #define DROBISTEN_H
@@ -44,8 +45,10 @@ enum {
     DROBISTEN_FORM = 11,     /* the form is not 1; extra: the form found */
     DROBISTEN_HEADER = 12,   /* n over 4,096, k over n, c over 16,384, d not 1 to 5, an offset or the total not as these give, or bytes not of that total */
     DROBISTEN_MARKS = 13,    /* marks shorter than n; extra: n */
-    DROBISTEN_VERTEX = 14,   /* drobisten_ask only: a vertex is n or more; extra: 0 where it is the source, 1 where it is the target alone */
-    DROBISTEN_CONTENTS = 15  /* no edge list and no orders yield these bytes */
+    DROBISTEN_VERTEX = 14,   /* a vertex is n or more, in drobisten_ask_all in its own pair's answer; extra: 0 where it is the source, 1 where it is the target alone */
+    DROBISTEN_CONTENTS = 15, /* no edge list and no orders yield these bytes */
+    DROBISTEN_LISTS = 2,     /* drobisten_ask_all only, checked behind 15: sources and targets differ in length */
+    DROBISTEN_ANSWERS = 16   /* drobisten_ask_all only: the answer list is short; extra: the number of pairs */
 };
 
 /* What drobisten_open returns: 24 bytes, six numbers of 4 in this order. */
@@ -75,7 +78,7 @@ typedef struct {
                            under 5 the inner interval of the child that ended the walk; 0 under 1, 3 and 6 */
 } drobisten_asked;
 
-/* What both calls need: `index` points to index_len bytes that can be read, `marks` to marks_len bytes that can be read and written; the two do not overlap;
+/* What all calls need: `index` points to index_len bytes that can be read, `marks` to marks_len bytes that can be read and written; the two do not overlap;
  * neither pointer is NULL, even where its length is 0. Nothing is asked of what the bytes hold, nor of how the pointers are aligned. No byte
  * outside the two is touched, and the index is never written. */
 
@@ -100,6 +103,33 @@ drobisten_opened drobisten_open(const uint8_t *index, size_t index_len, uint8_t 
  *                    refusal 10 to 14: all are as they were
  */
 drobisten_asked drobisten_ask(const uint8_t *index, size_t index_len, uint8_t *marks, size_t marks_len, uint32_t source, uint32_t target);
+
+/* What drobisten_ask_all returns. */
+typedef struct {
+    uint32_t refusal; /* 0: every pair has its answer; otherwise why not */
+    size_t extra;     /* the refusal's extra number; 0 without a refusal */
+    size_t count;     /* the number of pairs; 0 with a refusal */
+} drobisten_asked_all;
+
+/* Asks all pairs of two lists: the index is checked once, and then pair i, from sources[i] to targets[i], gets what drobisten_ask gives it.
+ *
+ * `sources` and `targets` point to so many 32-bit numbers that can be read; `answers` to answers_len 32-bit numbers that can be written. Pair i has six of them,
+ * from 6 * i on: refusal, extra, yes, reason, opened, labelling, laid out as a drobisten_asked. So an array of these can be lent:
+ *
+ *     drobisten_asked answers[PAIRS];
+ *     drobisten_ask_all(index, index_len, marks, marks_len, sources, PAIRS, targets, PAIRS, (uint32_t *)answers, 6 * PAIRS);
+ *
+ * Gives refusal 0 with the number of pairs, or the first that applies of 10, 11, 12, 13, 15, then 2 (the two lists differ in length), then 16 (answers_len is less
+ * than 6 for each pair; extra: the number of pairs). A vertex that is n or more is refused in its own pair's answer, with 14.
+ *
+ * answers afterwards   refusal 0: six numbers for each pair, those behind them are as they were
+ *                      any refusal: all are as they were
+ * marks afterwards     refusal 0: the first n bytes are as drobisten_ask leaves them for the last pair that was not refused, or 0 if there was none
+ *                      refusal 15, 2 or 16: the first n bytes are 0; refusal 10 to 13: all are as they were
+ *                      those behind the first n are always as they were
+ */
+drobisten_asked_all drobisten_ask_all(const uint8_t *index, size_t index_len, uint8_t *marks, size_t marks_len, const uint32_t *sources, size_t sources_len,
+                                      const uint32_t *targets, size_t targets_len, uint32_t *answers, size_t answers_len);
 
 #ifdef __cplusplus
 }

@@ -24,7 +24,7 @@ __attribute__((weak)) size_t trial_run(const uint8_t *text, size_t text_len, uin
 _Static_assert(sizeof(drobisten_opened) == 24, "drobisten_opened is 24 bytes");
 _Static_assert(sizeof(drobisten_asked) == 24 && offsetof(drobisten_asked, labelling) == 20, "drobisten_asked is 24 bytes, labelling its last four");
 
-enum { OPEN = 1, ASK = 2, LIST = 3, BUILD = 4, ASK_ALL = 5, RUN = 6, BUILD_SMALL = 26, ASK_SMALL = 27 };
+enum { OPEN = 1, ASK = 2, LIST = 3, BUILD = 4, ASK_ALL = 5, RUN = 6, BATCH = 20, BUILD_SMALL = 26, ASK_SMALL = 27 };
 
 /* the bytes that a run is lent for its output, and what they hold before it */
 enum { MOST_OUTPUT = 338582, PATTERN = 0xa5 };
@@ -136,6 +136,20 @@ static void serve_ask_all(void) {
     done(marks);
 }
 
+/* all pairs in one call */
+static void serve_batch(void) {
+    lent index = buffer(1), marks = buffer(1), sources = buffer(4), targets = buffer(4), answers = buffer(4);
+    drobisten_asked_all r = drobisten_ask_all(index.at, index.length, marks.at, marks.length, (uint32_t *)sources.at, sources.length, (uint32_t *)targets.at,
+                                              targets.length, (uint32_t *)answers.at, answers.length);
+    uint32_t numbers[3] = {r.refusal, (uint32_t)r.extra, (uint32_t)r.count};
+    give(numbers, sizeof numbers);
+    done(index);
+    done(sources);
+    done(targets);
+    give_back(marks);
+    give_back(answers);
+}
+
 static void serve_list(void) {
     uint32_t vertex = number();
     lent index = buffer(1), marks = buffer(1), out = buffer(4);
@@ -194,6 +208,7 @@ int main(void) {
         case LIST: if (!trial_list) return 5; serve_list(); break;
         case BUILD: if (!trial_build) return 5; serve_build(on_own_stack); break;
         case ASK_ALL: serve_ask_all(); break;
+        case BATCH: serve_batch(); break;
         case RUN: if (!trial_run) return 5; serve_run(); break;
         case BUILD_SMALL: if (!trial_build) return 5; serve_build(on_small_stack); break;
         case ASK_SMALL: serve_ask(on_small_stack); break;

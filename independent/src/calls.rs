@@ -114,7 +114,7 @@ fn vertex_in_range(n: usize, vertex: u32, role: usize) -> Result<usize, Refusal>
 }
 
 /// Refusals 10 to 13; otherwise the counts.
-fn readable(index: &[u8], marks: &[u8]) -> Result<Counts, Refusal> {
+pub(crate) fn readable(index: &[u8], marks: &[u8]) -> Result<Counts, Refusal> {
     let counts = Counts::read(index)?;
     if marks.len() < counts.n {
         return refuse(13, counts.n);
@@ -123,7 +123,7 @@ fn readable(index: &[u8], marks: &[u8]) -> Result<Counts, Refusal> {
 }
 
 /// Sets the marks below n to 0, then refusal 15 or the index.
-fn sound_or_refused(index: &[u8], counts: &Counts, marks: &mut [u8]) -> Result<Index, Refusal> {
+pub(crate) fn sound_or_refused(index: &[u8], counts: &Counts, marks: &mut [u8]) -> Result<Index, Refusal> {
     marks[..counts.n].fill(0);
     match sound_index(index, counts) {
         Some(index) => Ok(index),

@@ -5,9 +5,10 @@
 //! stored bytes follow the words; soundness is decided by making the index again and comparing bytes.
 //!
 //! The data's way is the reading order: [`graph`], [`closure`], [`groups`], [`labels`], [`index`], [`stored`],
-//! [`sound`] with [`every`] beside it, [`question`], [`calls`], [`text`]. [`chance`] makes graphs, orders and damage
+//! [`sound`] with [`every`] beside it, [`question`], [`calls`], [`batch`], [`text`]. [`chance`] makes graphs, orders and damage
 //! for comparisons.
 
+pub mod batch;
 pub mod bounds;
 pub mod calls;
 pub mod chance;
@@ -23,6 +24,7 @@ pub mod sound;
 pub mod stored;
 pub mod text;
 
+pub use batch::ask_all;
 pub use calls::{ask, build, list, open};
 pub use graph::Graph;
 pub use index::Index;

@@ -84,6 +84,39 @@ pub fn list(library: &mut Library, index: &[u8], vertex: u32, marks: usize, size
     result.map_or_else(|refusal| refusal.number, |_| 0)
 }
 
+/// All pairs of two lists in one call, with marks and answers of these sizes.
+pub fn batch(library: &mut Library, index: &[u8], sources: &[u32], targets: &[u32], marks: usize, answers: usize) {
+    let (mut ours, mut theirs) = (vec![PATTERN; marks], vec![PATTERN; marks]);
+    let (mut got, mut expected) = (vec![0xdead_beef; answers], vec![0xdead_beef; answers]);
+    let result = library.batch(index, sources, targets, &mut ours, &mut got);
+    let right = independent::ask_all(index, sources, targets, &mut theirs, &mut expected);
+    assert_eq!(result, right, "{} sources, {} targets, {marks} marks, {answers} numbers of answers", sources.len(), targets.len());
+    assert!(got == expected, "the answers to {} pairs: {right:?}", sources.len());
+    assert_eq!(ours, theirs, "marks after {} pairs: {right:?}", sources.len());
+}
+
+/// The pairs in one call beside the same pairs asked one by one.
+pub fn batch_made(library: &mut Library, index: &[u8], n: usize, pairs: &[(u32, u32)]) {
+    let (sources, targets): (Vec<u32>, Vec<u32>) = pairs.iter().copied().unzip();
+    let before = vec![PATTERN; n + 3];
+    let (mut marks, mut answers) = (before.clone(), vec![0xdead_beef; 6 * pairs.len() + 2]);
+    assert_eq!(library.batch(index, &sources, &targets, &mut marks, &mut answers), Ok(pairs.len() as u32));
+    let mut last = before.clone();
+    last[..n].fill(0);
+    for (six, (asked, after)) in answers.chunks(6).zip(library.ask_all(index, &before, pairs)) {
+        let expected = match asked {
+            Err(refusal) => [refusal.number, refusal.extra, 0, 0, 0, 0],
+            Ok(said) => {
+                last = after;
+                [0, 0, said.yes as u32, said.reason, said.opened, said.labelling]
+            }
+        };
+        assert_eq!(six, expected, "a pair in the call and by itself");
+    }
+    assert_eq!(answers[6 * pairs.len()..], [0xdead_beef; 2], "the answer list behind the last pair");
+    assert_eq!(marks, last, "the marks of the last pair that was not refused");
+}
+
 /// The downstream list into a list that is longer than needed, exact, and one too short.
 pub fn list_around(library: &mut Library, index: &[u8], vertex: u32) {
     let marks = marks_for(index) + 3;

@@ -26,6 +26,7 @@ const LIST: u32 = 3;
 const BUILD: u32 = 4;
 const ASK_ALL: u32 = 5;
 const RUN: u32 = 6;
+const BATCH: u32 = 20;
 const BUILD_SMALL: u32 = 26;
 const ASK_SMALL: u32 = 27;
 
@@ -148,6 +149,20 @@ impl Library {
                 (Self::answer(reply), after)
             })
             .collect()
+    }
+
+    /// All pairs of two lists in one call, six numbers a pair.
+    pub fn batch(&mut self, index: &[u8], sources: &[u32], targets: &[u32], marks: &mut [u8], answers: &mut [u32]) -> Outcome<u32> {
+        self.number(BATCH);
+        self.bytes(index);
+        self.bytes(marks);
+        self.words(sources);
+        self.words(targets);
+        self.words(answers);
+        let [refusal, extra, count] = self.reply();
+        self.bytes_back(marks);
+        self.words_back(answers);
+        outcome(refusal, extra, count == 0, count)
     }
 
     pub fn list(&mut self, index: &[u8], vertex: u32, marks: &mut [u8], out: &mut [u32]) -> Outcome<u32> {

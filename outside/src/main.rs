@@ -1,4 +1,5 @@
-//! The long run: random graphs, questions and damaged images without end but a count, beside the independent program.
+//! The long run: random graphs, questions and damaged images without end but a count, beside the independent program. The questions of a graph are asked one by one and
+//! once more all in one call.
 //! `outside QUESTIONS IMAGES [SEED]` compares that many of each, with a line of progress every few seconds, and ends with tables of their numbers: the graphs by
 //! size, the questions by reason, the images by refusal.
 

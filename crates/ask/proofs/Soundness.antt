@@ -1,23 +1,32 @@
 -- What sound contents give a question: the sections are fit for the walk, and the answer between two places is the answer to the question.
-use mathlib.Core.Bool.{true}
+use mathlib.Core.Bool.{true, false, _||_}
 use mathlib.Core.Logic.{_≢_}
-use mathlib.Core.Path.{_≡_, refl, ap, _∙_}
+use mathlib.Core.Path.{_≡_, refl, sym, ap, _∙_}
 use mathlib.Core.List.{List, []}
 use Prim.Native.Nat.{ℕ, _+_, _-_, _≤_, _<_}
+use native.Mathlib.Decide.{ℕ-discrete}
 use native.Mathlib.Omega.{arith}
-use lib.ListN.{length, getD, replicate, length-replicate, getD-replicate}
+use lib.ListN.{length, getD, replicate}
+use borrow.Author.Tests.{le-leb}
 use Rattle.lineage.specs.Numbers.{numAt, numbers}
 use Rattle.lineage.specs.Sound.{childOf}
-use Rattle.lineage.specs.Question.{between, placeIn, walk, answer}
+use Rattle.lineage.specs.Labels.{Labelling}
+use Rattle.lineage.specs.Index.{Index}
+use Rattle.lineage.specs.Question.{outside, rule2, rule3, rule4, netOf, between, placeIn, walk, answer}
 use Rattle.laws.specs.Sound.{SoundGroups}
 use Rattle.laws.proofs.Lists.{in-getD}
-use Rattle.laws.proofs.Grouped.{group-name, levels-fall}
+use Rattle.laws.proofs.Tests.{or-false-left, or-false-right}
+use Rattle.laws.proofs.Grouped.{group-name, place-one, levels-fall}
+use Rattle.laws.proofs.Decides.{sound-decides}
+use Rattle.laws_answers.proofs.Tries.{Judges}
+use Rattle.laws_answers.proofs.Labellings.{none-is}
+use Rattle.laws_answers.proofs.Intervals.{judged}
 use Rattle.numbers.specs.Bounds.{vertexBound}
 use Rattle.numbers.proofs.Numbers.{numbers-long, numbers-at}
 use Rattle.stored_header.specs.declared.Layout.{Layout}
-use Rattle.stored.specs.Sections.{childrenIn, indexFrom, indexAt}
-use Rattle.stored.proofs.Sections.{children-long, starts-rise, starts-within, row-long, row-at}
-use Rattle.ask_walk.specs.Fit.{count, groupsIn, Fit}
+use Rattle.stored.specs.Sections.{childrenIn, labelsIn, indexFrom, indexAt}
+use Rattle.stored.proofs.Sections.{children-long, labels-long, starts-rise, starts-within, row-long, row-at}
+use Rattle.ask_walk.specs.Fit.{count, groupsIn, Fit, Sure}
 use Rattle.sound_places.specs.Lent.{Lent}
 use Rattle.sound_places.proofs.Vertices.{lent-sound}
 use Rattle.ask_walk.proofs.Rows.{count-is}
@@ -83,8 +92,38 @@ module _ {l : Layout} {names groups levels starts children labels : List ℕ} (S
           numbers-at w levels k (numAt w children i) child-low,
         )
 
+  -- the rules agree
+  module _ (t : ℕ) (t-low : t < k) where
+    abbrev J : Index
+    J = indexAt l names groups levels starts children labels
+
+    J-long : length (J .children) ≡ k
+    unfolding indexFrom
+    J-long = children-long w starts children k c
+
+    right : Judges (netOf J t) (length (J .children)) t
+    unfolding indexFrom
+    right = judged J (sound-decides J .0 (S .index-sound)) (omega (arith, labels-long w labels k (l .d), S .labellings-some)) t (omega (arith, J-long))
+
+    passes : (h : ℕ) → h < k → rule2 J h t ≡ true → h ≢ t → (rule3 J h t || rule4 J h t) ≡ false
+    passes h b y n = right .lets h (omega (arith, J-long)) (right .hits h (omega (arith, J-long)) y) n
+
+    sure-at : Sure (groupsIn w k (l .d) groups levels starts children labels) k t
+    unfolding indexFrom
+    sure-at = record {
+      home = right .home;
+      not-3 = λ h b y n. or-false-left (rule3 J h t) (rule4 J h t) (passes h b y n);
+      not-4 = λ h b y. elim (ℕ-discrete h t) [
+        | yes e ↦ rw e (none-is (outside t t) (labelsIn w labels k (l .d)) (λ z i. own-outer z))
+        | no n ↦ or-false-right (rule3 J h t) (rule4 J h t) (passes h b y n)
+      ];
+    }
+      where
+        own-outer : (z : Labelling) → outside t t z ≡ false
+        own-outer z = rw (le-leb (getD (z .s) t 0) (getD (z .s) t 0) (omega arith), le-leb (getD (z .e) t 0) (getD (z .e) t 0) (omega arith)) refl
+
   -- the sections are fit for the walk towards t
-  fit : (t : ℕ) → t < k → Fit w k (l .d) t groups levels starts children labels n
+  pub fit : (t : ℕ) → t < k → Fit w k (l .d) t groups levels starts children labels n
   fit t h =
       let all : count w children ≡ c = count-is w c children (S .width) (S .children-long) in
       record {
@@ -103,23 +142,18 @@ module _ {l : Layout} {names groups levels starts children labels : List ℕ} (S
         child-low = child-low;
         level-falls = level-falls;
         name-low = λ p b. omega (arith, numbers-at w groups k p b, numbers-long w names n, group-name sound p (omega (arith, rows-long)) .0);
+        name-one = λ p q b b' e.
+            place-one sound p q (omega (arith, rows-long)) (omega (arith, rows-long)) (numbers-at w groups k p b ∙ e ∙ sym (numbers-at w groups k q b'));
+        sure = sure-at t h;
       }
 
-  -- marks that are all 0, one for each vertex
-  module _ (m : List ℕ) (cleared : m ≡ replicate n 0) where
-    marks-long : length m ≡ n
-    marks-long = ap length cleared ∙ length-replicate n 0
-
+  -- with one mark for each vertex
+  module _ (m : List ℕ) (long : length m ≡ n) where
     pub marks-few : length m ≤ vertexBound
-    marks-few = omega (arith, marks-long, S .vertices-few)
+    marks-few = omega (arith, long, S .vertices-few)
 
     pub fit-marks : (t : ℕ) → t < k → Fit w k (l .d) t groups levels starts children labels (length m)
-    fit-marks t h = rw marks-long (fit t h)
-
-    pub none-marked : (p : ℕ) → p < k → getD m (numAt w groups p) 0 ≢ 1
-    none-marked p h z =
-        let unset : _≡_ {A = ℕ} (getD (replicate n 0) (numAt w groups p) 0) 0 = getD-replicate n (numAt w groups p) 0 0 (fit p h .name-low p h) in
-        omega (arith, z, ap (λ (q : List ℕ). getD q (numAt w groups p) 0) cleared)
+    fit-marks t h = rw long (fit t h)
 
   -- the answer between the places of u and v is the answer to the question
   pub question-is : (u v x t : ℕ) (m : List ℕ)

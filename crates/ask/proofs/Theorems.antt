@@ -81,7 +81,7 @@ module _ (b : List ℕ) (u v : ℕ) (marks : List ℕ) (s : Said) (e : askAnswer
   unfolding askMarks
   marks-are = rw (none-applies b u v (length marks) s e) refl
 
-  answer-long : length (answer I u v .marks) ≡ countsIn b .n
+  pub answer-long : length (answer I u v .marks) ≡ countsIn b .n
   answer-long = let (o, O, K) = marks-are-opened I (A .sound) u v source in ap length (K .marks) ∙ table-long _ (length (I .names)) ∙ names-many b
 
   own : take (countsIn b .n) (askMarks b u v marks) ≡ answer I u v .marks

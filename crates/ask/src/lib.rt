@@ -67,6 +67,7 @@ pub fn ask(index: &[u8], source: u32, target: u32, marks: &mut [u8]) -> Asked
         u,
         v,
         &mut marks[..n],
+        1,
     );
     Asked::Answer {
         says: r.says,

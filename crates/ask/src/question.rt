@@ -1,15 +1,15 @@
 // A question over the sections of a sound index: the six rules, of which the first that holds decides.
 ghost use mathlib.Core.Bool.{cond};
 ghost use mathlib.Core.Path.{_≡_};
-ghost use Prim.Native.Nat.{_≤_, _<_};
-ghost use lib.ListN.{length, getD, replicate};
-ghost use Rattle.lineage.specs.Numbers.{numAt};
+ghost use Prim.Native.Nat.{_+_, _≤_, _<_};
+ghost use lib.ListN.{length};
 ghost use Rattle.lineage.specs.Question.{between, answer};
 ghost use Rattle.lineage.specs.Stored.{mostLabellings};
 ghost use Rattle.numbers.specs.Bounds.{vertexBound};
 ghost use Rattle.stored.specs.Sections.{indexAt};
 ghost use Rattle.sound_places.specs.Lent.{Lent};
 ghost use Rattle.ask_walk.specs.Fit.{groupsIn, Fit};
+ghost use Rattle.ask_walk.specs.Stamps.{seenAs, Under};
 ghost use Rattle.ask.specs.Replies.{answerBy};
 use ask_walk::Seen;
 use stored_header::Layout;
@@ -71,25 +71,27 @@ pub fn decide(
     x: usize,
     t: usize,
     marks: &mut [u8],
+    stamp: u8,
 ) -> Reply
     requires { ⌜ Fit w k d t (now groups) (now levels) (now starts) (now children) (now labels) (length (now marks)) ⌝ }
-    requires { ⌜ (x < k) × ((getD (now marks) (numAt w (now groups) x) 0 ≡ 1 → ⊥) × (length (now marks) ≤ vertexBound)) ⌝ }
-    ensures { λ r. ⌜ answerBy r (now (marks .exit)) ≡ between (groupsIn w k d (now (groups .entry)) (now (levels .entry)) (now (starts .entry)) (now (children .entry)) (now (labels .entry))) x t (now (marks .entry)) ⌝ }
+    requires { ⌜ (x < k) × ((length (now marks) ≤ vertexBound) × Under stamp (now marks)) ⌝ }
+    ensures { λ r. ⌜ answerBy r (seenAs stamp (now (marks .exit))) ≡ between (groupsIn w k d (now (groups .entry)) (now (levels .entry)) (now (starts .entry)) (now (children .entry)) (now (labels .entry))) x t (seenAs stamp (now (marks .entry))) ⌝ }
+    ensures { λ _. ⌜ Under (stamp + 1) (now (marks .exit)) ⌝ }
+    ensures { λ r. ⌜ (r .opened ≡ 0 → now (marks .exit) ≡ now (marks .entry)) ⌝ }
 {
     if x == t {
         return plain(true, 1, 0);
-    }
-    let inner = ask_intervals::inner_by(labels, w, k, d, x, t);
-    if 0 < inner {
-        return plain(true, 2, inner);
     }
     let level = numbers::num(levels, w, x);
     if level <= numbers::num(levels, w, t) {
         return plain(false, 3, 0);
     }
-    let outer = ask_intervals::outer_by(labels, w, k, d, x, t);
-    if 0 < outer {
-        return plain(false, 4, outer);
+    let j = ask_intervals::judge(labels, w, k, d, x, t);
+    if 0 < j.inside {
+        return plain(true, 2, j.inside);
+    }
+    if 0 < j.outside {
+        return plain(false, 4, j.outside);
     }
     let a = ask_walk::open_group(
         groups,
@@ -104,11 +106,13 @@ pub fn decide(
         marks,
         level,
         x,
+        stamp,
     );
     by_walk(a)
 }
 
-// The answer between two vertices; the marks, one for each vertex, are all 0 before.
+// The answer between two vertices; of the marks, one for each vertex, none bears the stamp before, and none a higher one. Where no group is opened, the marks
+// stay as they were.
 pub fn question(
     names: &[u8],
     groups: &[u8],
@@ -120,10 +124,13 @@ pub fn question(
     u: usize,
     v: usize,
     marks: &mut [u8],
+    stamp: u8,
 ) -> Reply
     requires { ⌜ Lent l (now names) (now groups) (now levels) (now starts) (now children) (now labels) ⌝ }
-    requires { ⌜ (u < l .n) × ((v < l .n) × (now marks ≡ replicate (l .n) 0)) ⌝ }
-    ensures { λ r. ⌜ answerBy r (now (marks .exit)) ≡ answer (indexAt l (now (names .entry)) (now (groups .entry)) (now (levels .entry)) (now (starts .entry)) (now (children .entry)) (now (labels .entry))) u v ⌝ }
+    requires { ⌜ (u < l .n) × ((v < l .n) × ((length (now marks) ≡ l .n) × Under stamp (now marks))) ⌝ }
+    ensures { λ r. ⌜ answerBy r (seenAs stamp (now (marks .exit))) ≡ answer (indexAt l (now (names .entry)) (now (groups .entry)) (now (levels .entry)) (now (starts .entry)) (now (children .entry)) (now (labels .entry))) u v ⌝ }
+    ensures { λ _. ⌜ Under (stamp + 1) (now (marks .exit)) ⌝ }
+    ensures { λ r. ⌜ (r .opened ≡ 0 → now (marks .exit) ≡ now (marks .entry)) ⌝ }
 {
     let w = l.width;
     let n = l.n;
@@ -142,5 +149,6 @@ pub fn question(
         x,
         t,
         marks,
+        stamp,
     )
 }

@@ -1,24 +1,27 @@
--- The labellings of a labels section, one after the other. Each has its triples within the labels; the two bounds that are read off them are those of its
--- intervals; and the number of the first labelling that passes a test is found by going through them, 0 where none does.
+-- The labellings of a labels section, one after the other. Each has its triples within the labels; the bounds that are read off them decide as its intervals do;
+-- and the first labelling that decides is found by going through them.
 use mathlib.Core.Path.{_≡_, refl, sym, ap, _∙_}
-use mathlib.Core.Bool.{Bool, true, false, not, _&&_, _||_, cond, and-false}
-use mathlib.Core.List.{List, [], _∷_}
+use mathlib.Core.Bool.{Bool, true, false, not, _&&_, cond, and-false}
+use mathlib.Core.Logic.{_≢_}
+use mathlib.Core.List.{List, _∷_}
 use Prim.Native.Nat.{ℕ, zero, suc, _+_, _*_, _≤_, _<_}
 use native.Mathlib.Omega.{arith}
 use native.Mathlib.Numerals.{add-one}
 use native.Mathlib.Nat.{mul-le-mul-left}
 use borrow.Author.Count.{below-more}
-use borrow.Author.Tests.{lt-ltb}
-use lib.Dec.{ltb}
+use borrow.Author.Tests.{not-true, not-false}
+use lib.Dec.{eqb, leb}
 use lib.ListN.{length, drop, drop-of-length-le}
 use lib.Seq.{drop-cons}
 use Rattle.lineage.specs.Labels.{Labelling}
-use Rattle.lineage.specs.Question.{inside, outside, someLabelling, firstFrom, firstLabelling}
+use Rattle.lineage.specs.Numbers.{numAt}
+use Rattle.lineage.specs.Question.{inside, outside}
+use Rattle.laws.proofs.Tests.{and-both}
 use Rattle.laws.proofs.Lists.{table-at}
 use Rattle.numbers.specs.Regions.{Part}
 use Rattle.stored.specs.Sections.{labellingIn, triplesOf, placesOf, labelsIn}
 use Rattle.stored.proofs.Sections.{s-at, m-at, e-at, labels-long}
-use Rattle.ask_intervals.specs.Intervals.{innerBound, outerBound}
+use Rattle.ask_intervals.specs.Intervals.{judgedBy, judgedFrom, judged, undecidedBy}
 
 -- number i of the triple of x lies within l bytes
 pub in-triple : (w x i l : ℕ) → (i < 3) × (w * (3 * x + 3) ≤ l) → w * (3 * x + i) + w ≤ l
@@ -28,18 +31,28 @@ in-triple w x i l h = omega (arith, mul-le-mul-left w (h .0))
 pub in-triples : (w k x : ℕ) (labels triples : List ℕ) {at : ℕ} → Part labels at (w * (3 * k)) triples → x < k → w * (3 * x + 3) ≤ length triples
 in-triples w k x labels triples P h = let own : 3 * x + 3 ≤ 3 * k = omega arith in omega (arith, mul-le-mul-left w own, P .long)
 
--- two bounds of which both hold, or one fails
-both-hold : (p : ℕ → Bool) → ((b : ℕ) → b < 2 → p b ≡ true) → (p 0 && p 1) ≡ true
-both-hold p h = rw (h 0 (omega arith), h 1 (omega arith))
-
-one-fails : (p : ℕ → Bool) (b : ℕ) → b < 2 → p b ≡ false → (p 0 && p 1) ≡ false
-one-fails p zero h e = rw e
-one-fails p (suc zero) h e = rw e (and-false (p 0))
-one-fails p (suc (suc b)) h e = absurd (omega arith)
-
--- one bound more holds
+-- one bound more decides nothing
 pub one-more : (p : ℕ → Bool) (b : ℕ) (r : Bool) → ((j : ℕ) → j < b → p j ≡ true) → r ≡ p b → r ≡ true → (j : ℕ) → j < b + 1 → p j ≡ true
 one-more p b r below e h = below-more (λ j. p j ≡ true) b below (cc)
+
+-- The three bounds: a, the upper one holds; c, the inner lower one does; s, the outer lower one does. The first that decides tells what the intervals do.
+module _ (a c s : Bool) where
+  abbrev still : ℕ → Bool
+  still b = cond (eqb b 0) a (cond (eqb b 1) (not c) s)
+
+  hits : (b : ℕ) → b ≡ 1 → ((j : ℕ) → j < b → still j ≡ true) → still b ≡ false → (c && a) ≡ true
+  hits zero e below f = absurd (omega arith)
+  hits (suc zero) e below f = and-both (not-false c f) (below 0 (omega arith))
+  hits (suc (suc b)) e below f = absurd (omega arith)
+
+  cuts : (b : ℕ) → b < 3 → b ≢ 1 → ((j : ℕ) → j < b → still j ≡ true) → still b ≡ false → ((c && a) ≡ false) × (not (s && a) ≡ true)
+  cuts zero h n below f = rw f (and-false c, ap not (and-false s))
+  cuts (suc zero) h n below f = absurd (n refl)
+  cuts (suc (suc zero)) h n below f = rw (f, not-true c (below 1 (omega arith))) (refl, refl)
+  cuts (suc (suc (suc b))) h n below f = absurd (omega arith)
+
+  leaves : ((j : ℕ) → j < 3 → still j ≡ true) → ((c && a) ≡ false) × (not (s && a) ≡ false)
+  leaves h = rw (h 0 (omega arith), not-true c (h 1 (omega arith)), h 2 (omega arith)) (refl, refl)
 
 module _ (w k : ℕ) (labels : List ℕ) where
   -- labelling l of the labels
@@ -51,34 +64,44 @@ module _ (w k : ℕ) (labels : List ℕ) where
     unfolding triplesOf
     read = P .is
 
-    inside-is : inside x t (own l) ≡ (innerBound w triples x t 0 && innerBound w triples x t 1)
+    -- its three bounds
+    abbrev upper : Bool
+    upper = leb (numAt w triples (3 * t + 2)) (numAt w triples (3 * x + 2))
+
+    abbrev inner : Bool
+    inner = leb (numAt w triples (3 * x + 1)) (numAt w triples (3 * t + 2))
+
+    abbrev outer : Bool
+    outer = leb (numAt w triples (3 * x)) (numAt w triples (3 * t))
+
+    inside-is : inside x t (own l) ≡ (inner && upper)
     inside-is = rw (read, m-at _ _ _ _ x x-low, e-at _ _ _ _ t t-low, e-at _ _ _ _ x x-low) refl
 
-    pub is-inside : ((b : ℕ) → b < 2 → innerBound w triples x t b ≡ true) → inside x t (own l) ≡ true
-    is-inside h = inside-is ∙ both-hold (innerBound w triples x t) h
-
-    pub not-inside : (b : ℕ) (r : Bool) → b < 2 → r ≡ innerBound w triples x t b → r ≡ false → inside x t (own l) ≡ false
-    not-inside b r h i f = inside-is ∙ one-fails (innerBound w triples x t) b h (cc)
-
-    outside-is : outside x t (own l) ≡ not (outerBound w triples x t 0 && outerBound w triples x t 1)
+    outside-is : outside x t (own l) ≡ not (outer && upper)
     outside-is = rw (read, s-at _ _ _ _ x x-low, s-at _ _ _ _ t t-low, e-at _ _ _ _ t t-low, e-at _ _ _ _ x x-low) refl
 
-    pub is-outside : (b : ℕ) (r : Bool) → b < 2 → r ≡ outerBound w triples x t b → r ≡ false → outside x t (own l) ≡ true
-    is-outside b r h i f = outside-is ∙ ap not (one-fails (outerBound w triples x t) b h (cc))
+    -- bound b is the first that decides, as was read
+    module _ (b : ℕ) (r : Bool) (below : (j : ℕ) → j < b → undecidedBy w triples x t j ≡ true) (is : r ≡ undecidedBy w triples x t b) (f : r ≡ false) where
+      pub is-inside : b ≡ 1 → inside x t (own l) ≡ true
+      is-inside e = inside-is ∙ hits upper inner outer b e below (sym is ∙ f)
 
-    pub not-outside : ((b : ℕ) → b < 2 → outerBound w triples x t b ≡ true) → outside x t (own l) ≡ false
-    not-outside h = outside-is ∙ ap not (both-hold (outerBound w triples x t) h)
+      pub is-outside : b < 3 → b ≢ 1 → (inside x t (own l) ≡ false) × (outside x t (own l) ≡ true)
+      is-outside h n = let d = cuts upper inner outer b h n below (sym is ∙ f) in (inside-is ∙ d .0, outside-is ∙ d .1)
 
-  -- none of the first l labellings of d passes the test
-  pub record NonePassed (p : Labelling → Bool) (d l : ℕ) : Type 0 where
+    -- no bound decides
+    pub is-neither : ((j : ℕ) → j < 3 → undecidedBy w triples x t j ≡ true) → (inside x t (own l) ≡ false) × (outside x t (own l) ≡ false)
+    is-neither h = let d = leaves upper inner outer h in (inside-is ∙ d .0, outside-is ∙ d .1)
+
+  -- none of the first l labellings of d decides
+  pub record Judging (x t d l : ℕ) : Type 0 where
     pub low : l ≤ d
-    pub left : firstFrom (l + 1) p (drop l (labelsIn w labels k d)) ≡ firstLabelling p (labelsIn w labels k d)
+    pub left : judgedFrom (l + 1) x t (drop l (labelsIn w labels k d)) ≡ judged x t (labelsIn w labels k d)
 
-  module _ (p : Labelling → Bool) (d : ℕ) where
-    pub none-begins : NonePassed p d 0
-    none-begins = record { low = omega arith; left = refl }
+  module _ (x t d : ℕ) where
+    pub judging-none : Judging x t d 0
+    judging-none = record { low = omega arith; left = refl }
 
-    module _ (l : ℕ) (P : NonePassed p d l) where
+    module _ (l : ℕ) (J : Judging x t d l) where
       ahead : l < d → drop l (labelsIn w labels k d) ≡ own l ∷ drop (l + 1) (labelsIn w labels k d)
       unfolding labelsIn
       ahead h =
@@ -86,29 +109,23 @@ module _ (w k : ℕ) (labels : List ℕ) where
           (drop-cons (labelsIn w labels k d) l (own l) (omega (arith, labels-long w labels k d))
           ∙ ap (_∷ drop (suc l) (labelsIn w labels k d)) (table-at own d l (own l) h))
 
-      turned : l < d → cond (p (own l)) (l + 1) (firstFrom (l + 1 + 1) p (drop (l + 1) (labelsIn w labels k d))) ≡ firstLabelling p (labelsIn w labels k d)
-      turned h = simp add-one (simp add-one at (rw (ahead h) at (P .left)))
+      turned :
+          l < d
+          → judgedBy (inside x t (own l)) (outside x t (own l)) (l + 1) (judgedFrom (l + 1 + 1) x t (drop (l + 1) (labelsIn w labels k d)))
+          ≡ judged x t (labelsIn w labels k d)
+      turned h = simp add-one (simp add-one at (rw (ahead h) at (J .left)))
 
-      pub none-more : l < d → p (own l) ≡ false → NonePassed p d (l + 1)
-      none-more h e = record { low = omega arith; left = rw e at (turned h) }
+      pub judging-more : l < d → (inside x t (own l) ≡ false) × (outside x t (own l) ≡ false) → Judging x t d (l + 1)
+      judging-more h e = record { low = omega arith; left = rw (e .0, e .1) at (turned h) }
 
-      pub none-found : l < d → p (own l) ≡ true → l + 1 ≡ firstLabelling p (labelsIn w labels k d)
-      none-found h e = rw e at (turned h)
+      pub judging-inside : l < d → inside x t (own l) ≡ true → record { inside = l + 1; outside = 0 } ≡ judged x t (labelsIn w labels k d)
+      judging-inside h e = rw e at (turned h)
 
-      pub none-all : d ≤ l → 0 ≡ firstLabelling p (labelsIn w labels k d)
-      none-all h =
+      pub judging-outside :
+          l < d → (inside x t (own l) ≡ false) × (outside x t (own l) ≡ true) → record { inside = 0; outside = l + 1 } ≡ judged x t (labelsIn w labels k d)
+      judging-outside h e = rw (e .0, e .1) at (turned h)
+
+      pub judging-all : d ≤ l → record { inside = 0; outside = 0 } ≡ judged x t (labelsIn w labels k d)
+      judging-all h =
           let high : length (labelsIn w labels k d) ≤ l = omega (arith, labels-long w labels k d) in
-          ap (firstFrom (l + 1) p) (sym (drop-of-length-le (labelsIn w labels k d) high)) ∙ P .left
-
--- a number is given exactly where some labelling passes
-module _ (p : Labelling → Bool) where
-  given-from : (n : ℕ) (ls : List Labelling) → someLabelling p ls ≡ ltb 0 (firstFrom (suc n) p ls)
-  given-from n [] = refl
-  given-from n (l ∷ ls) = at (p l) (given-from (suc n) ls)
-    where
-      at : (b : Bool) → someLabelling p ls ≡ ltb 0 (firstFrom (suc (suc n)) p ls) → (b || someLabelling p ls) ≡ ltb 0 (cond b (suc n) (firstFrom (suc (suc n)) p ls))
-      at true ih = sym (lt-ltb 0 (suc n) (omega arith))
-      at false ih = ih
-
-  pub first-given : (ls : List Labelling) → someLabelling p ls ≡ ltb 0 (firstLabelling p ls)
-  first-given ls = given-from 0 ls
+          ap (judgedFrom (l + 1) x t) (sym (drop-of-length-le (labelsIn w labels k d) high)) ∙ J .left

@@ -1,5 +1,5 @@
 -- The net that fit sections hold, field by field as the code reads it, and a group of it opened.
-use mathlib.Core.Bool.{Bool, true, false, _||_}
+use mathlib.Core.Bool.{Bool, true, false}
 use mathlib.Core.Logic.{_≢_}
 use mathlib.Core.Path.{_≡_, refl, sym, _∙_}
 use mathlib.Core.List.{List, [], _∷_}
@@ -9,16 +9,16 @@ use lib.ListN.{length, getD, set, length-set}
 use borrow.Author.Tests.{lt-ltb, le-ltb, ne-eqb}
 use Rattle.lineage.specs.Lists.{Every}
 use Rattle.lineage.specs.Numbers.{numAt}
-use Rattle.lineage.specs.Walk.{Net, walked, marked, openAt, tryAt}
+use Rattle.lineage.specs.Walk.{Net, walked, openAt, tryAt}
 use Rattle.lineage.specs.Question.{inside, firstLabelling}
 use Rattle.laws.proofs.Lists.{ones-set}
+use Rattle.ask_intervals.proofs.Deciding.{first-given}
 use Rattle.numbers.proofs.Numbers.{numbers-at}
 use Rattle.stored.specs.Sections.{ChildrenOf, childrenIn, labelsIn}
 use Rattle.stored.proofs.Sections.{row-long, row-at}
-use Rattle.ask_intervals.proofs.Labellings.{first-given}
-use Rattle.ask_walk.specs.Fit.{count, all, netIn, passedOver, Fit}
+use Rattle.ask_walk.specs.Fit.{count, all, netIn, Fit, Safe}
 use Rattle.ask_walk.proofs.Rows.{row-all}
-use Rattle.ask_walk.proofs.Counting.{Within, Gains, try-gains, open-gains, ones-low}
+use Rattle.ask_walk.proofs.Counting.{Within, Gains, try-gains, open-gains, ones-low, safe-set, open-safe}
 use Rattle.ask_walk.proofs.Trying.{open-is}
 
 -- a property of each element by its position
@@ -43,11 +43,6 @@ module _ {w k d t : ℕ} {groups levels starts children labels : List ℕ} {mark
     pub net-not-yes : l ≤ 0 → N .yes h ≡ false
     unfolding netIn
     net-not-yes b = first-given (inside h t) (labelsIn w labels k d) ∙ rw (← e) (le-ltb 0 l b)
-
-  -- whether h is passed over
-  pub net-over : (m : List ℕ) (h : ℕ) → passedOver w k d t groups levels labels m h ≡ (marked N m h || N .no h)
-  unfolding passedOver netIn
-  net-over m h = refl
 
   -- a group's mark stands at its name
   pub net-spot : (g : ℕ) → g < k → numAt w groups g ≡ N .spot g
@@ -75,6 +70,16 @@ module _ {w k d t : ℕ} {groups levels starts children labels : List ℕ} {mark
     children = λ p h. rw (← net-children p) (children-low p h);
     spots = λ p h. rw (← net-spot p h) (F .name-low p h);
   }
+
+  -- marks are safe behind an opening
+  own : (p q : ℕ) → p < k → q < k → N .spot p ≡ N .spot q → p ≡ q
+  own p q b c e = F .name-one p q b c (net-spot p b ∙ e ∙ sym (net-spot q c))
+
+  pub net-marked : (g name : ℕ) (m : List ℕ) → g < k → name ≡ numAt w groups g → N .yes g ≡ false → Safe N k m → Safe N k (set m name 1)
+  net-marked g name m low named not-hit S = rw (named ∙ net-spot g low) (safe-set N (net-within .children) own g m low not-hit S)
+
+  pub net-safe : (L h : ℕ) (m : List ℕ) → h < k → N .yes h ≡ false → Safe N k m → Safe N k (openAt N L h m .marks)
+  net-safe L h m = open-safe N (net-within .children) own L h m
 
   -- opening g: its name and its row were read, and its row was tried
   module _ (g name L : ℕ) (row m : List ℕ) (f : Bool) (l n : ℕ) (m' : List ℕ) (low : g < k) (named : name ≡ numAt w groups g) (P : ChildrenOf starts children w g row)

@@ -1,2 +1,3 @@
--- What the contracts of this crate say of the stored sections.
+-- What the contracts of this crate say of the stored sections and of the marks.
+pub mod Stamps
 pub mod Fit

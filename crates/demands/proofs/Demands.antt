@@ -6,12 +6,16 @@ use Rattle.open.proofs.open as open-call
 use Rattle.open.proofs.Theorem.{opened-once}
 use Rattle.ask.proofs.ask as ask-call
 use Rattle.ask.proofs.Theorems.{asked-once}
+use Rattle.ask_all.specs.Batch.{batchAnswer}
+use Rattle.ask_all.proofs.ask_all as ask-all-call
+use Rattle.ask_all.proofs.Theorems.{batch-once}
 use Rattle.list.proofs.list as list-call
 use Rattle.list.proofs.Theorems.{listed-once}
 use Rattle.text_run.proofs.run as run-call
 use Rattle.text_run.proofs.Theorems.{ran-once}
 use Rattle.drobisten.proofs.drobisten_open as host-open-call
 use Rattle.drobisten.proofs.drobisten_ask as host-ask-call
+use Rattle.drobisten.proofs.drobisten_ask_all as host-ask-all-call
 use Rattle.drobisten.proofs.Theorems as host
 use Rattle.demands.specs.Calls.{EveryCall}
 use Rattle.demands.specs.Stored.{AsGrail}
@@ -23,7 +27,7 @@ use Rattle.demands.proofs.Orders.{fewer, on-a-no}
 
 -- 1. The checker's theorem of each call is cited; what the contract says is, equation by equation, what is allowed.
 pub demand-1 : EveryCall
-unfolding buildAnswer openAnswer askAnswer listAnswer
+unfolding buildAnswer openAnswer askAnswer batchAnswer listAnswer
 demand-1 = record {
   build = record {
     met = build-call.Met.met;
@@ -42,6 +46,12 @@ demand-1 = record {
     nothing-asked = λ κs a. tt;
     allows = λ κs a r e (answers, leaves). record { answers = answers; leaves = leaves };
     once = λ κs a r r' e e'. asked-once;
+  };
+  ask-all = record {
+    met = ask-all-call.Met.met;
+    nothing-asked = λ κs a. tt;
+    allows = λ κs a r e (returns, (leaves, writes)). record { returns = returns; leaves = leaves; writes = writes };
+    once = λ κs a r r' e e'. batch-once;
   };
   list = record {
     met = list-call.Met.met;
@@ -67,9 +77,16 @@ demand-1 = record {
     allows = λ κs a r e (returns, leaves). record { returns = returns; leaves = leaves };
     once = λ κs a r r' e e'. host.asked-once;
   };
+  host-ask-all = record {
+    met = host-ask-all-call.Met.met;
+    nothing-asked = λ κs a. tt;
+    allows = λ κs a r e (returns, (leaves, writes)). record { returns = returns; leaves = leaves; writes = writes };
+    once = λ κs a r r' e e'. host.asked-all-once;
+  };
   build-refuses = λ F B work out number extra. first-refusal _ number extra _;
   open-refuses = λ b marks number extra. first-refusal _ number extra _;
   ask-refuses = λ b u v marks number extra. first-refusal _ number extra _;
+  ask-all-refuses = λ b S T marks answers number extra. first-refusal _ number extra _;
   list-refuses = λ b u marks out number extra. first-refusal _ number extra _;
 }
 

@@ -19,12 +19,16 @@ use Rattle.open.proofs.open as open-call
 use Rattle.open.proofs.Theorem as opening
 use Rattle.ask.proofs.ask as ask-call
 use Rattle.ask.proofs.Theorems as ask
+use Rattle.ask_all.specs.Batch.{batchLate, batchAnswer}
+use Rattle.ask_all.proofs.ask_all as ask-all-call
+use Rattle.ask_all.proofs.Theorems as ask-all
 use Rattle.list.proofs.list as list-call
 use Rattle.list.specs.Listed as list
 use Rattle.text_run.proofs.run as run-call
 use Rattle.text_run.proofs.Theorems as run
 use Rattle.drobisten.proofs.drobisten_open as host-open-call
 use Rattle.drobisten.proofs.drobisten_ask as host-ask-call
+use Rattle.drobisten.proofs.drobisten_ask_all as host-ask-all-call
 use Rattle.drobisten.proofs.Theorems as host
 
 -- Of one call. `meets` is its theorem as the checker states it; `asked` and `learnt` are its contract as callers have it: what is asked of the arguments a, and what
@@ -63,6 +67,10 @@ pub record EveryCall : Type 2 where
   pub ask : Answers ask-call.Kinds.ps ask-call.Kinds.r ask-call.Statement.statement ask-call.Reads.Asked ask-call.Reads.Learnt
       (λ κs (index, (source, (target, (marks, _)))) r (_, (_, (_, (marks', _)))). ask.Allowed (now index) source target (now marks) r (now marks'))
       (λ κs (_, (_, (_, (marks, _)))) (_, (_, (_, (marks', _)))). now marks ≡ now marks')
+  pub ask-all : Answers ask-all-call.Kinds.ps ask-all-call.Kinds.r ask-all-call.Statement.statement ask-all-call.Reads.Asked ask-all-call.Reads.Learnt
+      (λ κs (index, (sources, (targets, (marks, (answers, _))))) r (_, (_, (_, (marks', (answers', _))))).
+      ask-all.Allowed (now index) (now sources) (now targets) (now marks) (now answers) r (now marks') (now answers'))
+      (λ κs (_, (_, (_, (marks, (answers, _))))) (_, (_, (_, (marks', (answers', _))))). (now marks ≡ now marks') × (now answers ≡ now answers'))
   pub list : Answers list-call.Kinds.ps list-call.Kinds.r list-call.Statement.statement list-call.Reads.Asked list-call.Reads.Learnt
       (λ κs (index, (vertex, (marks, (out, _)))) r (_, (_, (marks', (out', _)))).
       list.Allowed (now index) vertex (now marks) (now out) r (now marks') (now out'))
@@ -78,6 +86,11 @@ pub record EveryCall : Type 2 where
   pub host-ask : Answers host-ask-call.Kinds.ps host-ask-call.Kinds.r host-ask-call.Statement.statement host-ask-call.Reads.Asked host-ask-call.Reads.Learnt
       (λ κs (index, (marks, (source, (target, _)))) r (_, (marks', _)). host.Asks (now index) source target (now marks) r (now marks'))
       (λ κs (_, (marks, _)) (_, (marks', _)). now marks ≡ now marks')
+  pub host-ask-all : Answers host-ask-all-call.Kinds.ps host-ask-all-call.Kinds.r host-ask-all-call.Statement.statement host-ask-all-call.Reads.Asked
+      host-ask-all-call.Reads.Learnt
+      (λ κs (index, (marks, (sources, (targets, (answers, _))))) r (_, (marks', (_, (_, (answers', _))))).
+      host.AsksAll (now index) (now sources) (now targets) (now marks) (now answers) r (now marks') (now answers'))
+      (λ κs (_, (marks, (_, (_, (answers, _))))) (_, (marks', (_, (_, (answers', _))))). (now marks ≡ now marks') × (now answers ≡ now answers'))
   -- a refusal is given exactly when its check applies and none above it does
   pub build-refuses : (F : Form) (B : Input) (work out number extra : ℕ)
       → (buildAnswer F B work out ≡ refused number extra) ↔ Refuses (buildEarly F B work ++ buildLate F B out) number extra
@@ -85,5 +98,7 @@ pub record EveryCall : Type 2 where
       → (openAnswer b marks ≡ refused number extra) ↔ Refuses (formChecks b marks ++ (contentsCheck b ∷ [])) number extra
   pub ask-refuses : (b : List ℕ) (u v marks number extra : ℕ)
       → (askAnswer b u v marks ≡ refused number extra) ↔ Refuses (askEarly b u v marks ++ (contentsCheck b ∷ [])) number extra
+  pub ask-all-refuses : (b S T : List ℕ) (marks answers number extra : ℕ)
+      → (batchAnswer b S T marks answers ≡ refused number extra) ↔ Refuses (formChecks b marks ++ batchLate b S T answers) number extra
   pub list-refuses : (b : List ℕ) (u marks out number extra : ℕ)
       → (listAnswer b u marks out ≡ refused number extra) ↔ Refuses (listEarly b u marks ++ listLate b u out) number extra

@@ -19,9 +19,11 @@ use Rattle.laws.specs.Checks.{Told}
 use Rattle.laws.proofs.Checks.{outcome-told}
 use Rattle.laws_answers.specs.Answers.{Deciding}
 use Rattle.ask.proofs.Theorems.{asked-right, asked-deciding}
+use Rattle.ask_all.specs.Batch.{batchLate, batchAnswer, batchAnswers, batchMarks}
 use Rattle.drobisten.specs.declared.DrobistenOpened.{DrobistenOpened}
 use Rattle.drobisten.specs.declared.DrobistenAsked.{DrobistenAsked}
-use Rattle.drobisten.specs.Host.{hostOpened, hostAsked, openedBy, askedBy}
+use Rattle.drobisten.specs.declared.DrobistenAskedAll.{DrobistenAskedAll}
+use Rattle.drobisten.specs.Host.{hostOpened, hostAsked, hostAskedAll, openedBy, askedBy, askedAllBy}
 
 -- a refusal's number is above 0; of an answer nothing is asked
 abbrev Some : ℕ → ℕ → Type 0
@@ -59,7 +61,18 @@ asked-read b u v m =
     (outcome-told (saidOf (answer (indexIn b) u v)) Some Any (askEarly b u v m ++ (contentsCheck b ∷ []))
     (omega arith, (omega arith, (omega arith, (omega arith, (omega arith, (omega arith, (omega arith, tt))))))) tt)
 
--- what `drobisten_open` and `drobisten_ask` may return and leave, by their contracts
+asked-all-back : (o : Outcome ℕ) → Told Some Any o → askedAllBy (hostAskedAll o) ≡ o
+asked-all-back (refused number extra) some = rw (ne-eqb number 0 (λ e. omega arith)) refl
+asked-all-back (answered count) some = refl
+
+pub asked-all-read : (b S T : List ℕ) (m a : ℕ) → askedAllBy (hostAskedAll (batchAnswer b S T m a)) ≡ batchAnswer b S T m a
+unfolding batchAnswer
+asked-all-read b S T m a =
+    asked-all-back (batchAnswer b S T m a)
+    (outcome-told (length S) Some Any (formChecks b m ++ batchLate b S T a)
+    (omega arith, (omega arith, (omega arith, (omega arith, (omega arith, (omega arith, (omega arith, tt))))))) tt)
+
+-- what `drobisten_open`, `drobisten_ask` and `drobisten_ask_all` may return and leave, by their contracts
 pub record Opens (b marks : List ℕ) (r : DrobistenOpened) (m : List ℕ) : Type 0 where
   pub returns : r ≡ hostOpened (openAnswer b (length marks))
   pub leaves : m ≡ openMarks b marks
@@ -68,12 +81,22 @@ pub record Asks (b : List ℕ) (u v : ℕ) (marks : List ℕ) (r : DrobistenAske
   pub returns : r ≡ hostAsked (askAnswer b u v (length marks))
   pub leaves : m ≡ askMarks b u v marks
 
+pub record AsksAll (b S T marks answers : List ℕ) (r : DrobistenAskedAll) (m a : List ℕ) : Type 0 where
+  pub returns : r ≡ hostAskedAll (batchAnswer b S T (length marks) (length answers))
+  pub leaves : m ≡ batchMarks b S T (length answers) marks
+  pub writes : a ≡ batchAnswers b S T (length marks) answers
+
 -- two results are equal
 pub opened-once : {b marks : List ℕ} {r r' : DrobistenOpened} {m m' : List ℕ} → Opens b marks r m → Opens b marks r' m' → (r ≡ r') × (m ≡ m')
 opened-once A B = (A .returns ∙ sym (B .returns), A .leaves ∙ sym (B .leaves))
 
 pub asked-once : {b : List ℕ} {u v : ℕ} {marks : List ℕ} {r r' : DrobistenAsked} {m m' : List ℕ} → Asks b u v marks r m → Asks b u v marks r' m' → (r ≡ r') × (m ≡ m')
 asked-once A B = (A .returns ∙ sym (B .returns), A .leaves ∙ sym (B .leaves))
+
+pub asked-all-once :
+    {b S T marks answers : List ℕ} {r r' : DrobistenAskedAll} {m m' a a' : List ℕ}
+    → AsksAll b S T marks answers r m a → AsksAll b S T marks answers r' m' a' → (r ≡ r') × ((m ≡ m') × (a ≡ a'))
+asked-all-once A B = (A .returns ∙ sym (B .returns), (A .leaves ∙ sym (B .leaves), A .writes ∙ sym (B .writes)))
 
 -- Of an answer, which is where the refusal is 0.
 module _ {b : List ℕ} {u v : ℕ} {marks : List ℕ} {r : DrobistenAsked} {m : List ℕ} (A : Asks b u v marks r m) (none : r .refusal ≡ 0) where

@@ -1,10 +1,12 @@
 -- The numbers that the host is given: the refusal's number is 0 where there is none, and with a refusal the numbers of the answer are 0.
 use mathlib.Core.Bool.{cond}
+use Prim.Native.Nat.{ℕ}
 use lib.Dec.{eqb}
 use Rattle.lineage.specs.Stored.{Counts}
 use Rattle.lineage.specs.Calls.{Outcome, refused, answered, Said}
 use Rattle.drobisten.specs.declared.DrobistenOpened.{DrobistenOpened}
 use Rattle.drobisten.specs.declared.DrobistenAsked.{DrobistenAsked}
+use Rattle.drobisten.specs.declared.DrobistenAskedAll.{DrobistenAskedAll}
 
 -- a refusal with its extra number, or n, k, c and d
 abbrev pub hostOpened : Outcome Counts → DrobistenOpened
@@ -16,9 +18,17 @@ abbrev pub hostAsked : Outcome Said → DrobistenAsked
 hostAsked (refused number extra) = record { refusal = number; extra = extra; yes = 0; reason = 0; opened = 0; labelling = 0 }
 hostAsked (answered s) = record { refusal = 0; extra = 0; yes = cond (s .says) 1 0; reason = s .reason; opened = s .opened; labelling = s .deciding }
 
+-- a refusal with its extra number, or the number of pairs
+abbrev pub hostAskedAll : Outcome ℕ → DrobistenAskedAll
+hostAskedAll (refused number extra) = record { refusal = number; extra = extra; count = 0 }
+hostAskedAll (answered count) = record { refusal = 0; extra = 0; count = count }
+
 -- how a host reads them: no refusal has the number 0
 abbrev pub openedBy : DrobistenOpened → Outcome Counts
 openedBy r = cond (eqb (r .refusal) 0) (answered (record { n = r .n; k = r .k; c = r .c; d = r .d })) (refused (r .refusal) (r .extra))
+
+abbrev pub askedAllBy : DrobistenAskedAll → Outcome ℕ
+askedAllBy r = cond (eqb (r .refusal) 0) (answered (r .count)) (refused (r .refusal) (r .extra))
 
 abbrev pub askedBy : DrobistenAsked → Outcome Said
 askedBy r = cond (eqb (r .refusal) 0) (answered (record { says = eqb (r .yes) 1; reason = r .reason; opened = r .opened; deciding = r .labelling })) (refused (r .refusal) (r .extra))

@@ -1,9 +1,11 @@
-// The C face: open and ask for a host in C, on plain numbers and byte buffers. include/drobisten.h is its manual.
+// The C face: open, ask and ask all pairs of two lists, for a host in C, on plain numbers and byte buffers. include/drobisten.h is its manual.
 ghost use mathlib.Core.Path.{_≡_};
 ghost use lib.ListN.{length};
 ghost use Rattle.lineage.specs.Calls.{openAnswer, openMarks, askAnswer, askMarks};
-ghost use Rattle.drobisten.specs.Host.{hostOpened, hostAsked};
+ghost use Rattle.ask_all.specs.Batch.{batchAnswer, batchAnswers, batchMarks};
+ghost use Rattle.drobisten.specs.Host.{hostOpened, hostAsked, hostAskedAll};
 use ask::Asked;
+use ask_all::Batched;
 use open::Opened;
 
 // What opening gives: a refusal with its extra number, or refusal 0 and the counts.
@@ -86,6 +88,41 @@ pub extern "C" fn drobisten_ask(
             reason: 0,
             opened: 0,
             labelling: 0,
+        },
+    }
+}
+
+// What asking all pairs gives: a refusal with its extra number, or refusal 0 and the number of pairs.
+#[repr(C)]
+pub struct DrobistenAskedAll {
+    pub refusal: u32,
+    pub extra: usize,
+    pub count: usize,
+}
+
+// `ask_all` for the host: six numbers a pair, in the order of `DrobistenAsked`.
+#[no_mangle]
+pub extern "C" fn drobisten_ask_all(
+    index: &[u8],
+    marks: &mut [u8],
+    sources: &[u32],
+    targets: &[u32],
+    answers: &mut [u32],
+) -> DrobistenAskedAll
+    ensures { λ r. ⌜ r ≡ hostAskedAll (batchAnswer (now (index .entry)) (now (sources .entry)) (now (targets .entry)) (length (now (marks .entry))) (length (now (answers .entry)))) ⌝ }
+    ensures { λ _. ⌜ now (marks .exit) ≡ batchMarks (now (index .entry)) (now (sources .entry)) (now (targets .entry)) (length (now (answers .entry))) (now (marks .entry)) ⌝ }
+    ensures { λ _. ⌜ now (answers .exit) ≡ batchAnswers (now (index .entry)) (now (sources .entry)) (now (targets .entry)) (length (now (marks .entry))) (now (answers .entry)) ⌝ }
+{
+    match ask_all::ask_all(index, sources, targets, marks, answers) {
+        Batched::Count(count) => DrobistenAskedAll {
+            refusal: 0,
+            extra: 0,
+            count,
+        },
+        Batched::Refused { number, extra } => DrobistenAskedAll {
+            refusal: number,
+            extra,
+            count: 0,
         },
     }
 }

@@ -22,6 +22,7 @@ lent {l = l} {names} {groups} {levels} {starts} {children} {labels} L S h =
       width = L .width;
       vertices-few = L .vertices;
       groups-few = L .groups;
+      labellings-some = L .least;
       labellings-few = L .most;
       names-long = S .names-in .long;
       groups-long = S .groups-in .long;

@@ -22,6 +22,7 @@ pub record Lent (l : Layout) (names groups levels starts children labels : List 
   pub width : Width (l .width)
   pub vertices-few : l .n ≤ vertexBound
   pub groups-few : l .k ≤ l .n
+  pub labellings-some : 1 ≤ l .d
   pub labellings-few : l .d ≤ mostLabellings
   pub names-long : length names ≡ l .width * l .n
   pub groups-long : length groups ≡ l .width * l .k

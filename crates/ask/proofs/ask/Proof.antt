@@ -1,6 +1,7 @@
 -- `ask::ask` meets its contract: each return is where its checks stop, or the answer behind them. The check of the contents leaves the marks 0 below n, and the
 -- question is lent those.
 use mathlib.Core.Path.{sym, ap, _∙_}
+use Prim.Native.Nat.{ℕ}
 use native.Mathlib.Omega.{arith}
 use borrow.Author.Needs.{needs}
 use borrow.Author.Tests.{not-false}
@@ -15,6 +16,8 @@ use Rattle.stored.specs.Sections.{Six}
 use Rattle.stored.proofs.Contents.{index-at}
 use Rattle.open.proofs.Checks.{contents-applies}
 use Rattle.sound_places.proofs.Lent.{lent}
+use Rattle.ask_walk.proofs.Stamped.{zero-under, seen-own}
+use Rattle.ask.specs.Replies.{answerBy}
 use Rattle.ask.proofs.Refusals.{asks-refused, asks-at, asks-answered}
 use Rattle.ask.proofs.ask.Statement.{statement}
 use Rattle.ask.proofs.ask.Tie as tie
@@ -123,9 +126,11 @@ question-requires c κs =
     let e = sound (c .before) in
     let s = checked e in
     let v = s .before .before in
-    let A = admits (through v) in (
+    let A = admits (through v) in
+    let n : ℕ = (through v) .l .given .0 .0 .n in
+    let front = cleared-front _ _ (s .contents-sound .ensures .1) in (
       lent (admitted-laid A) (six (c .before)) (sym (s .contents-sound .ensures .0) ∙ not-false _ (e .if3 .left)),
-      (v .before .if1 .left, (v .if2 .left, cleared-front _ _ (s .contents-sound .ensures .1))),
+      (v .before .if1 .left, (v .if2 .left, (ap length front ∙ length-replicate n 0, zero-under _ n _ (omega arith) front))),
     )
 
 same-length-2 : tie.Need-same-length-2
@@ -143,7 +148,7 @@ returns-5 c =
     asks-answered _ _ _ _ A
     (vertex-in L (v .before .if1 .left), (vertex-in L (v .if2 .left), (contents-applies L (s .contents-sound .ensures .0) ∙ e .if3 .left, tt)))
     (s .contents-sound .ensures .1) (q .question .result) _
-    (q .question .ensures ∙ ap (λ (I : Index). answer I (start (through v) .args .source) (start (through v) .args .target)) (index-at L (six m)))
+    (ap (answerBy (q .question .result)) (sym (seen-own _ (q .question .ensures .1 .0))) ∙ q .question .ensures .0 ∙ ap (λ (I : Index). answer I (start (through v) .args .source) (start (through v) .args .target)) (index-at L (six m)))
 
 pub ask-spec : {M : Type 1} → statement M
 ask-spec =

@@ -1,15 +1,41 @@
--- `ask::question::decide` meets its contract: each return is the first rule that holds, and what the code has read by then says so.
+-- `ask::question::decide` meets its contract: each return is the first rule that holds, and what the code has read by then says so. The walk starts with marks of which
+-- none bears its stamp.
 use native.Mathlib.Omega.{arith}
-use mathlib.Core.Path.{refl}
+use mathlib.Core.Path.{refl, ap}
+use mathlib.Core.List.{List}
+use Prim.Native.Nat.{ℕ, _+_}
 use borrow.Author.Needs.{needs}
-use Rattle.lineage.specs.Question.{inside, outside}
 use Rattle.numbers.proofs.Numbers.{room}
-use Rattle.ask.proofs.Rules.{first-low, rule-1, rule-2, rule-3, rule-4, rule-5-6, walk-deciding, walk-opened}
+use Rattle.lineage.specs.Walk.{Net}
+use Rattle.ask_walk.specs.Fit.{netIn}
+use Rattle.ask_walk.specs.Stamps.{seenAs, Under}
+use Rattle.ask_walk.proofs.Stamped.{seen-long, seen-other, under-more, new-free, new-marks}
+use Rattle.ask_walk.proofs.Passing.{judged-missed}
+use Rattle.ask.specs.declared.question.Reply.{Reply}
+use Rattle.ask.proofs.Rules.{inside-low, outside-low, rule-1, rule-2, rule-3, rule-4, rule-5-6, walk-opens, walk-deciding, walk-opened}
 use Rattle.ask.proofs.question.decide.Statement.{statement}
 use Rattle.ask.proofs.question.decide.Tie as tie
 
 abbrev entry : tie.After-slice-known → tie.Start
 entry c = c .before .before .before .before .before .before
+
+-- where both levels are read, and where the labellings have judged
+abbrev start : tie.After-num2 → tie.Start
+start n = entry (n .before .before .before)
+
+abbrev levelled : tie.After-judge → tie.After-num2
+levelled j = j .before .before
+
+-- the marks before the walk
+abbrev marks : tie.Start → List ℕ
+marks s = seenAs (s .args .stamp) (s .args .marks .now)
+
+-- what it goes by
+abbrev net : tie.Start → Net
+net s = netIn (s .args .w) (s .args .k) (s .args .d) (s .args .t) (s .args .groups .now) (s .args .levels .now) (s .args .starts .now) (s .args .children .now) (s .args .labels .now)
+
+under : (s : tie.Start) → Under (s .args .stamp + 1) (s .args .marks .now)
+under s = under-more (s .args .stamp) (s .args .stamp + 1) (s .args .marks .now) (omega arith) (s .pre .1 .1 .1)
 
 plain-requires : tie.Need-plain-requires
 plain-requires c κs = search needs
@@ -17,90 +43,100 @@ plain-requires c κs = search needs
 returns : tie.Need-returns
 returns c =
     let s = entry (c .before .before) in
-    rule-1 (s .pre .0) (s .args .x) (s .args .marks .now) (c .plain .result) (c .plain .ensures) (c .before .if1 .taken)
+    (rule-1 (s .pre .0) (s .args .x) (marks s) (c .plain .result) (c .plain .ensures) (c .before .if1 .taken), (under s, λ e. refl))
 
-inner-by-requires : tie.Need-inner-by-requires
-inner-by-requires c κs = search needs
+num-requires : tie.Need-num-requires
+num-requires c κs = let s = entry (c .before) in (s .pre .0 .labelled .width, room _ _ _ _ (s .pre .1 .0) (s .pre .0 .levels-long))
+
+num-requires-2 : tie.Need-num-requires-2
+num-requires-2 c κs = let s = entry (c .before .before) in (s .pre .0 .labelled .width, room _ _ _ _ (s .pre .0 .target-low) (s .pre .0 .levels-long))
 
 plain-requires-2 : tie.Need-plain-requires-2
-plain-requires-2 c κs =
-    let s = entry (c .before .before .before) in
-    omega (
-      arith,
-      c .before .inner-by .ensures,
-      first-low (inside (s .args .x) (s .args .t)) (s .args .w) (s .args .k) (s .args .d) (s .args .labels .now),
-      s .pre .0 .labelled .labellings-few,
-    )
+plain-requires-2 c κs = search needs
 
 returns-2 : tie.Need-returns-2
 returns-2 c =
-    let i = c .before .before in
-    let s = entry (i .before .before) in
-    rule-2 (s .pre .0) (s .args .x) (s .args .marks .now) (c .plain2 .result) (i .before .if1 .left) (i .inner-by .result) (i .inner-by .ensures)
-    (c .plain2 .ensures) (c .before .if2 .taken)
+    let n = c .before .before in
+    let s = start n in (
+      rule-3 (s .pre .0) (s .args .x) (marks s) (c .plain2 .result) (n .before .before .if1 .left) (s .pre .1 .0) _ _ (n .before .num .ensures .0) (n .num2 .ensures .0)
+          (c .plain2 .ensures) (c .before .if2 .taken),
+      (under s, λ e. refl),
+    )
 
-num-requires : tie.Need-num-requires
-num-requires c κs =
-    let s = entry (c .before .before .before) in
-    (s .pre .0 .labelled .width, room _ _ _ _ (s .pre .1 .0) (s .pre .0 .levels-long))
-
-num-requires-2 : tie.Need-num-requires-2
-num-requires-2 c κs =
-    let s = entry (c .before .before .before .before) in
-    (s .pre .0 .labelled .width, room _ _ _ _ (s .pre .0 .target-low) (s .pre .0 .levels-long))
+judge-requires : tie.Need-judge-requires
+judge-requires c κs = search needs
 
 plain-requires-3 : tie.Need-plain-requires-3
-plain-requires-3 c κs = search needs
+plain-requires-3 c κs =
+    let j = c .before .before in
+    let s = start (levelled j) in
+    omega (
+      arith,
+      inside-low (s .args .w) (s .args .k) (s .args .d) (s .args .labels .now) (s .args .x) (s .args .t) (j .judge .ensures) (c .if3 .taken),
+      s .pre .0 .labelled .labellings-few,
+    )
 
 returns-3 : tie.Need-returns-3
 returns-3 c =
-    let n = c .before .before in
-    let i = n .before .before .before in
-    let s = entry (i .before .before) in
-    rule-3 (s .pre .0) (s .args .x) (s .args .marks .now) (c .plain3 .result) (i .before .if1 .left) (i .inner-by .result) (i .inner-by .ensures)
-    (n .before .before .if2 .left) (s .pre .1 .0) (n .before .num .result) (n .num2 .result) (n .before .num .ensures .0) (n .num2 .ensures .0) (c .plain3 .ensures) (c .before .if3 .taken)
-
-outer-by-requires : tie.Need-outer-by-requires
-outer-by-requires c κs = search needs
+    let j = c .before .before .before in
+    let n = levelled j in
+    let s = start n in (
+      rule-2 (s .pre .0) (s .args .x) (marks s) (c .plain3 .result) (n .before .before .if1 .left) (s .pre .1 .0) _ _ (n .before .num .ensures .0) (n .num2 .ensures .0)
+          (j .before .if2 .left) (j .judge .ensures) (c .plain3 .ensures) (c .before .if3 .taken),
+      (under s, λ e. refl),
+    )
 
 plain-requires-4 : tie.Need-plain-requires-4
 plain-requires-4 c κs =
-    let s = entry (c .before .before .before .before .before .before .before .before) in
+    let j = c .before .before .before .before in
+    let s = start (levelled j) in
     omega (
       arith,
-      c .before .outer-by .ensures,
-      first-low (outside (s .args .x) (s .args .t)) (s .args .w) (s .args .k) (s .args .d) (s .args .labels .now),
+      outside-low (s .args .w) (s .args .k) (s .args .d) (s .args .labels .now) (s .args .x) (s .args .t) (j .judge .ensures) (c .if4 .taken),
       s .pre .0 .labelled .labellings-few,
     )
 
 returns-4 : tie.Need-returns-4
 returns-4 c =
-    let o = c .before .before in
-    let n = o .before .before in
-    let i = n .before .before .before in
-    let s = entry (i .before .before) in
-    rule-4 (s .pre .0) (s .args .x) (s .args .marks .now) (c .plain4 .result) (i .before .if1 .left) (i .inner-by .result) (i .inner-by .ensures)
-    (n .before .before .if2 .left) (s .pre .1 .0) (n .before .num .result) (n .num2 .result) (n .before .num .ensures .0) (n .num2 .ensures .0)
-    (o .before .if3 .left) (o .outer-by .result) (o .outer-by .ensures) (c .plain4 .ensures) (omega arith)
+    let j = c .before .before .before .before .before in
+    let n = levelled j in
+    let s = start n in (
+      rule-4 (s .pre .0) (s .args .x) (marks s) (c .plain4 .result) (n .before .before .if1 .left) (s .pre .1 .0) _ _ (n .before .num .ensures .0) (n .num2 .ensures .0)
+          (j .before .if2 .left) (j .judge .ensures) (c .plain4 .ensures) (c .before .if4 .taken),
+      (under s, λ e. refl),
+    )
 
 open-group-requires : tie.Need-open-group-requires
 open-group-requires c κs =
-    let n = c .before .before .before .before in
-    let s = entry (n .before .before .before .before .before) in
-    (s .pre .0, (s .pre .1 .0, (omega (arith, n .before .num .ensures .0), s .pre .1 .1 .0)))
+    let e = c .before in
+    let j = e .before .before .before .before in
+    let n = levelled j in
+    let s = start n in
+    let F = s .pre .0 in
+    let M = new-marks (s .args .stamp) (s .args .marks .now) (s .pre .1 .1 .1) (net s) (s .args .k) in (
+      F,
+      (
+        record {
+          low = s .pre .1 .0;
+          level = omega (arith, n .before .num .ensures .0);
+          unmarked = new-free _ _ (s .pre .1 .1 .1) _;
+          missed = judged-missed F (M .safe) (s .pre .1 .0) (j .judge .ensures) (e .before .before .if3 .left) (e .if4 .left);
+        },
+        M,
+      ),
+    )
 
 by-walk-requires : tie.Need-by-walk-requires
 by-walk-requires c κs =
-    let a = c .before .before in
-    let n = a .before .before .before .before .before in
-    let s = entry (n .before .before .before .before .before) in
-    let r = a .open-group in (
-      walk-deciding (s .pre .0) _ _ (s .args .marks .now) (r .result .found) (r .result .deciding) (r .result .opened) _ (r .ensures),
+    let o = c .before .before in
+    let s = start (levelled (o .before .before .before .before .before .before)) in
+    let r = o .open-group in (
+      walk-deciding (s .pre .0) _ _ (marks s) (r .result .found) (r .result .deciding) (r .result .opened) _ (r .ensures .0),
       omega (
         arith,
-        walk-opened (s .pre .0) _ (s .args .x) (s .args .marks .now) (r .result .found) (r .result .deciding) (r .result .opened) _ (r .ensures)
-            (s .pre .1 .0) refl (s .pre .1 .1 .0),
-        s .pre .1 .1 .1,
+        walk-opened (s .pre .0) _ (s .args .x) (marks s) (r .result .found) (r .result .deciding) (r .result .opened) _ (r .ensures .0) (s .pre .1 .0)
+            (seen-long _ (s .args .marks .now)) (seen-other _ _ _ (s .pre .0 .name-low (s .args .x) (s .pre .1 .0)) (new-free _ _ (s .pre .1 .1 .1) _)),
+        s .pre .1 .1 .0,
       ),
     )
 
@@ -109,15 +145,17 @@ same-length c = search needs
 
 returns-5 : tie.Need-returns-5
 returns-5 c =
-    let a = c .before .before .before in
-    let o = a .before .before .before in
-    let n = o .before .before in
-    let i = n .before .before .before in
-    let s = entry (i .before .before) in
-    rule-5-6 (s .pre .0) (s .args .x) (s .args .marks .now) (c .by-walk .result) (i .before .if1 .left) (i .inner-by .result) (i .inner-by .ensures)
-    (n .before .before .if2 .left) (s .pre .1 .0) (n .before .num .result) (n .num2 .result) (n .before .num .ensures .0) (n .num2 .ensures .0)
-    (o .before .if3 .left) (o .outer-by .result) (o .outer-by .ensures) (omega (arith, a .before .before .if4 .left))
-    _ _ _ _ (a .open-group .ensures) (c .by-walk .ensures)
+    let o = c .before .before .before in
+    let e = o .before .before in
+    let j = e .before .before .before .before in
+    let n = levelled j in
+    let s = start n in
+    let r = o .open-group in
+    let opens = walk-opens (s .pre .0) _ (s .args .x) (marks s) (r .result .found) (r .result .deciding) (r .result .opened) _ (r .ensures .0) in (
+      rule-5-6 (s .pre .0) (s .args .x) (marks s) (c .by-walk .result) (n .before .before .if1 .left) (s .pre .1 .0) _ _ (n .before .num .ensures .0) (n .num2 .ensures .0)
+          (j .before .if2 .left) (j .judge .ensures) (e .before .before .if3 .left) (e .if4 .left) _ _ _ _ (r .ensures .0) (c .by-walk .ensures),
+      (r .ensures .1, λ z. absurd (omega (arith, opens, z, ap (λ (q : Reply). q .opened) (c .by-walk .ensures)))),
+    )
 
 pub decide-spec : {M : Type 1} → statement M
 decide-spec =
@@ -125,14 +163,13 @@ decide-spec =
     (tie.spec
     plain-requires
     returns
-    inner-by-requires
-    plain-requires-2
-    returns-2
     num-requires
     num-requires-2
+    plain-requires-2
+    returns-2
+    judge-requires
     plain-requires-3
     returns-3
-    outer-by-requires
     plain-requires-4
     returns-4
     open-group-requires

@@ -1,10 +1,13 @@
 -- `ask::question::question` meets its contract: the two vertices' names and places are read, and the answer between those places is the question's.
 use native.Mathlib.Omega.{arith}
-use mathlib.Core.Path.{_∙_}
+use mathlib.Core.Path.{ap, _∙_}
+use Prim.Native.Nat.{ℕ}
+use lib.ListN.{replicate}
 use borrow.Author.Needs.{needs}
 use Rattle.numbers.proofs.Numbers.{room}
 use Rattle.sound_places.proofs.Vertices.{list-rises, list-low, name-listed, vertex-low, vertex-placed}
-use Rattle.ask.proofs.Soundness.{fit-marks, none-marked, marks-few, question-is}
+use Rattle.ask_walk.proofs.Stamped.{seen-new}
+use Rattle.ask.proofs.Soundness.{fit-marks, marks-few, question-is}
 use Rattle.ask.proofs.question.question.Statement.{statement}
 use Rattle.ask.proofs.question.question.Tie as tie
 
@@ -41,10 +44,10 @@ decide-requires c κs =
     let x = t .before .before in
     let s = entry (x .before .before) in
     let S = s .pre .0 in
-    let cleared = s .pre .1 .1 .1 in
+    let long = s .pre .1 .1 .1 .0 in
     let x-low = vertex-low S (s .pre .1 .0) (x .before .num .ensures .0) (x .place-of .ensures) in
     let t-low = vertex-low S (s .pre .1 .1 .0) (t .before .num2 .ensures .0) (t .place-of2 .ensures) in
-    (fit-marks S _ cleared _ t-low, (x-low, (none-marked S _ cleared _ x-low, marks-few S _ cleared)))
+    (fit-marks S (s .args .marks .now) long _ t-low, (x-low, (marks-few S (s .args .marks .now) long, s .pre .1 .1 .1 .1)))
 
 same-length : tie.Need-same-length
 same-length c = search needs
@@ -55,12 +58,14 @@ returns c =
     let t = a .before .before in
     let x = t .before .before in
     let s = entry (x .before .before) in
-    let S = s .pre .0 in
-    a .decide .ensures
-    ∙ question-is S _ _ _ _ _
-    (vertex-placed S (s .pre .1 .0) (x .before .num .ensures .0) (x .place-of .ensures))
-    (vertex-placed S (s .pre .1 .1 .0) (t .before .num2 .ensures .0) (t .place-of2 .ensures))
-    (s .pre .1 .1 .1)
+    let S = s .pre .0 in (
+      a .decide .ensures .0
+          ∙ question-is S _ _ _ _ _
+          (vertex-placed S (s .pre .1 .0) (x .before .num .ensures .0) (x .place-of .ensures))
+          (vertex-placed S (s .pre .1 .1 .0) (t .before .num2 .ensures .0) (t .place-of2 .ensures))
+          (seen-new _ _ (s .pre .1 .1 .1 .1) ∙ ap (λ (z : ℕ). replicate z 0) (s .pre .1 .1 .1 .0)),
+      (a .decide .ensures .1 .0, a .decide .ensures .1 .1),
+    )
 
 pub question-spec : {M : Type 1} → statement M
 question-spec =

@@ -1,0 +1,4 @@
+-- The laws that the proofs of this crate cite.
+pub mod Sixes
+pub mod Refusals
+pub mod Theorems

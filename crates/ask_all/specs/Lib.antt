@@ -1,0 +1,3 @@
+-- What the contracts of this crate say of many pairs.
+pub mod Batch
+pub mod Batched

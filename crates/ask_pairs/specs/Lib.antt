@@ -1,0 +1,3 @@
+-- What the contracts of this crate say of the places that are laid out, and of the answers and marks of many pairs.
+pub mod Places
+pub mod Pairs
