@@ -56,6 +56,8 @@ pub fn ask(index: &[u8], source: u32, target: u32, marks: &mut [u8]) -> Asked
             extra: 0,
         };
     }
+    // The walk of 16-bit numbers uses no words.
+    let mut work = [0u32; 0];
     let r = question::question(
         stored::parts::names(index, l),
         stored::parts::groups(index, l),
@@ -67,6 +69,7 @@ pub fn ask(index: &[u8], source: u32, target: u32, marks: &mut [u8]) -> Asked
         u,
         v,
         &mut marks[..n],
+        &mut work,
         1,
     );
     Asked::Answer {
