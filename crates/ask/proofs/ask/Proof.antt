@@ -5,7 +5,7 @@ use Prim.Native.Nat.{ℕ}
 use native.Mathlib.Omega.{arith}
 use borrow.Author.Needs.{needs}
 use borrow.Author.Tests.{not-false}
-use lib.ListN.{length, length-replicate}
+use lib.ListN.{length, length-append, length-take, length-drop, length-replicate}
 use Rattle.lineage.specs.Index.{Index}
 use Rattle.lineage.specs.Question.{answer}
 use Rattle.numbers.proofs.Cleared.{cleared-front}
@@ -17,6 +17,14 @@ use Rattle.stored.proofs.Contents.{index-at}
 use Rattle.open.proofs.Checks.{contents-applies}
 use Rattle.sound_places.proofs.Lent.{lent}
 use Rattle.ask_walk.proofs.Stamped.{zero-under, seen-own}
+use mathlib.Core.List.{List}
+use Prim.Native.Nat.{_≤_}
+use Rattle.lineage.specs.Stored.{headerAt}
+use Rattle.stored_header.specs.declared.Layout.{Layout}
+use Rattle.stored_header.specs.declared.Row.{Row}
+use Rattle.stored_header.specs.Header.{Laid}
+use Rattle.stored_header.proofs.Forms.{row-first}
+use Rattle.ask_stacked.specs.Words.{stackWords}
 use Rattle.ask.specs.Replies.{answerBy}
 use Rattle.ask.proofs.Refusals.{asks-refused, asks-at, asks-answered}
 use Rattle.ask.proofs.ask.Statement.{statement}
@@ -40,6 +48,10 @@ checked e = e .before .before .before
 
 abbrev passed : tie.Else3 → tie.After-l
 passed e = through (checked e .before .before)
+
+-- numbers are of 16 bits in the one form that there is
+few : {b : List ℕ} {l : Layout} → Laid b l → stackWords (l .width) (l .n) ≤ 0
+few {b} {l} L = rw (ap (λ (l : Layout). l .width) (L .is) ∙ sym (ap (λ (r : Row). r .width) (row-first (headerAt b 0)))) (omega arith)
 
 -- the six parts are the sections of the bytes
 abbrev sound : tie.After-labels → tie.Else3
@@ -121,25 +133,31 @@ slice-aggregate-question : tie.Need-slice-aggregate-question
 slice-aggregate-question c =
     sym (ap length (cleared-front _ _ (checked (sound (c .before)) .contents-sound .ensures .1)) ∙ length-replicate _ 0)
 
+slice-aggregate-question-2 : tie.Need-slice-aggregate-question-2
+slice-aggregate-question-2 c = search needs
+
 question-requires : tie.Need-question-requires
 question-requires c κs =
-    let e = sound (c .before) in
+    let e = sound (c .before .before) in
     let s = checked e in
     let v = s .before .before in
     let A = admits (through v) in
     let n : ℕ = (through v) .l .given .0 .0 .n in
     let front = cleared-front _ _ (s .contents-sound .ensures .1) in (
-      lent (admitted-laid A) (six (c .before)) (sym (s .contents-sound .ensures .0) ∙ not-false _ (e .if3 .left)),
-      (v .before .if1 .left, (v .if2 .left, (ap length front ∙ length-replicate n 0, zero-under _ n _ (omega arith) front))),
+      lent (admitted-laid A) (six (c .before .before)) (sym (s .contents-sound .ensures .0) ∙ not-false _ (e .if3 .left)),
+      (v .before .if1 .left, (v .if2 .left, (ap length front ∙ length-replicate n 0, (zero-under _ n _ (omega arith) front, few (admitted-laid A))))),
     )
 
 same-length-2 : tie.Need-same-length-2
-same-length-2 c = search needs
+same-length-2 c =
+    let q = c .before .before .before in
+    let e = sound (q .before .before .before) in
+    simp (length-append, length-drop, q .question .kept .1 .1 .1 .1 .1 .1 .1 .1 .1 .0, length-take) (omega (arith, checked e .contents-sound .kept, admitted-room (admits (passed e))))
 
 returns-5 : tie.Need-returns-5
 returns-5 c =
-    let q = c .before .before in
-    let m = q .before .before in
+    let q = c .before .before .before in
+    let m = q .before .before .before in
     let e = sound m in
     let s = checked e in
     let v = s .before .before in
@@ -171,6 +189,7 @@ ask-spec =
     labels-requires
     slice-relend-prefix-question
     slice-aggregate-question
+    slice-aggregate-question-2
     question-requires
     same-length-2
     returns-5)
