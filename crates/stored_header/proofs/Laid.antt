@@ -46,8 +46,9 @@ fit-bounds form a fit =
     }
 
 -- the bounds of a layout that such counts give
-pub laid-bounds : {F : Form} {a : Counts} {l : Layout} {w : ℕ} → Bounded F a → l ≡ layoutBy w a → (l .n ≤ vertexBound) × (l .c ≤ entryBound)
-laid-bounds B e = subst⁻¹ (λ (l : Layout). (l .n ≤ vertexBound) × (l .c ≤ entryBound)) e (B .vertices, B .entries)
+pub laid-bounds : {F : Form} {a : Counts} {l : Layout} {w : ℕ} → Bounded F a → l ≡ layoutBy w a
+    → (l .n ≤ vertexBound) × ((l .k ≤ l .n) × (l .c ≤ entryBound))
+laid-bounds B e = subst⁻¹ (λ (l : Layout). (l .n ≤ vertexBound) × ((l .k ≤ l .n) × (l .c ≤ entryBound))) e (B .vertices, (B .groups, B .entries))
 
 -- a layout that a width and counts give
 pub sited-by : (l : Layout) (w : ℕ) (a : Counts) → l ≡ layoutBy w a → Sited l
