@@ -3,3 +3,4 @@ pub mod Stack
 pub mod Walking
 pub mod Opening
 pub mod Turns
+pub mod Words
