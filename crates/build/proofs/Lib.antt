@@ -2,7 +2,7 @@
 pub mod Checks
 pub mod Outcomes
 pub mod Answered
-pub mod First
+pub mod Row
 pub mod Accepted
 pub mod Theorems
 pub mod Same

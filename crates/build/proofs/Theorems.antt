@@ -1,5 +1,6 @@
--- What a build promises, by its contract alone. Two results that it allows are equal. A finished build was lent edges between vertices and d orders, and its output begins
--- with the stored form of their index: that opens, and every question on it is answered as the edge list says; and it holds d labellings, each the one under its own order.
+-- What a build promises, by its contract alone, at any form of the table. Two results that it allows are equal. A finished build was lent edges between vertices and d
+-- orders, and its output begins with the stored form of their index: that opens, and every question on it is answered as the edge list says; and it holds d labellings,
+-- each the one under its own order.
 use mathlib.Core.Bool.{true}
 use mathlib.Core.Logic.{_↔_}
 use mathlib.Core.Path.{_≡_, refl, sym, ap, _∙_}
@@ -15,9 +16,10 @@ use Rattle.lineage.specs.Graph.{Graph, Reaches, condense}
 use Rattle.lineage.specs.Labels.{Order, labelling}
 use Rattle.lineage.specs.Index.{Index, indexBy, indexOf}
 use Rattle.lineage.specs.Question.{answer}
-use Rattle.lineage.specs.Stored.{form1, Counts, countsOf, encode, countsIn}
+use Rattle.lineage.specs.Stored.{Form, Counts, countsOf, encode, countsIn}
 use Rattle.lineage.specs.Calls.{Check, check, answered, outcome, Input, orderAt, ordersOf, built, lengthOf, buildEarly, buildLate, buildAnswer, buildOutput, buildWork, indexIn, formChecks, contentsCheck, openAnswer, askEarly, saidOf, askAnswer}
-use Rattle.laws.proofs.Sound.{made-long}
+use Rattle.laws.proofs.Sound.{made-sound, made-long}
+use Rattle.laws.proofs.Decides.{sound-decides}
 use Rattle.laws.proofs.Lists.{table-long}
 use Rattle.laws_answers.proofs.Demands.{answer-right}
 use Rattle.build_orders.proofs.Permutations.{orders-of}
@@ -25,20 +27,20 @@ use Rattle.stored.specs.Fits.{Fits}
 use Rattle.laws.specs.Checks.{Pass}
 use Rattle.laws.proofs.Checks.{stops-early, pass-front, pass-behind, pass-both, stops-outcome, answered-pass, answered-is}
 use Rattle.stored.proofs.Encoded.{counts-read, encode-long, index-encode}
-use Rattle.open.proofs.Fits.{form1-wide, bounds-kept, yielded-fits}
-use Rattle.open.proofs.Theorem.{built-opens}
+use Rattle.open.proofs.Fits.{Wide, bounds-kept, yielded-fits, fits-opens}
 use Rattle.build.specs.declared.Built.{Built}
 use Rattle.build.specs.declared.Built.the-variants.{Total, Refused}
 use Rattle.build.specs.Admitted.{Admitted}
 use Rattle.build.specs.Answers.{builtOf}
 use Rattle.build.proofs.Checks.{admitted}
+use Rattle.build.proofs.Answered.{Answers}
 use Rattle.build.proofs.Accepted.{accepted}
 
 -- What `build` may answer and leave, by its contract.
-pub record Allowed (B : Input) (work out : List ℕ) (r : Built) (work' out' : List ℕ) : Type 0 where
-  pub answers : builtOf r ≡ buildAnswer form1 B (length work) (length out)
-  pub leaves : work' ≡ buildWork form1 B work
-  pub writes : out' ≡ buildOutput form1 B (length work) out
+pub record Allowed (F : Form) (B : Input) (work out : List ℕ) (r : Built) (work' out' : List ℕ) : Type 0 where
+  pub answers : builtOf r ≡ buildAnswer F B (length work) (length out)
+  pub leaves : work' ≡ buildWork F B work
+  pub writes : out' ≡ buildOutput F B (length work) out
 
 built-one : (r r' : Built) → builtOf r ≡ builtOf r' → r ≡ r'
 built-one (Total t) (Total t') e = cc
@@ -47,96 +49,111 @@ built-one (Refused number extra) (Total t) e = let z : _≡_ {A = ℕ} 0 1 = cc 
 built-one (Refused number extra) (Refused number' extra') e = cc
 
 -- two results are equal
-pub built-once : {B : Input} {work out : List ℕ} {r r' : Built} {w w' o o' : List ℕ} → Allowed B work out r w o → Allowed B work out r' w' o' → (r ≡ r') × ((w ≡ w') × (o ≡ o'))
+pub built-once : {F : Form} {B : Input} {work out : List ℕ} {r r' : Built} {w w' o o' : List ℕ} → Allowed F B work out r w o → Allowed F B work out r' w' o' → (r ≡ r') × ((w ≡ w') × (o ≡ o'))
 built-once X Y = (built-one _ _ (X .answers ∙ sym (Y .answers)), (X .leaves ∙ sym (Y .leaves), X .writes ∙ sym (Y .writes)))
 
 -- input that is right, with an output that is long enough, is built: no build that refuses it is allowed
-pub build-finishes : {B : Input} {work out : List ℕ} {r : Built} {work' out' : List ℕ} → Allowed B work out r work' out'
-    → Admitted form1 B (length work)
+pub build-finishes : {F : Form} {B : Input} {work out : List ℕ} {r : Built} {work' out' : List ℕ} → Allowed F B work out r work' out'
+    → Admitted F B (length work)
     → Every (Order (B .graph .n)) (ordersOf B)
-    → lengthOf form1 (built B) ≤ length out
-    → builtOf r ≡ answered (lengthOf form1 (built B))
+    → lengthOf F (built B) ≤ length out
+    → builtOf r ≡ answered (lengthOf F (built B))
 unfolding buildAnswer
-build-finishes {B} {work} {out} X A permuted room =
+build-finishes {F} {B} {work} {out} X A permuted room =
     X .answers
-    ∙ stops-outcome (lengthOf form1 (built B)) (buildEarly form1 B (length work) ++ buildLate form1 B (length out)) 9 (accepted form1 B (length work) (length out) A permuted room)
+    ∙ stops-outcome (lengthOf F (built B)) (buildEarly F B (length work) ++ buildLate F B (length out)) 9 (accepted F B (length work) (length out) A permuted room)
 
--- A finished build.
-module _ (B : Input) (work out : List ℕ) (r : Built) (work' out' : List ℕ) (X : Allowed B work out r work' out') (total : ℕ) (done : builtOf r ≡ answered total) where
+-- a finished build at a form of the table: the work memory and the output that it was lent, the total length that it answered, and what it left
+pub record Finished (F : Form) (B : Input) : Type 0 where
+  pub wide : Wide F
+  pub work : List ℕ
+  pub out : List ℕ
+  pub total : ℕ
+  pub work' : List ℕ
+  pub out' : List ℕ
+  pub allowed : Answers F B work out (answered total) work' out'
+
+module _ {F : Form} {B : Input} (D : Finished F B) (edges : F .edges ≤ F .entries) where
   abbrev G : Graph
   G = B .graph
 
-  abbrev checks : List Check
-  checks = buildEarly form1 B (length work) ++ buildLate form1 B (length out)
+  abbrev total : ℕ
+  total = D .total
 
-  said : outcome checks (lengthOf form1 (built B)) ≡ answered total
+  abbrev early : List Check
+  early = buildEarly F B (length (D .work))
+
+  abbrev late : List Check
+  late = buildLate F B (length (D .out))
+
+  said : outcome (early ++ late) (lengthOf F (built B)) ≡ answered total
   unfolding buildAnswer
-  said = sym (X .answers) ∙ done
+  said = sym (D .allowed .0)
 
-  passes : Pass checks
-  passes = answered-pass (lengthOf form1 (built B)) checks total said
+  passes : Pass (early ++ late)
+  passes = answered-pass (lengthOf F (built B)) (early ++ late) total said
+
+  total-is : total ≡ lengthOf F (built B)
+  total-is = answered-is (lengthOf F (built B)) (early ++ late) total said
 
   -- what it was lent
-  pub input-right : Admitted form1 B (length work)
-  input-right = admitted form1 B (length work) (pass-front (buildEarly form1 B (length work)) (buildLate form1 B (length out)) passes)
+  pub input-right : Admitted F B (length (D .work))
+  input-right = admitted F B (length (D .work)) (pass-front early late passes)
 
   pub orders-right : Every (Order (G .n)) (ordersOf B)
-  orders-right = orders-of (G .n) (B .d) (B .orders) (input-right .whole) (pass-behind (buildEarly form1 B (length work)) (buildLate form1 B (length out)) passes .0)
+  orders-right = orders-of (G .n) (B .d) (B .orders) (input-right .whole) (pass-behind early late passes .0)
 
   orders-many : length (ordersOf B) ≡ B .d
   orders-many = table-long (orderAt (G .n) (B .orders)) (B .d)
 
-  fits : Fits form1 (built B)
+  fits : Fits F (built B)
   fits =
-      yielded-fits form1-wide G (input-right .ends) (ordersOf B) orders-right
-      (bounds-kept form1 G (input-right .ends) (ordersOf B) orders-right (input-right .vertices) (input-right .edges)
+      yielded-fits (D .wide) G (input-right .ends) (ordersOf B) orders-right
+      (bounds-kept F G (input-right .ends) (ordersOf B) orders-right (input-right .vertices)
+      (omega (arith, input-right .edges, edges))
       (omega (arith, orders-many, input-right .least))
       (omega (arith, orders-many, input-right .most)))
 
   -- the total length is that of the stored form
-  pub total-right : length (encode form1 (built B)) ≡ total
-  total-right = encode-long fits ∙ sym (answered-is (lengthOf form1 (built B)) checks total said)
+  pub total-right : length (encode F (built B)) ≡ total
+  total-right = encode-long fits ∙ sym total-is
 
-  output-is : out' ≡ encode form1 (built B) ++ drop total out
+  output-is : D .out' ≡ encode F (built B) ++ drop total (D .out)
   unfolding buildOutput
   output-is =
-      X .writes
-      ∙ rw (stops-early checks [] 9 passes)
-      (ap (λ (n : ℕ). encode form1 (built B) ++ drop n out) (sym (answered-is (lengthOf form1 (built B)) checks total said)))
+      D .allowed .1 .1
+      ∙ rw (stops-early (early ++ late) [] 9 passes)
+      (ap (λ (n : ℕ). encode F (built B) ++ drop n (D .out)) (sym total-is))
 
   -- the output begins with it, and goes on as it was
-  pub build-stores : take total out' ≡ encode form1 (built B)
-  build-stores = rw output-is (take-at (encode form1 (built B)) (drop total out) total total-right)
+  pub build-stores : take total (D .out') ≡ encode F (built B)
+  build-stores = ap (λ (o : List ℕ). take total o) output-is ∙ take-at (encode F (built B)) (drop total (D .out)) total total-right
 
-  pub build-keeps : drop total out' ≡ drop total out
-  build-keeps = rw output-is (drop-at (encode form1 (built B)) (drop total out) total total-right)
+  pub build-keeps : drop total (D .out') ≡ drop total (D .out)
+  build-keeps = ap (λ (o : List ℕ). drop total o) output-is ∙ drop-at (encode F (built B)) (drop total (D .out)) total total-right
+
+  names-many : length (built B .names) ≡ G .n
+  names-many = made-long (record { graph = G; ends = input-right .ends; orders = ordersOf B; permuted = orders-right; yields = refl })
 
   -- what is stored opens
-  pub build-opens : (marks : ℕ) → G .n ≤ marks → openAnswer (take total out') marks ≡ answered (countsOf (built B))
+  pub build-opens : (marks : ℕ) → G .n ≤ marks → openAnswer (take total (D .out')) marks ≡ answered (countsOf (built B))
   build-opens marks room =
       ap (λ (b : List ℕ). openAnswer b marks) build-stores
-      ∙ built-opens G (input-right .ends) (ordersOf B) orders-right (input-right .vertices) (input-right .edges)
-      (omega (arith, orders-many, input-right .least))
-      (omega (arith, orders-many, input-right .most))
-      marks
-      room
+      ∙ sym (fits-opens fits (sound-decides (built B) .1 (made-sound G (input-right .ends) (ordersOf B) orders-right)) marks (omega (arith, names-many)))
 
   -- and is the index that was built
-  stored-index : indexIn (take total out') ≡ built B
+  pub stored-index : indexIn (take total (D .out')) ≡ built B
   stored-index = ap indexIn build-stores ∙ index-encode fits
 
-  stored-counts : countsIn (take total out') .n ≡ G .n
-  stored-counts =
-      ap (λ (b : List ℕ). countsIn b .n) build-stores
-      ∙ ap (λ (a : Counts). a .n) (counts-read fits)
-      ∙ made-long (record { graph = G; ends = input-right .ends; orders = ordersOf B; permuted = orders-right; yields = refl })
+  stored-counts : countsIn (take total (D .out')) .n ≡ G .n
+  stored-counts = ap (λ (b : List ℕ). countsIn b .n) build-stores ∙ ap (λ (a : Counts). a .n) (counts-read fits) ∙ names-many
 
   -- every question on it is answered, and with yes exactly where the edge list has a path
-  module _ (marks u v : ℕ) (room : G .n ≤ marks) (source : u < G .n) (target : v < G .n) where
-    pub build-asks : askAnswer (take total out') u v marks ≡ answered (saidOf (answer (built B) u v))
+  module _ (u v : ℕ) (source : u < G .n) (target : v < G .n) where
+    pub build-asks : (marks : ℕ) → G .n ≤ marks → askAnswer (take total (D .out')) u v marks ≡ answered (saidOf (answer (built B) u v))
     unfolding askAnswer openAnswer
-    build-asks =
-        let b : List ℕ = take total out' in
+    build-asks marks room =
+        let b : List ℕ = take total (D .out') in
         let form : List Check = formChecks b marks in
         let p = answered-pass (countsIn b) (form ++ (contentsCheck b ∷ [])) (countsOf (built B)) (build-opens marks room) in
         let low-source = lt-leb (countsIn b .n) u (omega (arith, stored-counts)) in
@@ -151,7 +168,7 @@ module _ (B : Input) (work out : List ℕ) (r : Built) (work' out' : List ℕ) (
         answer-right G (input-right .ends) (ordersOf B) orders-right (omega (arith, orders-many, input-right .least)) u v source target
 
   -- it holds d labellings, and each is the labelling under its own order
-  pub build-labellings : indexIn (take total out') .labels ≡ map (λ j. labelling (condense G .groups) (condense G .children) (orderAt (G .n) (B .orders) j)) (upto (B .d))
+  pub build-labellings : indexIn (take total (D .out')) .labels ≡ map (λ j. labelling (condense G .groups) (condense G .children) (orderAt (G .n) (B .orders) j)) (upto (B .d))
   unfolding indexOf indexBy
   build-labellings =
       ap (λ (I : Index). I .labels) stored-index

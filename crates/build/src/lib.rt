@@ -10,16 +10,18 @@ use refusals::OUTPUT_SHORT;
 use refusals::WORK_SHORT;
 use stored_header::MOST_LABELLINGS;
 use stored_header::Row;
+ghost use mathlib.Core.Bool.{true};
 ghost use mathlib.Core.Path.{_≡_};
 ghost use Prim.Native.Nat.{_^_, _≤_, _<_};
 ghost use lib.ListN.{length};
 ghost use Rattle.lineage.specs.Numbers.{Width};
-ghost use Rattle.lineage.specs.Stored.{form1};
+ghost use Rattle.lineage.specs.Stored.{form1, formOf, isForm};
 ghost use Rattle.lineage.specs.Calls.{workNeeded, buildEarly, buildAnswer, buildOutput, buildWork, outcome};
 ghost use Rattle.numbers.specs.Bounds.{vertexBound, entryBound};
+ghost use Rattle.stored_header.specs.Header.{rowOf};
 ghost use Rattle.build_orders.specs.Input.{graphOf};
 ghost use Rattle.build_indexed.specs.Written.{writtenAs};
-ghost use Rattle.build.specs.Input.{inputOf, boundsOf, formBy, RowFit};
+ghost use Rattle.build.specs.Input.{inputOf, boundsOf};
 ghost use Rattle.build.specs.Answers.{checkedOf, builtOf, LateBuilt};
 ghost use Rattle.build.specs.Admitted.{Admitted};
 
@@ -140,8 +142,8 @@ fn late(
     Built::Total(l.total as u32)
 }
 
-// A build at a form's row: checks 1 to 7 alter nothing, and what comes behind them ends with the needed words at 0.
-fn build_form(
+// A build at a form of the table, with the form's row: checks 1 to 7 alter nothing, and what comes behind them ends with the needed words at 0.
+pub fn build_form(
     form: usize,
     row: Row,
     n: usize,
@@ -152,10 +154,11 @@ fn build_form(
     work: &mut [u32],
     out: &mut [u8],
 ) -> Built
-    requires { ⌜ RowFit form row ⌝ }
-    ensures { λ r. ⌜ builtOf r ≡ buildAnswer (formBy form row) (inputOf n (now (sources .entry)) (now (targets .entry)) d (now (orders .entry))) (length (now (work .entry))) (length (now (out .entry))) ⌝ }
-    ensures { λ _. ⌜ now (work .exit) ≡ buildWork (formBy form row) (inputOf n (now (sources .entry)) (now (targets .entry)) d (now (orders .entry))) (now (work .entry)) ⌝ }
-    ensures { λ _. ⌜ now (out .exit) ≡ buildOutput (formBy form row) (inputOf n (now (sources .entry)) (now (targets .entry)) d (now (orders .entry))) (length (now (work .entry))) (now (out .entry)) ⌝ }
+    requires { ⌜ isForm form ≡ true ⌝ }
+    requires { ⌜ row ≡ rowOf form ⌝ }
+    ensures { λ r. ⌜ builtOf r ≡ buildAnswer (formOf form) (inputOf n (now (sources .entry)) (now (targets .entry)) d (now (orders .entry))) (length (now (work .entry))) (length (now (out .entry))) ⌝ }
+    ensures { λ _. ⌜ now (work .exit) ≡ buildWork (formOf form) (inputOf n (now (sources .entry)) (now (targets .entry)) d (now (orders .entry))) (now (work .entry)) ⌝ }
+    ensures { λ _. ⌜ now (out .exit) ≡ buildOutput (formOf form) (inputOf n (now (sources .entry)) (now (targets .entry)) d (now (orders .entry))) (length (now (work .entry))) (now (out .entry)) ⌝ }
 {
     match early(
         row.vertices,

@@ -1,6 +1,6 @@
 -- `build::build` meets its contract: it is the build at form 1's row.
+use mathlib.Core.Path.{refl}
 use borrow.Author.Needs.{needs}
-use Rattle.build.proofs.First.{first-fit, first-answered}
 use Rattle.build.proofs.build.Statement.{statement}
 use Rattle.build.proofs.build.Tie as tie
 
@@ -8,7 +8,7 @@ form-row-requires : tie.Need-form-row-requires
 form-row-requires c κs = search needs
 
 build-form-requires : tie.Need-build-form-requires
-build-form-requires c κs = let r = c .before .before in first-fit (r .form-row .result) (r .form-row .ensures)
+build-form-requires c κs = (refl, c .before .before .form-row .ensures)
 
 same-length : tie.Need-same-length
 same-length c = search needs
@@ -17,10 +17,7 @@ same-length-2 : tie.Need-same-length-2
 same-length-2 c = search needs
 
 returns : tie.Need-returns
-returns c =
-    let b = c .before .before .before .before in
-    let r = b .before .before .before in
-    first-answered (r .form-row .result) (r .form-row .ensures) _ _ _ _ _ _ (b .build-form .ensures)
+returns c = c .before .before .before .before .build-form .ensures
 
 pub build-spec : {M : Type 1} → statement M
 build-spec = tie.close (tie.spec form-row-requires build-form-requires same-length same-length-2 returns)
