@@ -13,7 +13,7 @@ use lib.Seq.{take-at, drop-at}
 use borrow.Author.Tests.{leb-false}
 use Rattle.lineage.specs.Lists.{among}
 use Rattle.lineage.specs.Index.{indexOf, Made}
-use Rattle.lineage.specs.Stored.{form1, countsOf, countsFit, countsIn}
+use Rattle.lineage.specs.Stored.{Form, countsOf, countsFit, countsIn}
 use Rattle.lineage.specs.Question.{downstream}
 use Rattle.lineage.specs.Calls.{Check, check, answered, anyApplies, indexIn, formChecks, listEarly, listLate, listAnswer, listOutput}
 use Rattle.laws.specs.Rising.{Rises}
@@ -25,7 +25,7 @@ use Rattle.laws.proofs.Checks.{stops-early, pass-behind, answered-pass, answere
 use Rattle.stored.proofs.Contents.{names-many}
 use Rattle.stored.proofs.Encoded.{index-encode}
 use Rattle.open.specs.Yields.{Yields}
-use Rattle.open.proofs.Fits.{form1-wide, yielded-fits}
+use Rattle.open.proofs.Fits.{Wide, yielded-fits}
 use Rattle.list.specs.declared.Listed.{Listed}
 use Rattle.list.specs.declared.Listed.the-variants.{Count, Refused}
 use Rattle.list.specs.Listed.{listedOf, Allowed}
@@ -77,11 +77,12 @@ module _ (b : List ℕ) (u : ℕ) (marks out : List ℕ) (count : ℕ) (e : list
   pub listed-right : (M : Made (indexIn b)) (v : ℕ) → (among v list ≡ true) ↔ Downstream (M .graph) u v
   listed-right M v = rw list-is (downstream-made M u v vertex)
 
-  -- so in whatever graph yields these very bytes, with counts within form 1's bounds
+  -- so in whatever graph yields these very bytes, with counts within their form's bounds
   pub listed-yielded :
-      (Y : Yields form1 b) → countsFit form1 (countsOf (indexOf (Y .graph) (Y .orders))) ≡ true → (v : ℕ) → (among v list ≡ true) ↔ Downstream (Y .graph) u v
-  listed-yielded Y bounds =
-      let E : Fits form1 (indexOf (Y .graph) (Y .orders)) = yielded-fits form1-wide (Y .graph) (Y .ends) (Y .orders) (Y .permuted) bounds in
+      {F : Form} → Wide F → (Y : Yields F b) → countsFit F (countsOf (indexOf (Y .graph) (Y .orders))) ≡ true → (v : ℕ)
+      → (among v list ≡ true) ↔ Downstream (Y .graph) u v
+  listed-yielded {F} W Y bounds =
+      let E : Fits F (indexOf (Y .graph) (Y .orders)) = yielded-fits W (Y .graph) (Y .ends) (Y .orders) (Y .permuted) bounds in
       listed-right (record {
         graph = Y .graph;
         ends = Y .ends;

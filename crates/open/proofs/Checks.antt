@@ -1,13 +1,12 @@
 -- What `open` answers and leaves, by where its checks stop; and what bytes are that open.
 use mathlib.Core.Bool.{Bool, true, false, not, cond}
-use mathlib.Core.Path.{_≡_, refl, sym, ap, _∙_}
+use mathlib.Core.Path.{_≡_, sym, ap, _∙_}
 use mathlib.Core.List.{List, [], _∷_, _++_}
 use Prim.Native.Nat.{ℕ, _≤_}
-use lib.Dec.{eqb}
 use lib.ListN.{length}
-use borrow.Author.Tests.{ltb-false, eqb-true, not-false}
+use borrow.Author.Tests.{ltb-false, not-false}
 use Rattle.lineage.specs.Lists.{cleared}
-use Rattle.lineage.specs.Stored.{Form, form1, Counts, headerAt, countsIn, formOf, isForm, countsFit, offsetsFit}
+use Rattle.lineage.specs.Stored.{Form, Counts, headerAt, countsIn, formOf, isForm, countsFit, offsetsFit}
 use Rattle.lineage.specs.Sound.{contentsSound}
 use Rattle.lineage.specs.Calls.{Check, Outcome, refused, answered, outcome, formChecks, contentsCheck, openAnswer, openMarks}
 use Rattle.laws.proofs.Tests.{neither}
@@ -55,14 +54,6 @@ module _ (b marks : List ℕ) where
         let (o, k) = opens-by (stops-comes (countsIn b) (formChecks b (length marks)) [] late 1 (admitted A) (contents-applies L told ∙ h, tt)) in
         (rw (n-is L, k-is L, c-is L, d-is L) o, cleared-in L marks left ∙ k)
 
--- every number stands for form 1, the only one there is
-pub form-is : (number : ℕ) → formOf number ≡ form1
-form-is number = at (eqb 1 number)
-  where
-    at : (t : Bool) → cond t form1 form1 ≡ form1
-    at true = refl
-    at false = refl
-
 module _ (b : List ℕ) where
   -- what opens: its header is right, and its contents are sound
   module _ (m : ℕ) {a : Counts} (e : answered a ≡ openAnswer b m) where
@@ -75,13 +66,12 @@ module _ (b : List ℕ) where
 
     pub opened-right : HeaderRight b
     opened-right =
-        let known : isForm (headerAt b 0) ≡ true = not-false (isForm (headerAt b 0)) (passed .1 .0) in
         let fit = neither (countsFit F (countsIn b)) (offsetsFit F (countsIn b) b) (passed .1 .1 .0) in
         record {
           long = ltb-false (length b) 48 (passed .0);
-          form = sym (eqb-true (F .number) (headerAt b 0) known) ∙ ap (λ (G : Form). G .number) (form-is (headerAt b 0));
-          counts = ap (λ (G : Form). countsFit G (countsIn b)) (sym (form-is (headerAt b 0))) ∙ fit .0;
-          offsets = ap (λ (G : Form). offsetsFit G (countsIn b) b) (sym (form-is (headerAt b 0))) ∙ fit .1;
+          known = not-false (isForm (headerAt b 0)) (passed .1 .0);
+          counts = fit .0;
+          offsets = fit .1;
         }
 
     pub opened-contents : contentsSound (F .width) b ≡ true
@@ -89,10 +79,7 @@ module _ (b : List ℕ) where
 
   -- a header that is right passes; with sound contents the bytes open
   pub right-passes : HeaderRight b → Pass (headerChecks b)
-  right-passes R =
-      all-right b (R .long) (ap isForm (R .form))
-      (ap (λ (G : Form). countsFit G (countsIn b)) (form-is (headerAt b 0)) ∙ R .counts)
-      (ap (λ (G : Form). offsetsFit G (countsIn b) b) (form-is (headerAt b 0)) ∙ R .offsets)
+  right-passes R = all-right b (R .long) (R .known) (R .counts) (R .offsets)
 
   pub passed-opens : Pass (headerChecks b) → (m : ℕ) → countsIn b .n ≤ m → contentsSound (formOf (headerAt b 0) .width) b ≡ true → answered (countsIn b) ≡ openAnswer b m
   unfolding openAnswer

@@ -1,17 +1,17 @@
 -- What some edge list and orders yield within a form's bounds fits the form, and its bytes open.
-use mathlib.Core.Bool.{true, _&&_}
+use mathlib.Core.Bool.{Bool, true, false, _&&_, cond}
 use mathlib.Core.Path.{_≡_, refl, sym, ap, ap₂, _∙_}
 use mathlib.Core.List.{List, [], _∷_}
 use Prim.Native.Nat.{ℕ, _^_, _≤_, _<_}
 use native.Mathlib.Omega.{arith}
-use lib.Dec.{leb}
+use lib.Dec.{eqb, leb}
 use lib.ListN.{length, length-map}
 use borrow.Author.Tests.{leb-true, le-leb}
 use Rattle.lineage.specs.Lists.{Every}
 use Rattle.lineage.specs.Graph.{Graph, Ends, namesOf, condense, levelsOf}
 use Rattle.lineage.specs.Labels.{Order, Labelling, labelling}
 use Rattle.lineage.specs.Index.{Index, indexBy, indexOf}
-use Rattle.lineage.specs.Stored.{Form, form1, Counts, countsOf, countsFit, encode, headerAt, countsIn, formOf, section, mostLabellings}
+use Rattle.lineage.specs.Stored.{Form, form1, forms, formFrom, Counts, countsOf, countsFit, encode, headerAt, countsIn, formOf, section, mostLabellings}
 use Rattle.lineage.specs.Sound.{startsPass, sound, contentsSound}
 use Rattle.lineage.specs.Calls.{answered, openAnswer}
 use Rattle.laws.specs.Sound.{SoundLabelling, Sound}
@@ -26,30 +26,46 @@ use Rattle.open.proofs.Starts.{starts-read}
 use Rattle.open.proofs.Small.{groups-few, sections-small}
 use Rattle.open.proofs.Entries.{entries-few}
 
--- a form of the table, whose width holds its bounds
+-- a form of the table, whose width holds its bounds, and which takes no more edges than child entries
 pub record Wide (F : Form) : Type 0 where
   pub known : formOf (F .number) ≡ F
   pub vertices : F .vertices < 256 ^ F .width
   pub entries : F .entries < 256 ^ F .width
+  pub edges : F .edges ≤ F .entries
 
-pub form1-wide : Wide form1
-form1-wide = record { known = refl; vertices = omega arith; entries = omega arith }
+form1-wide : Wide form1
+form1-wide = record { known = refl; vertices = omega arith; entries = omega arith; edges = omega arith }
+
+forms-wide : Every Wide forms
+forms-wide = (form1-wide, tt)
+
+from-wide : (Fs : List Form) (number : ℕ) → Every Wide Fs → Wide (formFrom Fs number)
+from-wide [] number h = form1-wide
+from-wide (F ∷ Fs) number h = at (eqb (F .number) number) (from-wide Fs number (h .1))
+  where
+    at : (t : Bool) → Wide (formFrom Fs number) → Wide (cond t F (formFrom Fs number))
+    at true rest = h .0
+    at false rest = rest
+
+-- every number stands for such a form
+pub form-wide : (number : ℕ) → Wide (formOf number)
+form-wide number = from-wide forms number forms-wide
 
 -- accepted input keeps the bounds: there are no more groups than vertices, and no more child entries than edges
-pub bounds-kept : (F : Form) (G : Graph) → Ends G → (orders : List (List ℕ)) → Every (Order (G .n)) orders
+pub bounds-kept : {F : Form} → Wide F → (G : Graph) → Ends G → (orders : List (List ℕ)) → Every (Order (G .n)) orders
     → G .n ≤ F .vertices
-    → length (G .sources) ≤ F .entries
+    → length (G .sources) ≤ F .edges
     → 1 ≤ length orders
     → length orders ≤ mostLabellings
     → countsFit F (countsOf (indexOf G orders)) ≡ true
 unfolding indexOf indexBy condense
-bounds-kept F G ends orders permuted vertices edges least most =
+bounds-kept {F} W G ends orders permuted vertices edges least most =
     let a : Counts = countsOf (indexOf G orders) in
     let n : a .n ≡ G .n = names-long G ends in
     let d : a .d ≡ length orders = length-map orders (labelling (indexOf G orders .groups) (indexOf G orders .children)) in
     and-both (le-leb (a .n) (F .vertices) (omega arith))
     (and-both (le-leb (a .k) (a .n) (groups-few (made-sound G ends orders permuted)))
-    (and-both (le-leb (a .c) (F .entries) (omega (arith, entries-few G (namesOf G))))
+    (and-both (le-leb (a .c) (F .entries) (omega (arith, entries-few G (namesOf G), W .edges)))
     (and-both (le-leb 1 (a .d) (omega arith)) (le-leb (a .d) 5 (omega arith)))))
 
 -- each labelling has its k entries
