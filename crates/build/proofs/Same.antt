@@ -2,7 +2,7 @@
 -- groups and their groups' children agree. What a finished build stores is the stored form of its index, and the same lineage comes to the same index under the same orders.
 use mathlib.Core.Path.{_≡_, sym, ap, _∙_}
 use mathlib.Core.List.{List, map}
-use Prim.Native.Nat.{ℕ, _≤_}
+use Prim.Native.Nat.{ℕ}
 use lib.ListN.{length, take}
 use Rattle.lineage.specs.Lists.{upto}
 use Rattle.lineage.specs.Graph.{Edge, Ends}
@@ -20,7 +20,7 @@ abbrev pub SameBytes : {F : Form} {B B′ : Input} → Finished F B → Finished
 SameBytes D D′ = (D .total ≡ D′ .total) × (take (D .total) (D .out') ≡ take (D′ .total) (D′ .out'))
 
 module _
-    {F : Form} {B B′ : Input} (D : Finished F B) (D′ : Finished F B′) (edges : F .edges ≤ F .entries)
+    {F : Form} {B B′ : Input} (D : Finished F B) (D′ : Finished F B′)
     (size : B .graph .n ≡ B′ .graph .n) (many : B .d ≡ B′ .d) (orders : B .orders ≡ B′ .orders)
   where
     orders-same : ordersOf B ≡ ordersOf B′
@@ -30,10 +30,10 @@ module _
     pub builds-same : SameLineage (B .graph) (B′ .graph) → SameBytes D D′
     builds-same same =
         let index =
-        lineage-same (B .graph) (B′ .graph) (input-right D edges .ends) (input-right D′ edges .ends) size same (ordersOf B)
+        lineage-same (B .graph) (B′ .graph) (input-right D .ends) (input-right D′ .ends) size same (ordersOf B)
         ∙ ap (indexOf (B′ .graph)) orders-same in
         let bytes : encode F (built B) ≡ encode F (built B′) = ap (λ (I : Index). encode F I) index in
-        (sym (total-right D edges) ∙ ap length bytes ∙ total-right D′ edges, build-stores D edges ∙ bytes ∙ sym (build-stores D′ edges))
+        (sym (total-right D) ∙ ap length bytes ∙ total-right D′, build-stores D ∙ bytes ∙ sym (build-stores D′))
 
     -- so wherever the same edges lead between different vertices, each any number of times and in any order
     pub build-edges : SameEdges (B .graph) (B′ .graph) → SameBytes D D′
@@ -41,7 +41,7 @@ module _
 
     -- any shuffle of the edges
     pub build-shuffled : Shuffled (B .graph) (B′ .graph) → SameBytes D D′
-    build-shuffled s = build-edges (shuffled-same (B .graph) (B′ .graph) (input-right D edges .ends .paired) s)
+    build-shuffled s = build-edges (shuffled-same (B .graph) (B′ .graph) (input-right D .ends .paired) s)
 
     -- an edge repeated, anywhere
     pub build-repeated : {u v : ℕ} → Edge (B .graph .sources) (B .graph .targets) u v → OneMore u v (B .graph) (B′ .graph) → SameBytes D D′

@@ -73,7 +73,7 @@ pub record Finished (F : Form) (B : Input) : Type 0 where
   pub out' : List ℕ
   pub allowed : Answers F B work out (answered total) work' out'
 
-module _ {F : Form} {B : Input} (D : Finished F B) (edges : F .edges ≤ F .entries) where
+module _ {F : Form} {B : Input} (D : Finished F B) where
   abbrev G : Graph
   G = B .graph
 
@@ -109,8 +109,7 @@ module _ {F : Form} {B : Input} (D : Finished F B) (edges : F .edges ≤ F .entr
   fits : Fits F (built B)
   fits =
       yielded-fits (D .wide) G (input-right .ends) (ordersOf B) orders-right
-      (bounds-kept F G (input-right .ends) (ordersOf B) orders-right (input-right .vertices)
-      (omega (arith, input-right .edges, edges))
+      (bounds-kept (D .wide) G (input-right .ends) (ordersOf B) orders-right (input-right .vertices) (input-right .edges)
       (omega (arith, orders-many, input-right .least))
       (omega (arith, orders-many, input-right .most)))
 
