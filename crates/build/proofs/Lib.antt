@@ -3,6 +3,7 @@ pub mod Checks
 pub mod Outcomes
 pub mod Answered
 pub mod Row
+pub mod Call
 pub mod Accepted
 pub mod Theorems
 pub mod Same

@@ -1,7 +1,7 @@
 -- What a build promises, by its contract alone, at any form of the table. Two results that it allows are equal. A finished build was lent edges between vertices and d
 -- orders, and its output begins with the stored form of their index: that opens, and every question on it is answered as the edge list says; and it holds d labellings,
 -- each the one under its own order.
-use mathlib.Core.Bool.{true}
+use mathlib.Core.Bool.{true, false}
 use mathlib.Core.Logic.{_↔_}
 use mathlib.Core.Path.{_≡_, refl, sym, ap, _∙_}
 use mathlib.Core.List.{List, [], _∷_, _++_, map, map-map}
@@ -16,8 +16,8 @@ use Rattle.lineage.specs.Graph.{Graph, Reaches, condense}
 use Rattle.lineage.specs.Labels.{Order, labelling}
 use Rattle.lineage.specs.Index.{Index, indexBy, indexOf}
 use Rattle.lineage.specs.Question.{answer}
-use Rattle.lineage.specs.Stored.{Form, Counts, countsOf, encode, countsIn}
-use Rattle.lineage.specs.Calls.{Check, check, answered, outcome, Input, orderAt, ordersOf, built, lengthOf, buildEarly, buildLate, buildAnswer, buildOutput, buildWork, indexIn, formChecks, contentsCheck, openAnswer, askEarly, saidOf, askAnswer}
+use Rattle.lineage.specs.Stored.{Form, Counts, countsOf, encode, countsIn, formOf}
+use Rattle.lineage.specs.Calls.{Check, check, refused, answered, outcome, FormsTaken, takes, ordinary, Input, orderAt, ordersOf, built, lengthOf, buildEarly, buildLate, buildAnswer, buildOutput, buildCall, buildCallOutput, buildCallWork, indexIn, formChecks, contentsCheck, openAnswer, askEarly, saidOf, askAnswer}
 use Rattle.laws.proofs.Sound.{made-sound, made-long}
 use Rattle.laws.proofs.Decides.{sound-decides}
 use Rattle.laws.proofs.Lists.{table-long}
@@ -27,7 +27,7 @@ use Rattle.stored.specs.Fits.{Fits}
 use Rattle.laws.specs.Checks.{Pass}
 use Rattle.laws.proofs.Checks.{stops-early, pass-front, pass-behind, pass-both, stops-outcome, answered-pass, answered-is}
 use Rattle.stored.proofs.Encoded.{counts-read, encode-long, index-encode}
-use Rattle.open.proofs.Fits.{Wide, bounds-kept, yielded-fits, fits-opens}
+use Rattle.open.proofs.Fits.{Wide, form-wide, bounds-kept, yielded-fits, fits-opens}
 use Rattle.build.specs.declared.Built.{Built}
 use Rattle.build.specs.declared.Built.the-variants.{Total, Refused}
 use Rattle.build.specs.Admitted.{Admitted}
@@ -35,33 +35,7 @@ use Rattle.build.specs.Answers.{builtOf}
 use Rattle.build.proofs.Checks.{admitted}
 use Rattle.build.proofs.Answered.{Answers}
 use Rattle.build.proofs.Accepted.{accepted}
-
--- What `build` may answer and leave, by its contract.
-pub record Allowed (F : Form) (B : Input) (work out : List ℕ) (r : Built) (work' out' : List ℕ) : Type 0 where
-  pub answers : builtOf r ≡ buildAnswer F B (length work) (length out)
-  pub leaves : work' ≡ buildWork F B work
-  pub writes : out' ≡ buildOutput F B (length work) out
-
-built-one : (r r' : Built) → builtOf r ≡ builtOf r' → r ≡ r'
-built-one (Total t) (Total t') e = cc
-built-one (Total t) (Refused number extra) e = let z : _≡_ {A = ℕ} 0 1 = cc in absurd (omega arith)
-built-one (Refused number extra) (Total t) e = let z : _≡_ {A = ℕ} 0 1 = cc in absurd (omega arith)
-built-one (Refused number extra) (Refused number' extra') e = cc
-
--- two results are equal
-pub built-once : {F : Form} {B : Input} {work out : List ℕ} {r r' : Built} {w w' o o' : List ℕ} → Allowed F B work out r w o → Allowed F B work out r' w' o' → (r ≡ r') × ((w ≡ w') × (o ≡ o'))
-built-once X Y = (built-one _ _ (X .answers ∙ sym (Y .answers)), (X .leaves ∙ sym (Y .leaves), X .writes ∙ sym (Y .writes)))
-
--- input that is right, with an output that is long enough, is built: no build that refuses it is allowed
-pub build-finishes : {F : Form} {B : Input} {work out : List ℕ} {r : Built} {work' out' : List ℕ} → Allowed F B work out r work' out'
-    → Admitted F B (length work)
-    → Every (Order (B .graph .n)) (ordersOf B)
-    → lengthOf F (built B) ≤ length out
-    → builtOf r ≡ answered (lengthOf F (built B))
-unfolding buildAnswer
-build-finishes {F} {B} {work} {out} X A permuted room =
-    X .answers
-    ∙ stops-outcome (lengthOf F (built B)) (buildEarly F B (length work) ++ buildLate F B (length out)) 9 (accepted F B (length work) (length out) A permuted room)
+use Rattle.build.proofs.Call.{call-refused, call-at, call-taken}
 
 -- a finished build at a form of the table: the work memory and the output that it was lent, the total length that it answered, and what it left
 pub record Finished (F : Form) (B : Input) : Type 0 where
@@ -72,6 +46,57 @@ pub record Finished (F : Form) (B : Input) : Type 0 where
   pub work' : List ℕ
   pub out' : List ℕ
   pub allowed : Answers F B work out (answered total) work' out'
+
+-- What `build` may answer and leave, by its contract.
+pub record Allowed (form : ℕ) (B : Input) (work out : List ℕ) (r : Built) (work' out' : List ℕ) : Type 0 where
+  pub answers : builtOf r ≡ buildCall form B (length work) (length out)
+  pub leaves : work' ≡ buildCallWork form B work
+  pub writes : out' ≡ buildCallOutput form B (length work) out
+
+built-one : (r r' : Built) → builtOf r ≡ builtOf r' → r ≡ r'
+built-one (Total t) (Total t') e = cc
+built-one (Total t) (Refused number extra) e = let z : _≡_ {A = ℕ} 0 1 = cc in absurd (omega arith)
+built-one (Refused number extra) (Total t) e = let z : _≡_ {A = ℕ} 0 1 = cc in absurd (omega arith)
+built-one (Refused number extra) (Refused number' extra') e = cc
+
+-- two results are equal
+pub built-once : {form : ℕ} {B : Input} {work out : List ℕ} {r r' : Built} {w w' o o' : List ℕ} → Allowed form B work out r w o → Allowed form B work out r' w' o' → (r ≡ r') × ((w ≡ w') × (o ≡ o'))
+built-once X Y = (built-one _ _ (X .answers ∙ sym (Y .answers)), (X .leaves ∙ sym (Y .leaves), X .writes ∙ sym (Y .writes)))
+
+module _ {form : ℕ} {B : Input} {work out : List ℕ} {r : Built} {work' out' : List ℕ} (X : Allowed form B work out r work' out') where
+  abbrev own : Form
+  own = formOf form
+
+  -- a form that is not taken is refused, whatever else is lent, and nothing is altered
+  pub build-other : takes ordinary form ≡ false → (builtOf r ≡ refused 11 form) × ((work' ≡ work) × (out' ≡ out))
+  build-other other = let (a, (w, o)) = call-refused form B work out other in (X .answers ∙ sym a, (X .leaves ∙ sym w, X .writes ∙ sym o))
+
+  -- at a form that is taken, input that is right, with an output that is long enough, is built: no build that refuses it is allowed
+  pub build-finishes : takes ordinary form ≡ true
+      → Admitted own B (length work)
+      → Every (Order (B .graph .n)) (ordersOf B)
+      → lengthOf own (built B) ≤ length out
+      → builtOf r ≡ answered (lengthOf own (built B))
+  unfolding buildAnswer
+  build-finishes taken A permuted room =
+      call-at form B work out taken (X .answers, (X .leaves, X .writes)) .0
+      ∙ stops-outcome (lengthOf own (built B)) (buildEarly own B (length work) ++ buildLate own B (length out)) 9 (accepted own B (length work) (length out) A permuted room)
+
+  -- a build that finishes was told a form that is taken, and is a finished build at that form
+  module _ {total : ℕ} (done : builtOf r ≡ answered total) where
+    pub build-takes : takes ordinary form ≡ true
+    build-takes = call-taken form B work out (sym (X .answers) ∙ done)
+
+    pub finished : Finished own B
+    finished = record {
+      wide = form-wide form;
+      work = work;
+      out = out;
+      total = total;
+      work' = work';
+      out' = out';
+      allowed = call-at form B work out build-takes (sym done ∙ X .answers, (X .leaves, X .writes));
+    }
 
 module _ {F : Form} {B : Input} (D : Finished F B) where
   abbrev G : Graph

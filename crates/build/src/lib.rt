@@ -6,6 +6,7 @@ use refusals::BAD_ORDER_LIST;
 use refusals::LISTS_DIFFER;
 use refusals::MANY_EDGES;
 use refusals::MANY_VERTICES;
+use refusals::OTHER_FORM;
 use refusals::OUTPUT_SHORT;
 use refusals::WORK_SHORT;
 use stored_header::MOST_LABELLINGS;
@@ -15,8 +16,8 @@ ghost use mathlib.Core.Path.{_≡_};
 ghost use Prim.Native.Nat.{_^_, _≤_, _<_};
 ghost use lib.ListN.{length};
 ghost use Rattle.lineage.specs.Numbers.{Width};
-ghost use Rattle.lineage.specs.Stored.{form1, formOf, isForm};
-ghost use Rattle.lineage.specs.Calls.{workNeeded, buildEarly, buildAnswer, buildOutput, buildWork, outcome};
+ghost use Rattle.lineage.specs.Stored.{formOf, isForm};
+ghost use Rattle.lineage.specs.Calls.{workNeeded, buildEarly, buildAnswer, buildOutput, buildWork, buildCall, buildCallOutput, buildCallWork, outcome};
 ghost use Rattle.numbers.specs.Bounds.{vertexBound, entryBound};
 ghost use Rattle.stored_header.specs.Header.{rowOf};
 ghost use Rattle.build_orders.specs.Input.{graphOf};
@@ -179,8 +180,14 @@ pub fn build_form(
     }
 }
 
-// Builds the index of an edge list under d orders, at form 1: the output then holds the stored form, and nothing else is altered past the needed words of work memory.
+// The forms that a build takes.
+const LEAST_FORM: usize = 1;
+
+const MOST_FORM: usize = 2;
+
+// Builds the index of an edge list under d orders, at form 1 or 2: the output then holds the stored form, and nothing else is altered past the needed words of work memory.
 pub fn build(
+    form: u32,
     n: u32,
     sources: &[u32],
     targets: &[u32],
@@ -189,13 +196,20 @@ pub fn build(
     work: &mut [u32],
     out: &mut [u8],
 ) -> Built
-    ensures { λ r. ⌜ builtOf r ≡ buildAnswer form1 (inputOf n (now (sources .entry)) (now (targets .entry)) d (now (orders .entry))) (length (now (work .entry))) (length (now (out .entry))) ⌝ }
-    ensures { λ _. ⌜ now (work .exit) ≡ buildWork form1 (inputOf n (now (sources .entry)) (now (targets .entry)) d (now (orders .entry))) (now (work .entry)) ⌝ }
-    ensures { λ _. ⌜ now (out .exit) ≡ buildOutput form1 (inputOf n (now (sources .entry)) (now (targets .entry)) d (now (orders .entry))) (length (now (work .entry))) (now (out .entry)) ⌝ }
+    ensures { λ r. ⌜ builtOf r ≡ buildCall form (inputOf n (now (sources .entry)) (now (targets .entry)) d (now (orders .entry))) (length (now (work .entry))) (length (now (out .entry))) ⌝ }
+    ensures { λ _. ⌜ now (work .exit) ≡ buildCallWork form (inputOf n (now (sources .entry)) (now (targets .entry)) d (now (orders .entry))) (now (work .entry)) ⌝ }
+    ensures { λ _. ⌜ now (out .exit) ≡ buildCallOutput form (inputOf n (now (sources .entry)) (now (targets .entry)) d (now (orders .entry))) (length (now (work .entry))) (now (out .entry)) ⌝ }
 {
+    let number = form as usize;
+    if !stored_header::takes(LEAST_FORM, MOST_FORM, number) {
+        return Built::Refused {
+            number: OTHER_FORM,
+            extra: form,
+        };
+    }
     build_form(
-        1,
-        stored_header::form_row(1),
+        number,
+        stored_header::form_row(number),
         n as usize,
         sources,
         targets,
