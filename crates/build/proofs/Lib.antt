@@ -5,5 +5,3 @@ pub mod Answered
 pub mod Row
 pub mod Call
 pub mod Accepted
-pub mod Theorems
-pub mod Same
