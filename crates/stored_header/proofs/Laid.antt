@@ -46,8 +46,9 @@ fit-bounds form a fit =
     }
 
 -- the bounds of a layout that such counts give
-pub laid-bounds : {F : Form} {a : Counts} {l : Layout} {w : ℕ} → Bounded F a → l ≡ layoutBy w a → (l .n ≤ vertexBound) × (l .c ≤ entryBound)
-laid-bounds B e = subst⁻¹ (λ (l : Layout). (l .n ≤ vertexBound) × (l .c ≤ entryBound)) e (B .vertices, B .entries)
+pub laid-bounds : {F : Form} {a : Counts} {l : Layout} {w : ℕ} → Bounded F a → l ≡ layoutBy w a
+    → (l .n ≤ vertexBound) × ((l .k ≤ l .n) × (l .c ≤ entryBound))
+laid-bounds B e = subst⁻¹ (λ (l : Layout). (l .n ≤ vertexBound) × ((l .k ≤ l .n) × (l .c ≤ entryBound))) e (B .vertices, (B .groups, B .entries))
 
 -- a layout that a width and counts give
 pub sited-by : (l : Layout) (w : ℕ) (a : Counts) → l ≡ layoutBy w a → Sited l
@@ -67,11 +68,12 @@ pub taken-form : (T : FormsTaken) (number : ℕ) → takes T number ≡ true →
 taken-form T number h = both (leb (T .least) number && leb number (T .most)) (isForm number) h .1
 
 module _ (b : List ℕ) where
-  laid : isForm (headerAt b 0) ≡ true
+  -- bytes whose header is right are laid out as it says
+  pub right-laid : isForm (headerAt b 0) ≡ true
       → countsFit (formOf (headerAt b 0)) (countsIn b) ≡ true
       → offsetsAgree b (layoutIn b) ≡ true
       → Laid b (layoutIn b)
-  laid known fit agree =
+  right-laid known fit agree =
       let o = both (sameList (offsetsIn b) (offsetsOf (layoutIn b))) (eqb (length b) (layoutIn b .total)) agree in
       let B : Bounded (formOf (headerAt b 0)) (countsIn b) = fit-bounds (headerAt b 0) (countsIn b) fit in
       record {
@@ -88,12 +90,12 @@ module _ (b : List ℕ) where
         long = eqb-true (length b) (layoutIn b .total) (o .1);
       }
 
-  -- bytes whose header passes are laid out as it says
+  -- so are those whose header passes
   pub header-laid : (T : FormsTaken) → Pass (headerChecks T b) → Laid b (layoutIn b)
   header-laid T p =
       let F : Form = formOf (headerAt b 0) in
       let w = neither (countsFit F (countsIn b)) (offsetsFit F (countsIn b) b) (p .1 .1 .0) in
-      laid (taken-form T (headerAt b 0) (not-false (takes T (headerAt b 0)) (p .1 .0))) (w .0) (w .1)
+      right-laid (taken-form T (headerAt b 0) (not-false (takes T (headerAt b 0)) (p .1 .0))) (w .0) (w .1)
 
 -- the numbers of a layout are those of the bytes
 module _ {b : List ℕ} {l : Layout} (L : Laid b l) where

@@ -151,7 +151,7 @@ fn offsets_fit(index: &[u8], l: Layout) -> bool
 
 // The words that a call is lent beside bytes of this layout: none where the numbers are of 16 bits.
 pub fn words_needed(l: Layout) -> usize
-    requires { ⌜ (l .n ≤ vertexBound) × (l .c ≤ entryBound) ⌝ }
+    requires { ⌜ (l .n ≤ vertexBound) × ((l .k ≤ l .n) × (l .c ≤ entryBound)) ⌝ }
     ensures { λ r. ⌜ (r ≡ wordsOf l) × (r ≤ 16 * vertexBound + 4 * entryBound + 64) ⌝ }
 {
     if l.width == 2 {
