@@ -1,13 +1,19 @@
 -- The call is told the form: one that it does not take is refused before all else and nothing is altered; otherwise it is the build at that form.
-use mathlib.Core.Bool.{Bool, true, false, not, cond}
+use mathlib.Core.Bool.{Bool, true, false, not, _&&_, cond}
 use mathlib.Core.Path.{_≡_, refl, subst, subst⁻¹}
 use mathlib.Core.List.{List}
 use Prim.Native.Nat.{ℕ}
 use native.Mathlib.Omega.{arith}
+use lib.Dec.{leb}
 use lib.ListN.{length}
-use Rattle.lineage.specs.Stored.{formOf}
+use Rattle.lineage.specs.Stored.{formOf, isForm}
 use Rattle.lineage.specs.Calls.{Outcome, refused, answered, refuse, takes, ordinary, Input, buildAnswer, buildOutput, buildWork, buildCall, buildCallOutput, buildCallWork}
+use Rattle.laws.proofs.Tests.{both}
 use Rattle.build.proofs.Answered.{Answers}
+
+-- a form that is taken is one of the table
+pub taken-known : (form : ℕ) → takes ordinary form ≡ true → isForm form ≡ true
+taken-known form taken = both (leb 1 form && leb form 2) (isForm form) taken .1
 
 -- what the call answers and leaves
 abbrev pub CallAnswers : ℕ → Input → (work out : List ℕ) → Outcome ℕ → (work' out' : List ℕ) → Type 0

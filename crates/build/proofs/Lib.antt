@@ -5,3 +5,5 @@ pub mod Answered
 pub mod Row
 pub mod Call
 pub mod Accepted
+pub mod Theorems
+pub mod Same
