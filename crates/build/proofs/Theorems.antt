@@ -17,7 +17,7 @@ use Rattle.lineage.specs.Labels.{Order, labelling}
 use Rattle.lineage.specs.Index.{Index, indexBy, indexOf}
 use Rattle.lineage.specs.Question.{answer}
 use Rattle.lineage.specs.Stored.{Form, Counts, countsOf, encode, countsIn, formOf}
-use Rattle.lineage.specs.Calls.{Check, check, refused, answered, outcome, FormsTaken, takes, ordinary, Input, orderAt, ordersOf, built, lengthOf, buildEarly, buildLate, buildAnswer, buildOutput, buildCall, buildCallOutput, buildCallWork, indexIn, formChecks, contentsCheck, openAnswer, askEarly, saidOf, askAnswer}
+use Rattle.lineage.specs.Calls.{Check, check, refused, answered, outcome, FormsTaken, takes, ordinary, Input, orderAt, ordersOf, built, lengthOf, buildEarly, buildLate, buildAnswer, buildOutput, buildCall, buildCallOutput, buildCallWork, wordsFor, indexIn, formChecks, contentsCheck, openAnswer, askEarly, saidOf, askAnswer}
 use Rattle.laws.proofs.Sound.{made-sound, made-long}
 use Rattle.laws.proofs.Decides.{sound-decides}
 use Rattle.laws.proofs.Lists.{table-long}
@@ -159,37 +159,40 @@ module _ {F : Form} {B : Input} (D : Finished F B) where
   names-many : length (built B .names) ≡ G .n
   names-many = made-long (record { graph = G; ends = input-right .ends; orders = ordersOf B; permuted = orders-right; yields = refl })
 
-  -- what is stored opens
-  pub build-opens : (marks : ℕ) → G .n ≤ marks → openAnswer (take total (D .out')) marks ≡ answered (countsOf (built B))
-  build-opens marks room =
-      ap (λ (b : List ℕ). openAnswer b marks) build-stores
-      ∙ sym (fits-opens fits (sound-decides (built B) .1 (made-sound G (input-right .ends) (ordersOf B) orders-right)) marks (omega (arith, names-many)))
-
-  -- and is the index that was built
+  -- it is the index that was built
   pub stored-index : indexIn (take total (D .out')) ≡ built B
   stored-index = ap indexIn build-stores ∙ index-encode fits
 
   stored-counts : countsIn (take total (D .out')) .n ≡ G .n
   stored-counts = ap (λ (b : List ℕ). countsIn b .n) build-stores ∙ ap (λ (a : Counts). a .n) (counts-read fits) ∙ names-many
 
-  -- every question on it is answered, and with yes exactly where the edge list has a path
-  module _ (u v : ℕ) (source : u < G .n) (target : v < G .n) where
-    pub build-asks : (marks : ℕ) → G .n ≤ marks → askAnswer (take total (D .out')) u v marks ≡ answered (saidOf (answer (built B) u v))
+  -- Calls that take the form, with marks and words that suffice.
+  module _ (T : FormsTaken) (marks work : ℕ) (taken : takes T (F .number) ≡ true) (room : G .n ≤ marks) (words : wordsFor (F .width) (countsOf (built B)) ≤ work) where
+    -- what is stored opens
+    pub build-opens : openAnswer T (take total (D .out')) marks work ≡ answered (countsOf (built B))
+    build-opens =
+        ap (λ (b : List ℕ). openAnswer T b marks work) build-stores
+        ∙ sym
+        (fits-opens fits (sound-decides (built B) .1 (made-sound G (input-right .ends) (ordersOf B) orders-right)) T marks work taken (omega (arith, names-many)) words)
+
+    -- and every question on it is answered
+    pub build-asks : (u v : ℕ) → u < G .n → v < G .n → askAnswer T (take total (D .out')) u v marks work ≡ answered (saidOf (answer (built B) u v))
     unfolding askAnswer openAnswer
-    build-asks marks room =
+    build-asks u v source target =
         let b : List ℕ = take total (D .out') in
-        let form : List Check = formChecks b marks in
-        let p = answered-pass (countsIn b) (form ++ (contentsCheck b ∷ [])) (countsOf (built B)) (build-opens marks room) in
+        let form : List Check = formChecks T b marks work in
+        let p = answered-pass (countsIn b) (form ++ (contentsCheck b ∷ [])) (countsOf (built B)) build-opens in
         let low-source = lt-leb (countsIn b .n) u (omega (arith, stored-counts)) in
         let low-target = lt-leb (countsIn b .n) v (omega (arith, stored-counts)) in
-        stops-outcome (saidOf (answer (indexIn b) u v)) (askEarly b u v marks ++ (contentsCheck b ∷ [])) 7
+        stops-outcome (saidOf (answer (indexIn b) u v)) (askEarly T b u v marks work ++ (contentsCheck b ∷ [])) 8
         (pass-both form (check (leb (countsIn b .n) u) 14 0 ∷ check (leb (countsIn b .n) v) 14 1 ∷ contentsCheck b ∷ [])
         (pass-front form (contentsCheck b ∷ []) p) (low-source, (low-target, pass-behind form (contentsCheck b ∷ []) p)))
         ∙ ap (λ (I : Index). answered (saidOf (answer I u v))) stored-index
 
-    pub build-asks-right : (answer (built B) u v .says ≡ true) ↔ Reaches G u v
-    build-asks-right =
-        answer-right G (input-right .ends) (ordersOf B) orders-right (omega (arith, orders-many, input-right .least)) u v source target
+  -- with yes exactly where the edge list has a path
+  pub build-asks-right : (u v : ℕ) → u < G .n → v < G .n → (answer (built B) u v .says ≡ true) ↔ Reaches G u v
+  build-asks-right u v source target =
+      answer-right G (input-right .ends) (ordersOf B) orders-right (omega (arith, orders-many, input-right .least)) u v source target
 
   -- it holds d labellings, and each is the labelling under its own order
   pub build-labellings : indexIn (take total (D .out')) .labels ≡ map (λ j. labelling (condense G .groups) (condense G .children) (orderAt (G .n) (B .orders) j)) (upto (B .d))
