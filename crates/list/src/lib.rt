@@ -93,7 +93,13 @@ pub fn list_taking(
 }
 
 // The list of a stored index of form 1 or 2.
-pub fn list(index: &[u8], vertex: u32, marks: &mut [u8], work: &mut [u32], out: &mut [u32]) -> Listed
+pub fn list(
+    index: &[u8],
+    vertex: u32,
+    marks: &mut [u8],
+    work: &mut [u32],
+    out: &mut [u32],
+) -> Listed
     ensures { λ r. ⌜ listedOf r ≡ listAnswer ordinary (now (index .entry)) vertex (length (now (marks .entry))) (length (now (work .entry))) (length (now (out .entry))) ⌝ }
     ensures { λ _. ⌜ now (marks .exit) ≡ listMarks ordinary (now (index .entry)) vertex (now (marks .entry)) (length (now (work .entry))) ⌝ }
     ensures { λ _. ⌜ now (work .exit) ≡ listWork ordinary (now (index .entry)) vertex (length (now (marks .entry))) (now (work .entry)) ⌝ }
