@@ -180,12 +180,8 @@ pub fn build_form(
     }
 }
 
-// The forms that a build takes.
-const LEAST_FORM: usize = 1;
-
-const MOST_FORM: usize = 2;
-
-// Builds the index of an edge list under d orders, at form 1 or 2: the output then holds the stored form, and nothing else is altered past the needed words of work memory.
+// Builds the index of an edge list under d orders, at form 1 or 2; any other form is refused before all else. The output then holds the stored form, and nothing else
+// is altered past the needed words of work memory.
 pub fn build(
     form: u32,
     n: u32,
@@ -201,7 +197,7 @@ pub fn build(
     ensures { λ _. ⌜ now (out .exit) ≡ buildCallOutput form (inputOf n (now (sources .entry)) (now (targets .entry)) d (now (orders .entry))) (length (now (work .entry))) (now (out .entry)) ⌝ }
 {
     let number = form as usize;
-    if !stored_header::takes(LEAST_FORM, MOST_FORM, number) {
+    if !stored_header::takes(1, 2, number) {
         return Built::Refused {
             number: OTHER_FORM,
             extra: form,
