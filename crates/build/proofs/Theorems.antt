@@ -16,7 +16,7 @@ use Rattle.lineage.specs.Graph.{Graph, Reaches, condense}
 use Rattle.lineage.specs.Labels.{Order, labelling}
 use Rattle.lineage.specs.Index.{Index, indexBy, indexOf}
 use Rattle.lineage.specs.Question.{answer}
-use Rattle.lineage.specs.Stored.{Form, Counts, countsOf, encode, countsIn, formOf}
+use Rattle.lineage.specs.Stored.{Form, Counts, countsOf, encode, headerAt, countsIn, formOf}
 use Rattle.lineage.specs.Calls.{Check, check, refused, answered, outcome, FormsTaken, takes, ordinary, Input, orderAt, ordersOf, built, lengthOf, buildEarly, buildLate, buildAnswer, buildOutput, buildCall, buildCallOutput, buildCallWork, wordsFor, indexIn, formChecks, contentsCheck, openAnswer, askEarly, saidOf, askAnswer}
 use Rattle.laws.proofs.Sound.{made-sound, made-long}
 use Rattle.laws.proofs.Decides.{sound-decides}
@@ -26,7 +26,7 @@ use Rattle.build_orders.proofs.Permutations.{orders-of}
 use Rattle.stored.specs.Fits.{Fits}
 use Rattle.laws.specs.Checks.{Pass}
 use Rattle.laws.proofs.Checks.{stops-early, pass-front, pass-behind, pass-both, stops-outcome, answered-pass, answered-is}
-use Rattle.stored.proofs.Encoded.{counts-read, encode-long, index-encode}
+use Rattle.stored.proofs.Encoded.{header-read, counts-read, encode-long, index-encode}
 use Rattle.open.proofs.Fits.{Wide, form-wide, bounds-kept, yielded-fits, fits-opens}
 use Rattle.build.specs.declared.Built.{Built}
 use Rattle.build.specs.declared.Built.the-variants.{Total, Refused}
@@ -159,7 +159,11 @@ module _ {F : Form} {B : Input} (D : Finished F B) where
   names-many : length (built B .names) ≡ G .n
   names-many = made-long (record { graph = G; ends = input-right .ends; orders = ordersOf B; permuted = orders-right; yields = refl })
 
-  -- it is the index that was built
+  -- that names the form,
+  pub stored-form : formOf (headerAt (take total (D .out')) 0) ≡ F
+  stored-form = ap (λ (b : List ℕ). formOf (headerAt b 0)) build-stores ∙ ap formOf (header-read fits 0 (omega arith)) ∙ D .wide .known
+
+  -- and is the index that was built
   pub stored-index : indexIn (take total (D .out')) ≡ built B
   stored-index = ap indexIn build-stores ∙ index-encode fits
 
