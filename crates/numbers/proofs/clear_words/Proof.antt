@@ -12,7 +12,7 @@ same-length : tie.Need-same-length
 same-length c = search needs
 
 returns : tie.Need-returns
-returns c = let e = c .before .before .clear-part .ensures in cleared-first _ _ _ (omega arith) (e .0) (e .1)
+returns c = let e = c .before .before .clear-part .ensures in cleared-first _ (e .0) (e .1)
 
 pub clear-words-spec : {M : Type 1} → statement M
 clear-words-spec = tie.close (tie.spec clear-part-requires same-length returns)
