@@ -87,7 +87,7 @@ module _ {form : ℕ} {B : Input} {work out : List ℕ} {r : Built} {work' out' 
     pub build-takes : takes ordinary form ≡ true
     build-takes = call-taken form B work out (sym (X .answers) ∙ done)
 
-    pub finished : Finished own B
+    abbrev pub finished : Finished own B
     finished = record {
       wide = form-wide form;
       work = work;

@@ -84,30 +84,30 @@ module _ {b : List ℕ} (Y : Yields (formIn b) b) (bounds : countsFit (formIn b)
       (T : FormsTaken) (u v : ℕ) (marks : List ℕ) (work : ℕ) (taken : takes T (headerAt b 0) ≡ true) (source : u < G .n) (target : v < G .n) (room : G .n ≤ length marks)
       (words : wordsIn b ≤ work)
     where
-    asks : askAnswer T b u v (length marks) work ≡ answered (saidOf (answer I u v))
-    asks =
-        opened-asks T b (length marks) work (opens T (length marks) work taken room words) u v (omega (arith, vertices)) (omega (arith, vertices)) (length marks) work
-        (omega (arith, vertices)) words
-        ∙ ap (λ (J : Index). answered (saidOf (answer J u v))) (sym holds)
+      asks : askAnswer T b u v (length marks) work ≡ answered (saidOf (answer I u v))
+      asks =
+          opened-asks T b (length marks) work (opens T (length marks) work taken room words) u v (omega (arith, vertices)) (omega (arith, vertices)) (length marks) work
+          (omega (arith, vertices)) words
+          ∙ ap (λ (J : Index). answered (saidOf (answer J u v))) (sym holds)
 
-    marked : askMarks T b u v marks work ≡ answer I u v .marks ++ drop (G .n) marks
-    marked =
-        opened-marks T b (length marks) work (opens T (length marks) work taken room words) u v (omega (arith, vertices)) (omega (arith, vertices)) marks work
-        (omega (arith, vertices)) words
-        ∙ ap₂ (λ (J : Index) (n : ℕ). answer J u v .marks ++ drop n marks) (sym holds) vertices
+      marked : askMarks T b u v marks work ≡ answer I u v .marks ++ drop (G .n) marks
+      marked =
+          opened-marks T b (length marks) work (opens T (length marks) work taken room words) u v (omega (arith, vertices)) (omega (arith, vertices)) marks work
+          (omega (arith, vertices)) words
+          ∙ ap₂ (λ (J : Index) (n : ℕ). answer J u v .marks ++ drop n marks) (sym holds) vertices
 
-    right : {r : Asked} {m : List ℕ} → askedOf r ≡ askAnswer T b u v (length marks) work → m ≡ askMarks T b u v marks work → Right G I u v marks r m
-    right answers leaves = record {
-      said = answers ∙ asks;
-      marked = leaves ∙ marked;
-      path = ask.asked-right T b u v marks work (saidOf (answer I u v)) asks made;
-      rule = first .0;
-      none-before = first .1;
-      walk = marks-are-opened I S u v (omega (arith, built-long G (Y .ends) (Y .orders) (Y .permuted)));
-    }
-      where
-        first : Holds I (placeIn I u) (placeIn I v) (answer I u v .reason) × ((q : ℕ) → q < answer I u v .reason → Holds I (placeIn I u) (placeIn I v) q → ⊥)
-        first = reason-first I u v (answer I u v .reason) .0 refl
+      right : {r : Asked} {m : List ℕ} → askedOf r ≡ askAnswer T b u v (length marks) work → m ≡ askMarks T b u v marks work → Right G I u v marks r m
+      right answers leaves = record {
+        said = answers ∙ asks;
+        marked = leaves ∙ marked;
+        path = ask.asked-right T b u v marks work (saidOf (answer I u v)) asks made;
+        rule = first .0;
+        none-before = first .1;
+        walk = marks-are-opened I S u v (omega (arith, built-long G (Y .ends) (Y .orders) (Y .permuted)));
+      }
+        where
+          first : Holds I (placeIn I u) (placeIn I v) (answer I u v .reason) × ((q : ℕ) → q < answer I u v .reason → Holds I (placeIn I u) (placeIn I v) q → ⊥)
+          first = reason-first I u v (answer I u v .reason) .0 refl
 
   -- the host's: form 1 needs no words
   host-right : (u v : ℕ) (marks : List ℕ) {r : DrobistenAsked} {m : List ℕ} → takes host (headerAt b 0) ≡ true → u < G .n → v < G .n → G .n ≤ length marks
