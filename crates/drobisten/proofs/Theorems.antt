@@ -65,12 +65,12 @@ asked-all-back : (o : Outcome ℕ) → Told Some Any o → askedAllBy (hostAsked
 asked-all-back (refused number extra) some = rw (ne-eqb number 0 (λ e. omega arith)) refl
 asked-all-back (answered count) some = refl
 
-pub asked-all-read : (b S T : List ℕ) (m a : ℕ) → askedAllBy (hostAskedAll (batchAnswer b S T m a)) ≡ batchAnswer b S T m a
+pub asked-all-read : (b S T : List ℕ) (m a : ℕ) → askedAllBy (hostAskedAll (batchAnswer host b S T m 0 a)) ≡ batchAnswer host b S T m 0 a
 unfolding batchAnswer
 asked-all-read b S T m a =
-    asked-all-back (batchAnswer b S T m a)
-    (outcome-told (length S) Some Any (formChecks b m ++ batchLate b S T a)
-    (omega arith, (omega arith, (omega arith, (omega arith, (omega arith, (omega arith, (omega arith, tt))))))) tt)
+    asked-all-back (batchAnswer host b S T m 0 a)
+    (outcome-told (length S) Some Any (formChecks host b m 0 ++ batchLate b S T a)
+    (omega arith, (omega arith, (omega arith, (omega arith, (omega arith, (omega arith, (omega arith, (omega arith, tt)))))))) tt)
 
 -- what `drobisten_open`, `drobisten_ask` and `drobisten_ask_all` may return and leave, by their contracts
 pub record Opens (b marks : List ℕ) (r : DrobistenOpened) (m : List ℕ) : Type 0 where
@@ -82,9 +82,9 @@ pub record Asks (b : List ℕ) (u v : ℕ) (marks : List ℕ) (r : DrobistenAske
   pub leaves : m ≡ askMarks host b u v marks 0
 
 pub record AsksAll (b S T marks answers : List ℕ) (r : DrobistenAskedAll) (m a : List ℕ) : Type 0 where
-  pub returns : r ≡ hostAskedAll (batchAnswer b S T (length marks) (length answers))
-  pub leaves : m ≡ batchMarks b S T (length answers) marks
-  pub writes : a ≡ batchAnswers b S T (length marks) answers
+  pub returns : r ≡ hostAskedAll (batchAnswer host b S T (length marks) 0 (length answers))
+  pub leaves : m ≡ batchMarks host b S T marks 0 (length answers)
+  pub writes : a ≡ batchAnswers host b S T (length marks) 0 answers
 
 -- two results are equal
 pub opened-once : {b marks : List ℕ} {r r' : DrobistenOpened} {m m' : List ℕ} → Opens b marks r m → Opens b marks r' m' → (r ≡ r') × (m ≡ m')
@@ -110,8 +110,8 @@ module _ {b : List ℕ} {u v : ℕ} {marks : List ℕ} {r : DrobistenAsked} {m :
 
   -- yes is 1 exactly where a path leads from source to target, in whatever graph yields the bytes
   pub host-right : (M : Made (indexIn b)) → (r .yes ≡ 1) ↔ Reaches (M .graph) u v
-  host-right M = Iff·trans (eq-eqb (r .yes) 1, eqb-true (r .yes) 1) (asked-right b u v marks said answer-read M)
+  host-right M = Iff·trans (eq-eqb (r .yes) 1, eqb-true (r .yes) 1) (asked-right host b u v marks 0 said answer-read M)
 
   -- the labelling is the first whose interval settled the answer
   pub host-deciding : Deciding (indexIn b) (placeIn (indexIn b) u) (placeIn (indexIn b) v) (r .reason) (r .labelling)
-  host-deciding = asked-deciding b u v marks said answer-read
+  host-deciding = asked-deciding host b u v marks 0 said answer-read

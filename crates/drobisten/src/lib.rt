@@ -109,9 +109,9 @@ pub extern "C" fn drobisten_ask_all(
     targets: &[u32],
     answers: &mut [u32],
 ) -> DrobistenAskedAll
-    ensures { λ r. ⌜ r ≡ hostAskedAll (batchAnswer (now (index .entry)) (now (sources .entry)) (now (targets .entry)) (length (now (marks .entry))) (length (now (answers .entry)))) ⌝ }
-    ensures { λ _. ⌜ now (marks .exit) ≡ batchMarks (now (index .entry)) (now (sources .entry)) (now (targets .entry)) (length (now (answers .entry))) (now (marks .entry)) ⌝ }
-    ensures { λ _. ⌜ now (answers .exit) ≡ batchAnswers (now (index .entry)) (now (sources .entry)) (now (targets .entry)) (length (now (marks .entry))) (now (answers .entry)) ⌝ }
+    ensures { λ r. ⌜ r ≡ hostAskedAll (batchAnswer host (now (index .entry)) (now (sources .entry)) (now (targets .entry)) (length (now (marks .entry))) 0 (length (now (answers .entry)))) ⌝ }
+    ensures { λ _. ⌜ now (marks .exit) ≡ batchMarks host (now (index .entry)) (now (sources .entry)) (now (targets .entry)) (now (marks .entry)) 0 (length (now (answers .entry))) ⌝ }
+    ensures { λ _. ⌜ now (answers .exit) ≡ batchAnswers host (now (index .entry)) (now (sources .entry)) (now (targets .entry)) (length (now (marks .entry))) 0 (now (answers .entry)) ⌝ }
 {
     match ask_all::ask_all_form1(index, sources, targets, marks, answers) {
         Batched::Count(count) => DrobistenAskedAll {
