@@ -9,11 +9,13 @@ use native.Mathlib.Omega.{arith}
 use lib.ListN.{length}
 use Rattle.lineage.specs.Lists.{joined}
 use Rattle.lineage.specs.Index.{Index, indexOf}
-use Rattle.lineage.specs.Stored.{Counts, countsOf, countsFit, encode, countsIn}
+use Rattle.lineage.specs.Stored.{Counts, countsOf, countsFit, encode, headerAt, countsIn}
+use Rattle.lineage.specs.Calls.{FormsTaken}
 use Rattle.laws.specs.Sound.{Sound}
 use Rattle.laws.proofs.Sound.{made-sound}
 use Rattle.laws.proofs.Grouped.{place-low}
 use Rattle.stored_header.specs.Header.{layoutIn, Laid}
+use Rattle.stored_header.proofs.Forms.{form-within}
 use Rattle.stored_header.proofs.Laid.{header-laid}
 use Rattle.open.specs.Yields.{Yields, HeaderRight}
 use Rattle.open.proofs.Checks.{right-passes}
@@ -26,7 +28,7 @@ none-joined : (xs : List (List ℕ)) → length xs ≡ 0 → length (joined xs) 
 none-joined [] e = refl
 none-joined (x ∷ xs) e = absurd (omega arith)
 
-module _ {b : List ℕ} (R : HeaderRight b) (Y : Yields (formIn b) b) where
+module _ {T : FormsTaken} {b : List ℕ} (R : HeaderRight T b) (Y : Yields (formIn b) b) where
   abbrev I : Index
   I = indexOf (Y .graph) (Y .orders)
 
@@ -34,7 +36,7 @@ module _ {b : List ℕ} (R : HeaderRight b) (Y : Yields (formIn b) b) where
   S = made-sound (Y .graph) (Y .ends) (Y .orders) (Y .permuted)
 
   L : Laid b (layoutIn b)
-  L = header-laid b (right-passes b R)
+  L = header-laid b T (right-passes T b R)
 
   short : length (encode (formIn b) I) < 2 ^ 31
   short = subst (λ (z : List ℕ). length z < 2 ^ 31) (sym (Y .bytes)) (laid-short L)
@@ -51,7 +53,7 @@ module _ {b : List ℕ} (R : HeaderRight b) (Y : Yields (formIn b) b) where
           absurd
           (omega (
             arith,
-            yielded-long S,
+            yielded-long (formIn b) S,
             ap length (Y .bytes),
             groups-few S,
             none-joined (I .children) none,
@@ -64,13 +66,13 @@ module _ {b : List ℕ} (R : HeaderRight b) (Y : Yields (formIn b) b) where
 
   -- the header's counts are the index's
   counts-are : length (I .labels) < 2 ^ 31 → countsIn b ≡ countsOf I
-  counts-are few = ap countsIn (sym (Y .bytes)) ∙ counts-bounded S short few
+  counts-are few = ap countsIn (sym (Y .bytes)) ∙ counts-bounded (formIn b) S (form-within (headerAt b 0)) short few
 
   -- as many orders as the header says, where there is a vertex
   pub orders-are : 0 < countsIn b .n → length (Y .orders) ≡ countsIn b .d
   orders-are some =
       let one : 1 ≤ 4 * length (I .groups) = omega (arith, some-group some) in
-      let few : length (I .labels) < 2 ^ 31 = omega (arith, short, yielded-long S, mul-le-mul-left (length (I .labels)) one) in
+      let few : length (I .labels) < 2 ^ 31 = omega (arith, short, yielded-long (formIn b) S, mul-le-mul-left (length (I .labels)) one) in
       sym (orders-long (Y .graph) (Y .orders)) ∙ ap (λ (a : Counts). a .d) (sym (counts-are few))
 
   -- with as many orders the index is within the form's bounds
