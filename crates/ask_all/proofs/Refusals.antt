@@ -9,7 +9,7 @@ use lib.Dec.{eqb, leb}
 use lib.ListN.{length, getD, drop}
 use borrow.Author.Tests.{leb-true, eq-eqb, ne-eqb, lt-ltb}
 use Rattle.lineage.specs.Lists.{upto, joined, cleared, Every}
-use Rattle.lineage.specs.Stored.{Form, forms, formFrom, formOf, headerAt, countsIn, countsFit, offsetsFit}
+use Rattle.lineage.specs.Stored.{Form, forms, formOf, headerAt, countsIn, countsFit, offsetsFit}
 use Rattle.lineage.specs.Question.{answer}
 use Rattle.lineage.specs.Calls.{Check, Outcome, refused, answered, outcome, anyApplies, FormsTaken, wordsIn, formChecks, contentsCheck, indexIn}
 use Rattle.laws.proofs.Tests.{neither, both, or-false-left}
@@ -20,6 +20,7 @@ use Rattle.stored_header.specs.declared.Layout.{Layout}
 use Rattle.laws.specs.Checks.{Stops, stopped, Comes}
 use Rattle.stored_header.specs.Header.{layoutIn, wordsOf, Laid}
 use Rattle.laws.proofs.Checks.{stops-outcome, stops-early, refused-comes, rest-comes}
+use Rattle.stored_header.proofs.Forms.{form-each}
 use Rattle.stored_header.proofs.Laid.{width-is, n-is, words-are, cleared-in}
 use Rattle.stored_header.proofs.Admitted.{Admits, admitted, admitted-laid}
 use Rattle.open.proofs.Checks.{words-cleared}
@@ -106,14 +107,6 @@ six-room a p h = omega (arith, mul-div-le a 6)
 abbrev Small : Form → Type 0
 Small F = F .width ≡ 2 → F .vertices ≤ 4096
 
-from-small : (Fs : List Form) (number : ℕ) → Every Small Fs → Small (formFrom Fs number)
-from-small [] number h = λ e. omega arith
-from-small (F ∷ Fs) number h = at (eqb (F .number) number) (from-small Fs number (h .1))
-  where
-    at : (t : Bool) → Small (formFrom Fs number) → Small (cond t F (formFrom Fs number))
-    at true ih = h .0
-    at false ih = ih
-
 forms-small : Every Small forms
 forms-small = ((λ e. omega arith), ((λ e. absurd (omega (arith, e))), tt))
 
@@ -121,7 +114,7 @@ pub small : {T : FormsTaken} {b : List ℕ} {marks words : ℕ} {l : Layout} →
 small {b = b} A e =
     let F : Form = formOf (headerAt b 0) in
     let fits = both (leb (countsIn b .n) (F .vertices)) _ (neither (countsFit F (countsIn b)) (offsetsFit F (countsIn b) b) (admitted A .1 .1 .0) .0) in
-    omega (arith, n-is (admitted-laid A), leb-true (countsIn b .n) (F .vertices) (fits .0), from-small forms (headerAt b 0) forms-small (sym (width-is (admitted-laid A)) ∙ e))
+    omega (arith, n-is (admitted-laid A), leb-true (countsIn b .n) (F .vertices) (fits .0), form-each Small forms-small (headerAt b 0) (sym (width-is (admitted-laid A)) ∙ e))
 
 -- and an array with a word for each suffices for the pairs; otherwise the needed words do
 pub array-fits : (w n : ℕ) → w ≡ 2 → n ≤ 4096 → stackWords w n + n ≤ 4096
