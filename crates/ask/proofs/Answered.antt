@@ -39,6 +39,9 @@ module _ (T : FormsTaken) (b : List ℕ) (u v m w : ℕ) (s : Said) (e : askAnsw
   pub none-applies : anyApplies checks ≡ false
   none-applies = stops-early checks [] 8 passes
 
+  pub none-early : anyApplies (askEarly T b u v m w) ≡ false
+  none-early = stops-early (askEarly T b u v m w) (contentsCheck b ∷ []) 8 passes
+
   pub answered-only : Answered b u v s
   unfolding askAnswer
   answered-only =

@@ -14,7 +14,7 @@ use Rattle.numbers.specs.Regions.{Kept}
 use Rattle.numbers.proofs.Cleared.{cleared-past, cleared-kept}
 use Rattle.numbers.proofs.Regions.{kept-wider}
 use Rattle.stored_header.specs.declared.Layout.{Layout}
-use Rattle.laws.specs.Checks.{Stops, Pass, stopped, Comes}
+use Rattle.laws.specs.Checks.{Comes}
 use Rattle.stored_header.specs.Header.{counts, layoutIn, wordsOf, Laid}
 use Rattle.laws.proofs.Checks.{stops-outcome, pass-both, refused-comes, stops-comes, rest-comes}
 use Rattle.stored_header.proofs.Laid.{n-is, words-are}

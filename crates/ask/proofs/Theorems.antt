@@ -10,13 +10,13 @@ use Prim.Native.Nat.{ℕ, _≤_, _<_}
 use native.Mathlib.Omega.{arith}
 use lib.ListN.{length, getD, take, drop, length-map, List·getD-append}
 use lib.Seq.{take-at, drop-at}
-use Rattle.lineage.specs.Lists.{Every, ones}
+use Rattle.lineage.specs.Lists.{Every, ones, cleared}
 use Rattle.lineage.specs.Graph.{Graph, Ends, Reaches}
 use Rattle.lineage.specs.Labels.{Order}
 use Rattle.lineage.specs.Index.{Index, indexOf, Made}
 use Rattle.lineage.specs.Stored.{countsIn}
 use Rattle.lineage.specs.Question.{placeIn, netOf, answer}
-use Rattle.lineage.specs.Calls.{answered, FormsTaken, indexIn, Said, askAnswer, askMarks, askWork}
+use Rattle.lineage.specs.Calls.{answered, FormsTaken, wordsIn, indexIn, Said, askAnswer, askMarks, askWork}
 use Rattle.laws.specs.Rising.{Distinct}
 use Rattle.laws.proofs.Grouped.{group-name}
 use Rattle.laws.proofs.Sound.{made-long}
@@ -28,7 +28,7 @@ use Rattle.stored.proofs.Contents.{names-many, labels-many}
 use Rattle.ask.specs.declared.Asked.{Asked}
 use Rattle.ask.specs.declared.Asked.the-variants.{Answer, Refused}
 use Rattle.ask.specs.Asked.{askedOf}
-use Rattle.ask.proofs.Answered.{Answered, answered-only, none-applies}
+use Rattle.ask.proofs.Answered.{Answered, answered-only, none-applies, none-early}
 
 pub orders-long : (G : Graph) (orders : List (List ℕ)) → length (indexOf G orders .labels) ≡ length orders
 unfolding indexOf
@@ -121,6 +121,13 @@ module _ (T : FormsTaken) (b : List ℕ) (u v : ℕ) (marks : List ℕ) (w : ℕ
   -- child whose inner interval ended the walk; under 1, 3 and 6 it is 0
   pub asked-deciding : Deciding I (placeIn I u) (placeIn I v) (s .reason) (s .deciding)
   asked-deciding = subst (λ (z : Said). Deciding I (placeIn I u) (placeIn I v) (z .reason) (z .deciding)) (A .said) (deciding-first I (A .sound) u v source)
+
+-- the words after it: those needed are 0, and later ones as they were
+pub asked-words :
+    (T : FormsTaken) (b : List ℕ) (u v m : ℕ) (work : List ℕ) (s : Said) → askAnswer T b u v m (length work) ≡ answered s
+    → askWork T b u v m work ≡ cleared (wordsIn b) work
+unfolding askWork
+asked-words T b u v m work s e = rw (none-early T b u v m (length work) s e) refl
 
 -- Demand 3: of two stored indexes of one edge list, each of any form that is taken, the orders of the first among those of the second, the second says the same, opens no group that the first
 -- does not open, and counts no more.

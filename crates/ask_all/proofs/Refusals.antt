@@ -1,15 +1,15 @@
 -- What `ask_all` answers and leaves, by where its checks stop: at one of 10 to 13 or at 6, at 15, 2 or 16, or behind them.
 use mathlib.Core.Bool.{Bool, true, false, cond}
-use mathlib.Core.Path.{_≡_, refl, sym, ap, subst, subst⁻¹, _∙_}
+use mathlib.Core.Path.{_≡_, refl, sym, subst, _∙_}
 use mathlib.Core.List.{List, [], _∷_, _++_, map}
 use Prim.Native.Nat.{ℕ, zero, suc, _+_, _*_, _/_, _≤_, _<_}
 use native.Mathlib.Omega.{arith}
 use native.Mathlib.Nat.{div-lt-iff-lt-mul, mul-div-le}
-use lib.Dec.{eqb, leb, ltb}
+use lib.Dec.{eqb, leb}
 use lib.ListN.{length, getD, drop}
 use borrow.Author.Tests.{leb-true, eq-eqb, ne-eqb, lt-ltb}
 use Rattle.lineage.specs.Lists.{upto, joined, cleared, Every}
-use Rattle.lineage.specs.Stored.{Form, form1, forms, formFrom, formOf, headerAt, countsIn, countsFit, offsetsFit}
+use Rattle.lineage.specs.Stored.{Form, forms, formFrom, formOf, headerAt, countsIn, countsFit, offsetsFit}
 use Rattle.lineage.specs.Question.{answer}
 use Rattle.lineage.specs.Calls.{Check, Outcome, refused, answered, outcome, anyApplies, FormsTaken, wordsIn, formChecks, contentsCheck, indexIn}
 use Rattle.laws.proofs.Tests.{neither, both, or-false-left}

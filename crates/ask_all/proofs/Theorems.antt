@@ -17,7 +17,7 @@ use Rattle.lineage.specs.Stored.{countsIn}
 use Rattle.lineage.specs.Graph.{Reaches}
 use Rattle.lineage.specs.Index.{Made}
 use Rattle.lineage.specs.Question.{answer}
-use Rattle.lineage.specs.Calls.{Check, check, Outcome, refused, answered, outcome, anyApplies, FormsTaken, formChecks, contentsCheck, indexIn, openMarks, Said, saidOf, askEarly, askAnswer, askMarks}
+use Rattle.lineage.specs.Calls.{Check, check, Outcome, refused, answered, outcome, anyApplies, FormsTaken, wordsIn, formChecks, contentsCheck, indexIn, openMarks, Said, saidOf, askEarly, askAnswer, askMarks}
 use Rattle.laws.proofs.Tests.{clash}
 use Rattle.laws.proofs.Lists.{table-at, table-long}
 use Rattle.laws.proofs.Every.{every-table}
@@ -212,3 +212,12 @@ module _ (T : FormsTaken) (b sources targets marks : List ℕ) (w : ℕ) (answer
   pub batch-fold : batchMarks T b sources targets marks w (length answers) ≡ askedOn (length sources)
   unfolding batchMarks
   batch-fold = rw none (sym (folded (length sources) .0))
+
+-- the words after it: those needed are 0, and later ones as they were
+pub batch-words :
+    (T : FormsTaken) (b sources targets : List ℕ) (m : ℕ) (work : List ℕ) (a count : ℕ) → batchAnswer T b sources targets m (length work) a ≡ answered count
+    → batchWork T b m work ≡ cleared (wordsIn b) work
+unfolding batchAnswer batchWork
+batch-words T b sources targets m work a count e =
+    let early : List Check = formChecks T b m (length work) in
+    rw (passed-any early (pass-front early (batchLate b sources targets a) (answered-pass (length sources) (early ++ batchLate b sources targets a) count e))) refl

@@ -1,7 +1,7 @@
 -- Lent memory whose first elements are set to 0, one element more at a time.
 use mathlib.Core.Path.{_≡_, sym, ap, ap₂, _∙_}
 use mathlib.Core.List.{List, _++_}
-use Prim.Native.Nat.{ℕ, _+_, _-_, _≤_, _<_}
+use Prim.Native.Nat.{ℕ, _+_, _≤_, _<_}
 use native.Mathlib.Omega.{arith}
 use lib.ListN.{length, getD, take, drop, take-append-drop, set, replicate, length-append, length-drop, length-replicate, getD-replicate, List·getD-append}
 use lib.Seq.{take-at, drop-at, take-all}

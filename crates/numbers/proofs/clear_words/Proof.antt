@@ -1,5 +1,4 @@
 -- `numbers::clear_words` meets its contract: the first n words are 0, and no other is touched.
-use native.Mathlib.Omega.{arith}
 use borrow.Author.Needs.{needs}
 use Rattle.numbers.proofs.Cleared.{cleared-first}
 use Rattle.numbers.proofs.clear_words.Statement.{statement}
