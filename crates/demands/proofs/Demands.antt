@@ -1,5 +1,6 @@
 -- The three demands on the calls, proved. specs/ says what each is; what follows is the laws of this crate and of those below, cited.
-use Rattle.lineage.specs.Calls.{buildAnswer, buildCall, openAnswer, openWork, askAnswer, askWork, listAnswer}
+use mathlib.Core.Path.{sym}
+use Rattle.lineage.specs.Calls.{buildCall, openAnswer, askAnswer, listAnswer}
 use Rattle.build.proofs.build as build-call
 use Rattle.build.proofs.Theorems.{built-once, build-finishes}
 use Rattle.open.proofs.open as open-call
@@ -8,7 +9,7 @@ use Rattle.open.proofs.Theorem.{opened-once}
 use Rattle.ask.proofs.ask as ask-call
 use Rattle.ask.proofs.ask_form1 as ask-form1-call
 use Rattle.ask.proofs.Theorems.{asked-once}
-use Rattle.ask_all.specs.Batch.{batchAnswer, batchWork}
+use Rattle.ask_all.specs.Batch.{batchAnswer}
 use Rattle.ask_all.proofs.ask_all as ask-all-call
 use Rattle.ask_all.proofs.ask_all_form1 as ask-all-form1-call
 use Rattle.ask_all.proofs.Theorems.{batch-once}
@@ -24,14 +25,14 @@ use Rattle.demands.specs.Calls.{EveryCall}
 use Rattle.demands.specs.Stored.{AsGrail}
 use Rattle.demands.specs.Orders.{MoreOrders}
 use Rattle.demands.proofs.Refusals.{first-refusal}
-use Rattle.demands.proofs.Words.{no-words}
+use Rattle.demands.proofs.Words.{open-no-words, ask-no-words, batch-no-words}
 use Rattle.demands.proofs.Stored.{build-stored}
 use Rattle.demands.proofs.Opened.{opened-yields, yielded-stored, opened-answers, asked-path, host-path}
 use Rattle.demands.proofs.Orders.{fewer, on-a-no}
 
 -- 1. The checker's theorem of each call is cited; what the contract says is, equation by equation, what is allowed.
 pub demand-1 : EveryCall
-unfolding buildCall openAnswer openWork askAnswer askWork batchAnswer batchWork listAnswer
+unfolding buildCall openAnswer askAnswer batchAnswer listAnswer
 demand-1 = record {
   build = record {
     met = build-call.Met.met;
@@ -48,7 +49,7 @@ demand-1 = record {
   opens-form1 = record {
     met = open-form1-call.Met.met;
     nothing-asked = λ κs a. tt;
-    allows = λ κs a r e (answers, leaves). record { answers = answers; leaves = leaves; clears = sym (no-words host _ _ []) };
+    allows = λ κs a r e (answers, leaves). record { answers = answers; leaves = leaves; clears = sym (open-no-words _ _ _) };
     once = λ κs a r r' e e' X Y. let (same, (marks, work)) = opened-once X Y in (same, marks);
   };
   ask = record {
@@ -60,7 +61,7 @@ demand-1 = record {
   ask-form1 = record {
     met = ask-form1-call.Met.met;
     nothing-asked = λ κs a. tt;
-    allows = λ κs a r e (answers, leaves). record { answers = answers; leaves = leaves; clears = sym (no-words host _ _ _) };
+    allows = λ κs a r e (answers, leaves). record { answers = answers; leaves = leaves; clears = sym (ask-no-words _ _ _ _ _) };
     once = λ κs a r r' e e' X Y. let (same, (marks, work)) = asked-once X Y in (same, marks);
   };
   ask-all = record {
@@ -72,7 +73,7 @@ demand-1 = record {
   ask-all-form1 = record {
     met = ask-all-form1-call.Met.met;
     nothing-asked = λ κs a. tt;
-    allows = λ κs a r e (returns, (leaves, writes)). record { returns = returns; leaves = leaves; clears = sym (no-words host _ _ []); writes = writes };
+    allows = λ κs a r e (returns, (leaves, writes)). record { returns = returns; leaves = leaves; clears = sym (batch-no-words _ _ _); writes = writes };
     once = λ κs a r r' e e' X Y. let (same, (marks, (work, answers))) = batch-once X Y in (same, (marks, answers));
   };
   list = record {

@@ -4,7 +4,7 @@ use mathlib.Core.Bool.{true}
 use mathlib.Core.Path.{_≡_, refl, sym, ap, subst, _∙_}
 use mathlib.Core.List.{List, [], _∷_}
 use Prim.Native.Nat.{ℕ, zero, suc, _+_, _*_, _^_, _≤_, _<_}
-use native.Mathlib.Nat.{mul-le-mul, mul-le-mul-left}
+use native.Mathlib.Nat.{mul-le-mul-left}
 use native.Mathlib.Omega.{arith}
 use lib.ListN.{length}
 use Rattle.lineage.specs.Lists.{joined}
@@ -14,6 +14,7 @@ use Rattle.lineage.specs.Calls.{FormsTaken}
 use Rattle.laws.specs.Sound.{Sound}
 use Rattle.laws.proofs.Sound.{made-sound}
 use Rattle.laws.proofs.Grouped.{place-low}
+use Rattle.numbers.proofs.Numbers.{count-low}
 use Rattle.stored_header.specs.Header.{layoutIn, Laid}
 use Rattle.stored_header.proofs.Forms.{form-within}
 use Rattle.stored_header.proofs.Laid.{header-laid}
@@ -47,20 +48,31 @@ module _ {T : FormsTaken} {b : List ℕ} (R : HeaderRight T b) (Y : Yields (form
     where
       go : (n : ℕ) → length (I .names) ≡ n → 0 < length (I .groups)
       go zero e =
-          let none : length (I .children) ≡ 0 = omega (arith, S .condensed .children-long, groups-few S) in
-          let no-labels : 4 * length (I .groups) ≤ 0 = omega (arith, groups-few S) in
+          let w : ℕ = formIn b .width in
+          let a : Counts = countsOf I in
+          let rows : length (I .children) ≡ 0 = omega (arith, S .condensed .children-long, groups-few S) in
+          let no-vertices : a .n ≤ 0 = omega arith in
+          let no-groups : a .k ≤ 0 = omega (arith, groups-few S) in
+          let no-children : a .c ≤ 0 = omega (arith, none-joined (I .children) rows) in
+          let no-labels : a .d * (4 * a .k) ≤ 0 =
+          let none : 4 * a .k ≤ 0 = omega arith in
+          omega (arith, mul-le-mul-left (a .d) none) in
+          let one-start : a .k + 1 ≤ 1 = omega arith in
           let start : 1 ≤ countsIn b .k + 1 = omega arith in
           absurd
           (omega (
             arith,
             yielded-long (formIn b) S,
             ap length (Y .bytes),
-            groups-few S,
-            none-joined (I .children) none,
-            mul-le-mul-left (length (I .labels)) no-labels,
+            mul-le-mul-left w no-vertices,
+            mul-le-mul-left w no-groups,
+            mul-le-mul-left w one-start,
+            mul-le-mul-left w no-children,
+            mul-le-mul-left w no-labels,
             L .long,
-            mul-le-mul (L .width .low) some,
-            mul-le-mul (L .width .low) start,
+            L .width .low,
+            mul-le-mul-left w some,
+            mul-le-mul-left w start,
           ))
       go (suc n) e = omega (arith, S .condensed .children-long, place-low (S .condensed) 0 (omega arith))
 
@@ -72,7 +84,9 @@ module _ {T : FormsTaken} {b : List ℕ} (R : HeaderRight T b) (Y : Yields (form
   pub orders-are : 0 < countsIn b .n → length (Y .orders) ≡ countsIn b .d
   orders-are some =
       let one : 1 ≤ 4 * length (I .groups) = omega (arith, some-group some) in
-      let few : length (I .labels) < 2 ^ 31 = omega (arith, short, yielded-long (formIn b) S, mul-le-mul-left (length (I .labels)) one) in
+      let a : Counts = countsOf I in
+      let labels = count-low (formIn b .width) (a .d * (4 * a .k)) (form-within (headerAt b 0) .width .low) in
+      let few : length (I .labels) < 2 ^ 31 = omega (arith, short, yielded-long (formIn b) S, labels, mul-le-mul-left (length (I .labels)) one) in
       sym (orders-long (Y .graph) (Y .orders)) ∙ ap (λ (a : Counts). a .d) (sym (counts-are few))
 
   -- with as many orders the index is within the form's bounds

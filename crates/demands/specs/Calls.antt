@@ -20,11 +20,11 @@ use Rattle.open.proofs.open_form1 as open-form1-call
 use Rattle.open.proofs.Theorem as opening
 use Rattle.ask.proofs.ask as ask-call
 use Rattle.ask.proofs.ask_form1 as ask-form1-call
-use Rattle.ask.proofs.Theorems as ask
+use Rattle.ask.proofs.Theorems as asking
 use Rattle.ask_all.specs.Batch.{batchLate, batchAnswer}
 use Rattle.ask_all.proofs.ask_all as ask-all-call
 use Rattle.ask_all.proofs.ask_all_form1 as ask-all-form1-call
-use Rattle.ask_all.proofs.Theorems as ask-all
+use Rattle.ask_all.proofs.Theorems as asking-all
 use Rattle.list.proofs.list as list-call
 use Rattle.list.specs.Listed as list
 use Rattle.text_run.proofs.run as run-call
@@ -73,20 +73,20 @@ pub record EveryCall : Type 2 where
       (λ κs (_, (marks, _)) (_, (marks', _)). now marks ≡ now marks')
   pub ask : Answers ask-call.Kinds.ps ask-call.Kinds.r ask-call.Statement.statement ask-call.Reads.Asked ask-call.Reads.Learnt
       (λ κs (index, (source, (target, (marks, (work, _))))) r (_, (_, (_, (marks', (work', _))))).
-      ask.Allowed ordinary (now index) source target (now marks) (now work) r (now marks') (now work'))
+      asking.Allowed ordinary (now index) source target (now marks) (now work) r (now marks') (now work'))
       (λ κs (_, (_, (_, (marks, (work, _))))) (_, (_, (_, (marks', (work', _))))). (now marks ≡ now marks') × (now work ≡ now work'))
   pub ask-form1 : Answers ask-form1-call.Kinds.ps ask-form1-call.Kinds.r ask-form1-call.Statement.statement ask-form1-call.Reads.Asked ask-form1-call.Reads.Learnt
-      (λ κs (index, (source, (target, (marks, _)))) r (_, (_, (_, (marks', _)))). ask.Allowed host (now index) source target (now marks) [] r (now marks') [])
+      (λ κs (index, (source, (target, (marks, _)))) r (_, (_, (_, (marks', _)))). asking.Allowed host (now index) source target (now marks) [] r (now marks') [])
       (λ κs (_, (_, (_, (marks, _)))) (_, (_, (_, (marks', _)))). now marks ≡ now marks')
   pub ask-all : Answers ask-all-call.Kinds.ps ask-all-call.Kinds.r ask-all-call.Statement.statement ask-all-call.Reads.Asked ask-all-call.Reads.Learnt
       (λ κs (index, (sources, (targets, (marks, (work, (answers, _)))))) r (_, (_, (_, (marks', (work', (answers', _)))))).
-      ask-all.Allowed ordinary (now index) (now sources) (now targets) (now marks) (now work) (now answers) r (now marks') (now work') (now answers'))
+      asking-all.Allowed ordinary (now index) (now sources) (now targets) (now marks) (now work) (now answers) r (now marks') (now work') (now answers'))
       (λ κs (_, (_, (_, (marks, (work, (answers, _)))))) (_, (_, (_, (marks', (work', (answers', _)))))).
       (now marks ≡ now marks') × ((now work ≡ now work') × (now answers ≡ now answers')))
   pub ask-all-form1 : Answers ask-all-form1-call.Kinds.ps ask-all-form1-call.Kinds.r ask-all-form1-call.Statement.statement ask-all-form1-call.Reads.Asked
       ask-all-form1-call.Reads.Learnt
       (λ κs (index, (sources, (targets, (marks, (answers, _))))) r (_, (_, (_, (marks', (answers', _))))).
-      ask-all.Allowed host (now index) (now sources) (now targets) (now marks) [] (now answers) r (now marks') [] (now answers'))
+      asking-all.Allowed host (now index) (now sources) (now targets) (now marks) [] (now answers) r (now marks') [] (now answers'))
       (λ κs (_, (_, (_, (marks, (answers, _))))) (_, (_, (_, (marks', (answers', _))))). (now marks ≡ now marks') × (now answers ≡ now answers'))
   pub list : Answers list-call.Kinds.ps list-call.Kinds.r list-call.Statement.statement list-call.Reads.Asked list-call.Reads.Learnt
       (λ κs (index, (vertex, (marks, (work, (out, _))))) r (_, (_, (marks', (work', (out', _))))).
