@@ -66,7 +66,7 @@ module _ {b : List ℕ} {l : Layout} (L : Laid b l) (small : Bytes b) where
       ∙ written-numbers 4 (part b 0 48) 12 (bytes-part b 0 48 small) (part-length b 0 48 (omega (arith, M .long)))
 
   -- header and sections, written, are the bytes
-  abbrev sectionsIn : List (List ℕ)
+  abbrev pub sectionsIn : List (List ℕ)
   sectionsIn = section w a b 0 ∷ section w a b 1 ∷ section w a b 2 ∷ section w a b 3 ∷ section w a b 4 ∷ section w a b 5 ∷ []
 
   sections-written : map (written w) sectionsIn ≡ cut w b 48 (sizes (a .n) (a .k) (a .c) (a .d))
@@ -81,7 +81,7 @@ module _ {b : List ℕ} {l : Layout} (L : Laid b l) (small : Bytes b) where
       ∙ take-all (layoutIn b .total) b (omega (arith, M .long))
 
   -- Child starts that pass: the index has these sections.
-  section-long : (i : ℕ) → length (section w a b i) ≡ getD (sizes (a .n) (a .k) (a .c) (a .d)) i 0
+  pub section-long : (i : ℕ) → length (section w a b i) ≡ getD (sizes (a .n) (a .k) (a .c) (a .d)) i 0
   unfolding section
   section-long i = numbers-long w (stretch w a b i) (getD (sizes (a .n) (a .k) (a .c) (a .d)) i 0)
 
@@ -103,11 +103,11 @@ module _ {b : List ℕ} {l : Layout} (L : Laid b l) (small : Bytes b) where
         ap (λ (k : ℕ). joined (map (labelNumbers k) (indexIn b .labels))) (section-long 1)
         ∙ labels-written (a .k) (a .d) (section w a b 5) (section-long 5)
 
-    sections-are : sections (indexIn b) ≡ sectionsIn
+    pub sections-are : sections (indexIn b) ≡ sectionsIn
     unfolding decode
     sections-are = rw (starts-are, children-are, labels-are)
 
-    counts-are : countsOf (indexIn b) ≡ a
+    pub counts-are : countsOf (indexIn b) ≡ a
     unfolding decode
     counts-are =
         let c : length (joined (indexIn b .children)) ≡ a .c = ap length children-are ∙ section-long 4 in
