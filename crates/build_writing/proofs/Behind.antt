@@ -1,4 +1,4 @@
--- Numbers written one behind the other into lent bytes: three of them, blocks of one size.
+-- Numbers written one behind the other into lent bytes: three of them, blocks of one size, sections.
 use mathlib.Core.Path.{_≡_, sym, ap, ap₂, _∙_}
 use mathlib.Core.List.{List, [], _∷_, _++_, map, append-assoc}
 use Prim.Native.Nat.{ℕ, _+_, _*_, _≤_, _<_}
@@ -12,6 +12,7 @@ use Rattle.laws.proofs.Joined.{joined-more, table-blocks-long}
 use Rattle.numbers.specs.Put.{put}
 use Rattle.numbers.proofs.Put.{put-none, put-start}
 use Rattle.numbers.proofs.Written.{written-next, written-one}
+use Rattle.stored.proofs.Offsets.{putSections}
 
 -- bytes, and then those that stand before them from the start on
 pub put-before : (s bs cs : List ℕ) → length bs ≤ length s → put (put s (length bs) cs) 0 bs ≡ put s 0 (bs ++ cs)
@@ -60,3 +61,12 @@ module _ (w at : ℕ) (block : ℕ → List ℕ) (s : List ℕ) where
         ap (λ (z : List ℕ). put z p (written w (block i))) e
         ∙ written-next w at s (joined (map block (upto i))) (block i) p (omega arith) (omega arith)
         ∙ ap (λ (z : List ℕ). put s at (written w z)) next
+
+-- a section at its offset, and then those behind it
+pub section-put : (w : ℕ) (s t r x : List ℕ) (X : List (List ℕ)) (offset at next : ℕ)
+    → t ≡ put s offset (written w x)
+    → offset ≡ at
+    → next ≡ at + w * length x
+    → r ≡ putSections w t next X
+    → r ≡ putSections w s at (x ∷ X)
+section-put w s t r x X offset at next e f g h = h ∙ ap₂ (λ (z : List ℕ) (n : ℕ). putSections w z n X) (e ∙ ap (λ (p : ℕ). put s p (written w x)) f) g

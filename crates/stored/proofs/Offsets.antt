@@ -1,5 +1,5 @@
 -- Sections written one after the other behind a header: each stands at its offset, and the last offset is the length of it all.
-use mathlib.Core.Path.{_≡_, refl, sym, ap, ap₂, _∙_}
+use mathlib.Core.Path.{_≡_, refl, sym, ap, _∙_}
 use mathlib.Core.List.{List, [], _∷_, _++_, map, append-assoc, append-nil}
 use Prim.Native.Nat.{ℕ, zero, suc, _+_, _*_, _-_, _≤_, _<_}
 use native.Mathlib.Omega.{arith}
@@ -13,8 +13,6 @@ use Rattle.laws.proofs.Joined.{take-block}
 use Rattle.numbers.specs.Put.{put}
 use Rattle.numbers.proofs.Put.{put-next}
 use Rattle.numbers.proofs.Written.{written-long}
-use Rattle.stored_header.specs.declared.Layout.{Layout}
-use Rattle.stored_header.specs.Header.{headerOf, Sited}
 
 abbrev pub lengths : List (List ℕ) → List ℕ
 lengths X = map length X
@@ -53,6 +51,14 @@ module _ (w : ℕ) where
   putSections s at [] = s
   putSections s at (x ∷ X) = putSections (put s at (written w x)) (at + w * length x) X
 
+  -- one more of them
+  pub sections-more : (X : List (List ℕ)) (s : List ℕ) (at i : ℕ)
+      → i < length X
+      → put (putSections s at (take i X)) (getD (offsetsFrom w at (lengths X)) i 0) (written w (getD X i [])) ≡ putSections s at (take (suc i) X)
+  sections-more [] s at i h = absurd (not-suc-le-zero h)
+  sections-more (x ∷ X) s at zero h = refl
+  sections-more (x ∷ X) s at (suc i) h = sections-more X (put s at (written w x)) (at + w * length x) i (omega arith)
+
   -- are written one after the other
   pub sections-put : (before : List ℕ) (X : List (List ℕ)) (s : List ℕ) (at : ℕ)
       → at ≡ length before
@@ -64,48 +70,6 @@ module _ (w : ℕ) where
       (ap (λ (p : ℕ). put (put s 0 before) p (written w x)) here ∙ put-next s 0 before (omega arith) (written w x))
       ∙ sections-put (before ++ written w x) X s (at + w * length x) (omega (arith, length-append before (written w x), written-long w x))
       ∙ ap (put s 0) (append-assoc before (written w x) (joined (map (written w) X)))
-
--- a section at its offset, and then those behind it
-section-put : (w : ℕ) (s t r x : List ℕ) (X : List (List ℕ)) (offset at next : ℕ)
-    → t ≡ put s offset (written w x)
-    → offset ≡ at
-    → next ≡ at + w * length x
-    → r ≡ putSections w t next X
-    → r ≡ putSections w s at (x ∷ X)
-section-put w s t r x X offset at next e f g h = h ∙ ap₂ (λ (z : List ℕ) (n : ℕ). putSections w z n X) (e ∙ ap (λ (p : ℕ). put s p (written w x)) f) g
-
--- Header and sections written in turn, each where a layout has it.
-module _ {l : Layout} (at : Sited l) (form : ℕ) (out : List ℕ) where
-  abbrev front : List ℕ
-  front = written 4 (headerOf form l)
-
-  -- those before the labels
-  pub front-put : (names groups levels starts children t₀ t₁ t₂ t₃ t₄ t₅ : List ℕ)
-      → length names ≡ l .n
-      → length groups ≡ l .k
-      → length levels ≡ l .k
-      → length starts ≡ l .k + 1
-      → length children ≡ l .c
-      → t₀ ≡ put out 0 front
-      → t₁ ≡ put t₀ (l .names) (written (l .width) names)
-      → t₂ ≡ put t₁ (l .groups) (written (l .width) groups)
-      → t₃ ≡ put t₂ (l .levels) (written (l .width) levels)
-      → t₄ ≡ put t₃ (l .starts) (written (l .width) starts)
-      → t₅ ≡ put t₄ (l .children) (written (l .width) children)
-      → t₅ ≡ put out 0 (front ++ joined (map (written (l .width)) (names ∷ groups ∷ levels ∷ starts ∷ children ∷ [])))
-  front-put names groups levels starts children t₀ t₁ t₂ t₃ t₄ t₅ n k k' k1 c e₀ e₁ e₂ e₃ e₄ e₅ =
-      let groups-next : l .groups ≡ 48 + l .width * length names = rw n (omega (arith, at)) in
-      let levels-next : l .levels ≡ l .groups + l .width * length groups = rw k (at .levels-at) in
-      let starts-next : l .starts ≡ l .levels + l .width * length levels = rw k' (at .starts-at) in
-      let children-next : l .children ≡ l .starts + l .width * length starts = rw k1 (at .children-at) in
-      let labels-next : l .labels ≡ l .children + l .width * length children = rw c (at .labels-at) in
-      section-put (l .width) t₀ t₁ t₅ names (groups ∷ levels ∷ starts ∷ children ∷ []) (l .names) 48 (l .groups) e₁ (at .names-at) groups-next
-      (section-put (l .width) t₁ t₂ t₅ groups (levels ∷ starts ∷ children ∷ []) (l .groups) (l .groups) (l .levels) e₂ refl levels-next
-      (section-put (l .width) t₂ t₃ t₅ levels (starts ∷ children ∷ []) (l .levels) (l .levels) (l .starts) e₃ refl starts-next
-      (section-put (l .width) t₃ t₄ t₅ starts (children ∷ []) (l .starts) (l .starts) (l .children) e₄ refl children-next
-      (section-put (l .width) t₄ t₅ t₅ children [] (l .children) (l .children) (l .labels) e₅ refl labels-next refl))))
-      ∙ ap (λ (z : List ℕ). putSections (l .width) z 48 (names ∷ groups ∷ levels ∷ starts ∷ children ∷ [])) e₀
-      ∙ sections-put (l .width) front (names ∷ groups ∷ levels ∷ starts ∷ children ∷ []) out 48 (sym (written-long 4 (headerOf form l)))
 
 -- Bytes cut at the offsets.
 module _ (w : ℕ) (b : List ℕ) where

@@ -9,7 +9,7 @@ ghost use Rattle.stored_header.specs.Header.{Laid};
 ghost use Rattle.stored.specs.Sections.{Section, ChildrenOf, Labellings};
 
 // Section i: from its offset to the next one, the last to the total length.
-fn section(index: &[u8], l: Layout, i: usize) -> &[u8]
+pub fn section(index: &[u8], l: Layout, i: usize) -> &[u8]
     requires { ⌜ Laid (now index) l ⌝ }
     requires { ⌜ i < 6 ⌝ }
     ensures { λ r. ⌜ Section (now (index .entry)) l i (now r) ⌝ }

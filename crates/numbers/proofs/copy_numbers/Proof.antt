@@ -1,6 +1,6 @@
 -- `numbers::copy_numbers` meets its contract. The invariant: the first i numbers stand written from position at on, everything else is as it was lent, and p is
 -- where the next one goes.
-use mathlib.Core.Path.{_≡_, refl, ap, _∙_}
+use mathlib.Core.Path.{_≡_, ap, _∙_}
 use Prim.Native.Nat.{_+_, _*_, _-_, _≤_}
 use native.Mathlib.Omega.{arith}
 use lib.ListN.{length}
