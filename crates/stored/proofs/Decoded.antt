@@ -32,7 +32,7 @@ module _ (w : ℕ) (b : List ℕ) where
   abbrev pub sectionsIn : List (List ℕ)
   sectionsIn = section w counts b 0 ∷ section w counts b 1 ∷ section w counts b 2 ∷ section w counts b 3 ∷ section w counts b 4 ∷ section w counts b 5 ∷ []
 
-  section-long : (i : ℕ) → length (section w counts b i) ≡ getD (sizes (counts .n) (counts .k) (counts .c) (counts .d)) i 0
+  pub section-long : (i : ℕ) → length (section w counts b i) ≡ getD (sizes (counts .n) (counts .k) (counts .c) (counts .d)) i 0
   unfolding section
   section-long i = numbers-long w (stretch w counts b i) (getD (sizes (counts .n) (counts .k) (counts .c) (counts .d)) i 0)
 

@@ -1,0 +1,2 @@
+-- What conversion writes, and what it keeps.
+pub mod Written
