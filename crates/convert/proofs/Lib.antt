@@ -1,2 +1,4 @@
--- What conversion writes, and what it keeps.
+-- What a conversion writes, and where its checks stop.
 pub mod Written
+pub mod Fitted
+pub mod Refusals

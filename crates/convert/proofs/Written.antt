@@ -1,17 +1,16 @@
 -- Header and six sections, each copied to where the other form's layout has it, are the index at that form: the sections of sound bytes are those of the index
 -- that they hold, and so are its counts.
 use mathlib.Core.Bool.{true}
-use mathlib.Core.Path.{_≡_, refl, sym, ap, ap₂, subst, subst⁻¹, _∙_}
+use mathlib.Core.Path.{_≡_, refl, sym, ap, ap₂, subst⁻¹, _∙_}
 use mathlib.Core.List.{List, [], _∷_, _++_, map}
-use Prim.Native.Nat.{ℕ, suc, _+_, _*_, _^_, _≤_, _<_}
+use Prim.Native.Nat.{ℕ, _+_, _*_, _^_, _≤_, _<_}
 use native.Mathlib.Omega.{arith}
 use native.Mathlib.Numerals.{add-one}
 use lib.ListN.{length, getD, take, List·getD-append}
 use borrow.Author.Tests.{eqb-true}
 use Rattle.lineage.specs.Lists.{joined, Every}
 use Rattle.lineage.specs.Numbers.{Width, numbers, written}
-use Rattle.lineage.specs.Index.{Index}
-use Rattle.lineage.specs.Stored.{Form, Counts, sizes, offsets, offsetsFrom, sections, countsOf, header, encode, headerAt, countsIn, formOf, section, stretch, decode}
+use Rattle.lineage.specs.Stored.{Form, Counts, sizes, offsets, offsetsFrom, countsOf, header, encode, countsIn, formOf, section, decode}
 use Rattle.lineage.specs.Sound.{startsPass, contentsSound}
 use Rattle.lineage.specs.Calls.{indexIn}
 use Rattle.laws.proofs.Tests.{and-left}
@@ -19,11 +18,11 @@ use Rattle.laws.proofs.Lists.{table-at}
 use Rattle.numbers.specs.Put.{put}
 use Rattle.numbers.proofs.Written.{written-long}
 use Rattle.stored_header.specs.declared.Layout.{Layout}
-use Rattle.stored_header.specs.Header.{layoutBy, layoutIn, offsetsOf, headerOf, Sited, Laid}
+use Rattle.stored_header.specs.Header.{offsetsOf, headerOf, Laid}
 use Rattle.stored_header.proofs.Forms.{form-within}
 use Rattle.stored_header.proofs.Laid.{sited-by, width-is, n-is, k-is, c-is, d-is}
 use Rattle.stored.specs.Sections.{Section}
-use Rattle.stored.proofs.Offsets.{lengths, putSections, sections-more, sections-put, offsets-within}
+use Rattle.stored.proofs.Offsets.{lengths, putSections, sections-more, sections-put, offsets-last, offsets-within}
 use Rattle.stored.proofs.Encoded.{header-fits}
 use Rattle.stored.proofs.Decoded.{sectionsIn, section-long, sections-are, counts-are}
 use Rattle.sound_places.specs.Lent.{SoundBytes}
@@ -57,7 +56,7 @@ section-next v w b s i low =
     ∙ sections-more v X s 48 i low
     ∙ ap (λ (n : ℕ). putSections v s 48 (take n X)) (sym (add-one i))
 
-module _ {b : List ℕ} {l : Layout} {form : ℕ} {to : Layout} {out : List ℕ} (T : Turns b l form to out) where
+module _ {b : List ℕ} {l : Layout} {form : ℕ} {to : Layout} (T : Turns b l form to) where
   abbrev G : Form
   G = formOf form
 
@@ -67,63 +66,10 @@ module _ {b : List ℕ} {l : Layout} {form : ℕ} {to : Layout} {out : List ℕ}
   abbrev L : Laid b l
   L = T .sound .laid
 
-  pub turns-on : {out' : List ℕ} → length out' ≡ length out → Turns b l form to out'
-  turns-on e = record { sound = T .sound; known = T .known; laid = T .laid; room = omega (arith, T .room) }
-
   pub turned-width : Width (to .width)
   turned-width = subst⁻¹ (λ (z : Layout). Width (z .width)) (T .laid) (form-within form .width)
 
-  -- Section i. Its numbers are counted as code has them, q being those of the labels.
-  module _ (i : ℕ) (low : i < 6) where
-    offset-is : getD (offsetsOf to) i 0 ≡ getD (offsets (to .width) (a .n) (a .k) (a .c) (a .d)) i 0
-    offset-is = subst⁻¹ (λ (z : Layout). getD (offsetsOf z) i 0 ≡ getD (offsets (z .width) (a .n) (a .k) (a .c) (a .d)) i 0) (T .laid) refl
-
-    module _ {q : ℕ} (labels : q ≡ l .d * (4 * l .k)) where
-      abbrev size : ℕ
-      size = getD (l .n ∷ l .k ∷ l .k ∷ (l .k + 1) ∷ l .c ∷ q ∷ []) i 0
-
-      abbrev at : ℕ
-      at = getD (to .names ∷ to .groups ∷ to .levels ∷ to .starts ∷ to .children ∷ to .labels ∷ []) i 0
-
-      own-size : size ≡ getD (sizes (l .n) (l .k) (l .c) (l .d)) i 0
-      own-size = rw labels
-
-      size-is : size ≡ getD (sizes (a .n) (a .k) (a .c) (a .d)) i 0
-      size-is = own-size ∙ ap (λ (z : Layout). getD (sizes (z .n) (z .k) (z .c) (z .d)) i 0) (L .is)
-
-      at-is : at ≡ getD (offsetsOf to) i 0
-      at-is = sym (List·getD-append (to .names ∷ to .groups ∷ to .levels ∷ to .starts ∷ to .children ∷ to .labels ∷ []) (to .total ∷ []) 0 i low)
-
-      pub section-room : at + to .width * size ≤ length out
-      section-room =
-          let s : List ℕ = sizes (a .n) (a .k) (a .c) (a .d) in
-          let total : to .total ≡ getD (offsets (to .width) (a .n) (a .k) (a .c) (a .d)) 6 0 =
-          subst⁻¹ (λ (z : Layout). z .total ≡ getD (offsets (z .width) (a .n) (a .k) (a .c) (a .d)) 6 0) (T .laid) refl in
-          let width : to .width * size ≡ to .width * getD s i 0 = ap (λ (n : ℕ). to .width * n) size-is in
-          omega (arith, at-is, offset-is, offsets-within (to .width) b 48 s i low, T .room)
-
-      module _ {r : List ℕ} (S : Section b l i r) where
-        pub section-held : l .width * size ≤ length r
-        section-held = omega (arith, ap (λ (n : ℕ). l .width * n) own-size, S .long)
-
-        pub section-copied : {t : List ℕ} → t ≡ put out at (written (to .width) (numbers (l .width) r size))
-            → t ≡ put out (getD (offsetsOf to) i 0) (written (to .width) (section (l .width) a b i))
-        unfolding section
-        section-copied e =
-            e
-            ∙ ap₂ (λ (p : ℕ) (xs : List ℕ). put out p (written (to .width) xs)) at-is
-            (ap₂ (numbers (l .width)) (S .is) size-is)
-
-  pub sections-next : (s t u : List ℕ) (i : ℕ) → i < 6
-      → t ≡ sectionsPut b l to s i
-      → u ≡ put t (getD (offsetsOf to) i 0) (written (to .width) (section (l .width) a b i))
-      → u ≡ sectionsPut b l to s (i + 1)
-  sections-next s t u i low e f =
-      f
-      ∙ ap₂ (λ (z : List ℕ) (p : ℕ). put z p (written (to .width) (section (l .width) a b i))) e (offset-is i low)
-      ∙ section-next (to .width) (l .width) b s i low
-
-  -- the header is that of the same counts at the other form, and its numbers are of 32 bits
+  -- The header is that of the same counts at the other form, and its numbers are of 32 bits.
   header-is : headerOf form to ≡ header G a
   header-is =
       ap (headerOf form) (T .laid)
@@ -142,25 +88,92 @@ module _ {b : List ℕ} {l : Layout} {form : ℕ} {to : Layout} {out : List ℕ}
         most = omega (arith, L .most, d-is L);
       }))
 
-  pub header-room : 48 ≤ length out
-  header-room = omega (arith, sited-by to (G .width) a (T .laid), T .room)
+  pub total-small : to .total < 2 ^ 32
+  total-small = header-small .1 .1 .1 .1 .1 .1 .1 .1 .1 .1 .1 .0
 
-  -- header and sections are the index at the other form
+  pub header-room : {n : ℕ} → to .total ≤ n → 48 ≤ n
+  header-room h = omega (arith, sited-by to (G .width) a (T .laid))
+
+  -- Header and sections are the index at the other form, and as long as its layout says.
+  starts : startsPass (section (l .width) a b 3) (a .k) (a .c) ≡ true
+  starts = sound-starts (T .sound)
+
+  index-is : decode (l .width) b ≡ indexIn b
+  index-is = ap (λ (w : ℕ). decode w b) (width-is L)
+
   bytes-are : written 4 (headerOf form to) ++ joined (map (written (to .width)) (sectionsIn (l .width) b)) ≡ converted G b
   unfolding encode
   bytes-are =
-      let starts = sound-starts (T .sound) in
-      let I : Index = decode (l .width) b in
       ap₂ (λ (h : List ℕ) (v : ℕ). written 4 h ++ joined (map (written v) (sectionsIn (l .width) b)))
       (header-is ∙ ap (header G) (sym (counts-are (l .width) b starts)))
       (ap (λ (z : Layout). z .width) (T .laid))
-      ∙ ap (λ (X : List (List ℕ)). written 4 (header G (countsOf I)) ++ joined (map (written (G .width)) X)) (sym (sections-are (l .width) b starts))
-      ∙ ap (λ (w : ℕ). encode G (decode w b)) (width-is L)
+      ∙ ap (λ (X : List (List ℕ)). written 4 (header G (countsOf (decode (l .width) b))) ++ joined (map (written (G .width)) X)) (sym (sections-are (l .width) b starts))
+      ∙ ap (encode G) index-is
 
-  pub sections-whole : (s t : List ℕ) → s ≡ put out 0 (written 4 (headerOf form to)) → t ≡ sectionsPut b l to s 6 → t ≡ put out 0 (converted G b)
-  sections-whole s t e f =
+  pub converted-long : to .total ≡ length (converted G b)
+  converted-long =
+      let X : List (List ℕ) = sectionsIn (l .width) b in
+      let front : List ℕ = written 4 (headerOf form to) in
+      subst⁻¹ (λ (z : Layout). z .total ≡ getD (offsetsFrom (z .width) 48 (sizes (a .n) (a .k) (a .c) (a .d))) 6 0) (T .laid) refl
+      ∙ ap (λ (z : List ℕ). getD (offsetsFrom (to .width) 48 z) 6 0) (sym (sections-sized (l .width) b))
+      ∙ sym (offsets-last (to .width) front X 48 (sym (written-long 4 (headerOf form to))))
+      ∙ ap length bytes-are
+
+  pub sections-whole : (out s t : List ℕ) → s ≡ put out 0 (written 4 (headerOf form to)) → t ≡ sectionsPut b l to s 6 → t ≡ put out 0 (converted G b)
+  sections-whole out s t e f =
       let X : List (List ℕ) = sectionsIn (l .width) b in
       f
       ∙ ap (λ (z : List ℕ). putSections (to .width) z 48 X) e
       ∙ sections-put (to .width) (written 4 (headerOf form to)) X out 48 (sym (written-long 4 (headerOf form to)))
       ∙ ap (put out 0) bytes-are
+
+  -- Section i.
+  module _ (i : ℕ) (low : i < 6) where
+    offset-is : getD (offsetsOf to) i 0 ≡ getD (offsets (to .width) (a .n) (a .k) (a .c) (a .d)) i 0
+    offset-is = subst⁻¹ (λ (z : Layout). getD (offsetsOf z) i 0 ≡ getD (offsets (z .width) (a .n) (a .k) (a .c) (a .d)) i 0) (T .laid) refl
+
+    pub sections-next : (s t u : List ℕ)
+        → t ≡ sectionsPut b l to s i
+        → u ≡ put t (getD (offsetsOf to) i 0) (written (to .width) (section (l .width) a b i))
+        → u ≡ sectionsPut b l to s (i + 1)
+    sections-next s t u e f =
+        f
+        ∙ ap₂ (λ (z : List ℕ) (p : ℕ). put z p (written (to .width) (section (l .width) a b i))) e offset-is
+        ∙ section-next (to .width) (l .width) b s i low
+
+    -- its numbers and its offset as code has them, q being the numbers of the labels
+    module _ {q : ℕ} (labels : q ≡ l .d * (4 * l .k)) where
+      abbrev size : ℕ
+      size = getD (l .n ∷ l .k ∷ l .k ∷ (l .k + 1) ∷ l .c ∷ q ∷ []) i 0
+
+      abbrev at : ℕ
+      at = getD (to .names ∷ to .groups ∷ to .levels ∷ to .starts ∷ to .children ∷ to .labels ∷ []) i 0
+
+      own-size : size ≡ getD (sizes (l .n) (l .k) (l .c) (l .d)) i 0
+      own-size = rw labels
+
+      size-is : size ≡ getD (sizes (a .n) (a .k) (a .c) (a .d)) i 0
+      size-is = own-size ∙ ap (λ (z : Layout). getD (sizes (z .n) (z .k) (z .c) (z .d)) i 0) (L .is)
+
+      at-is : at ≡ getD (offsetsOf to) i 0
+      at-is = sym (List·getD-append (to .names ∷ to .groups ∷ to .levels ∷ to .starts ∷ to .children ∷ to .labels ∷ []) (to .total ∷ []) 0 i low)
+
+      pub section-room : {n : ℕ} → to .total ≤ n → at + to .width * size ≤ n
+      section-room room =
+          let s : List ℕ = sizes (a .n) (a .k) (a .c) (a .d) in
+          let total : to .total ≡ getD (offsets (to .width) (a .n) (a .k) (a .c) (a .d)) 6 0 =
+          subst⁻¹ (λ (z : Layout). z .total ≡ getD (offsets (z .width) (a .n) (a .k) (a .c) (a .d)) 6 0) (T .laid) refl in
+          let width : to .width * size ≡ to .width * getD s i 0 = ap (λ (n : ℕ). to .width * n) size-is in
+          omega (arith, at-is, offset-is, offsets-within (to .width) b 48 s i low)
+
+      module _ {r : List ℕ} (S : Section b l i r) where
+        pub section-held : l .width * size ≤ length r
+        section-held = omega (arith, ap (λ (n : ℕ). l .width * n) own-size, S .long)
+
+        pub section-copied : (out : List ℕ) {t : List ℕ} → t ≡ put out at (written (to .width) (numbers (l .width) r size))
+            → t ≡ put out (getD (offsetsOf to) i 0) (written (to .width) (section (l .width) a b i))
+        unfolding section
+        section-copied out e =
+            e
+            ∙ ap₂ (λ (p : ℕ) (xs : List ℕ). put out p (written (to .width) xs)) at-is
+            (ap₂ (numbers (l .width)) (S .is) size-is)

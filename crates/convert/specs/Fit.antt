@@ -2,16 +2,14 @@
 use mathlib.Core.Bool.{true}
 use mathlib.Core.Path.{_≡_}
 use mathlib.Core.List.{List}
-use Prim.Native.Nat.{ℕ, _≤_}
-use lib.ListN.{length}
+use Prim.Native.Nat.{ℕ}
 use Rattle.lineage.specs.Stored.{countsIn, formOf, isForm}
 use Rattle.stored_header.specs.declared.Layout.{Layout}
 use Rattle.stored_header.specs.Header.{layoutBy}
 use Rattle.sound_places.specs.Lent.{SoundBytes}
 
--- sound bytes of a layout, the number of another form, the layout that the same counts have there, and room for it
-pub record Turns (b : List ℕ) (l : Layout) (form : ℕ) (to : Layout) (out : List ℕ) : Type 0 where
+-- sound bytes of a layout, the number of another form, and the layout that the same counts have there
+pub record Turns (b : List ℕ) (l : Layout) (form : ℕ) (to : Layout) : Type 0 where
   pub sound : SoundBytes b l
   pub known : isForm form ≡ true
   pub laid : to ≡ layoutBy (formOf form .width) (countsIn b)
-  pub room : to .total ≤ length out

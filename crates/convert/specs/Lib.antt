@@ -1,3 +1,4 @@
--- The call of document 02, [7], and what its writing is lent.
+-- The call of document 02, [7], what it answers, and what its writing is lent.
 pub mod Convert
+pub mod Converted
 pub mod Fit

@@ -39,9 +39,10 @@ copy-numbers-requires : tie.Need-copy-numbers-requires
 copy-numbers-requires c κs =
     let t = c .before in
     let s = entry t in
-    let q = counted t in (
-      turned-width (s .pre .0),
-      (s .pre .0 .sound .laid .width, (section-room (s .pre .0) (s .args .i) (s .pre .1) q, section-held (s .pre .0) (s .args .i) (s .pre .1) q (t .section .ensures))),
+    let T = s .pre .0 in
+    let low = s .pre .1 .0 in (
+      turned-width T,
+      (T .sound .laid .width, (section-room T _ low (counted t) (s .pre .1 .1), section-held T _ low (counted t) (t .section .ensures))),
     )
 
 same-length : tie.Need-same-length
@@ -51,7 +52,7 @@ returns : tie.Need-returns
 returns c =
     let t = c .before .before .before .before in
     let s = entry t in
-    section-copied (s .pre .0) (s .args .i) (s .pre .1) (counted t) (t .section .ensures) (c .before .before .copy-numbers .ensures)
+    section-copied (s .pre .0) _ (s .pre .1 .0) (counted t) (t .section .ensures) _ (c .before .before .copy-numbers .ensures)
 
 pub copy-section-spec : {M : Type 1} → statement M
 copy-section-spec =
