@@ -1,4 +1,7 @@
--- What a conversion writes, and where its checks stop.
+-- What a conversion writes, where its checks stop, and what it keeps.
 pub mod Written
 pub mod Fitted
 pub mod Refusals
+pub mod Same
+pub mod Theorems
+pub mod Finished

@@ -6,7 +6,7 @@ use mathlib.Core.List.{List, [], _∷_, _++_, map}
 use Prim.Native.Nat.{ℕ, _+_, _*_, _^_, _≤_, _<_}
 use native.Mathlib.Omega.{arith}
 use native.Mathlib.Numerals.{add-one}
-use lib.ListN.{length, getD, take, List·getD-append}
+use lib.ListN.{length, getD, take}
 use borrow.Author.Tests.{eqb-true}
 use Rattle.lineage.specs.Lists.{joined, Every}
 use Rattle.lineage.specs.Numbers.{Width, numbers, written}
@@ -141,34 +141,22 @@ module _ {b : List ℕ} {l : Layout} {form : ℕ} {to : Layout} (T : Turns b l f
         ∙ ap₂ (λ (z : List ℕ) (p : ℕ). put z p (written (to .width) (section (l .width) a b i))) e offset-is
         ∙ section-next (to .width) (l .width) b s i low
 
-    -- its numbers and its offset as code has them, q being the numbers of the labels
-    module _ {q : ℕ} (labels : q ≡ l .d * (4 * l .k)) where
-      abbrev size : ℕ
-      size = getD (l .n ∷ l .k ∷ l .k ∷ (l .k + 1) ∷ l .c ∷ q ∷ []) i 0
-
-      abbrev at : ℕ
-      at = getD (to .names ∷ to .groups ∷ to .levels ∷ to .starts ∷ to .children ∷ to .labels ∷ []) i 0
-
-      own-size : size ≡ getD (sizes (l .n) (l .k) (l .c) (l .d)) i 0
-      own-size = rw labels
-
-      size-is : size ≡ getD (sizes (a .n) (a .k) (a .c) (a .d)) i 0
-      size-is = own-size ∙ ap (λ (z : Layout). getD (sizes (z .n) (z .k) (z .c) (z .d)) i 0) (L .is)
-
-      at-is : at ≡ getD (offsetsOf to) i 0
-      at-is = sym (List·getD-append (to .names ∷ to .groups ∷ to .levels ∷ to .starts ∷ to .children ∷ to .labels ∷ []) (to .total ∷ []) 0 i low)
+    -- at is its offset, and size the number of its numbers
+    module _ {at size : ℕ} (at-is : at ≡ getD (offsetsOf to) i 0) (size-is : size ≡ getD (sizes (l .n) (l .k) (l .c) (l .d)) i 0) where
+      size-in : size ≡ getD (sizes (a .n) (a .k) (a .c) (a .d)) i 0
+      size-in = size-is ∙ ap (λ (z : Layout). getD (sizes (z .n) (z .k) (z .c) (z .d)) i 0) (L .is)
 
       pub section-room : {n : ℕ} → to .total ≤ n → at + to .width * size ≤ n
       section-room room =
           let s : List ℕ = sizes (a .n) (a .k) (a .c) (a .d) in
           let total : to .total ≡ getD (offsets (to .width) (a .n) (a .k) (a .c) (a .d)) 6 0 =
           subst⁻¹ (λ (z : Layout). z .total ≡ getD (offsets (z .width) (a .n) (a .k) (a .c) (a .d)) 6 0) (T .laid) refl in
-          let width : to .width * size ≡ to .width * getD s i 0 = ap (λ (n : ℕ). to .width * n) size-is in
+          let bytes : to .width * size ≡ to .width * getD s i 0 = ap (λ (n : ℕ). to .width * n) size-in in
           omega (arith, at-is, offset-is, offsets-within (to .width) b 48 s i low)
 
       module _ {r : List ℕ} (S : Section b l i r) where
         pub section-held : l .width * size ≤ length r
-        section-held = omega (arith, ap (λ (n : ℕ). l .width * n) own-size, S .long)
+        section-held = omega (arith, ap (λ (n : ℕ). l .width * n) size-is, S .long)
 
         pub section-copied : (out : List ℕ) {t : List ℕ} → t ≡ put out at (written (to .width) (numbers (l .width) r size))
             → t ≡ put out (getD (offsetsOf to) i 0) (written (to .width) (section (l .width) a b i))
@@ -176,4 +164,4 @@ module _ {b : List ℕ} {l : Layout} {form : ℕ} {to : Layout} (T : Turns b l f
         section-copied out e =
             e
             ∙ ap₂ (λ (p : ℕ) (xs : List ℕ). put out p (written (to .width) xs)) at-is
-            (ap₂ (numbers (l .width)) (S .is) size-is)
+            (ap₂ (numbers (l .width)) (S .is) size-in)

@@ -16,6 +16,7 @@ use open::contents_sound;
 use refusals::BEYOND_FORM;
 use refusals::NOT_SOUND;
 use refusals::OUTPUT_SHORT;
+use stored::parts;
 use stored_header::Header;
 use stored_header::Layout;
 use stored_header::words_needed;
@@ -32,25 +33,9 @@ fn copy_section(index: &[u8], l: Layout, form: usize, to: Layout, out: &mut [u8]
     requires { ⌜ (i < 6) × (to .total ≤ length (now out)) ⌝ }
     ensures { λ _. ⌜ now (out .exit) ≡ put (now (out .entry)) (getD (offsetsOf to) i 0) (written (to .width) (section (l .width) (countsIn (now (index .entry))) (now (index .entry)) i)) ⌝ }
 {
-    let sizes = [
-        l.n,
-        l.k,
-        l.k,
-        l.k + 1,
-        l.c,
-        stored_header::label_count(l.k, l.d),
-    ];
-    let offsets = [
-        to.names,
-        to.groups,
-        to.levels,
-        to.starts,
-        to.children,
-        to.labels,
-    ];
-    let size = sizes[i];
-    let at = offsets[i];
-    let from = stored::parts::section(index, l, i);
+    let at = parts::offset(to, i);
+    let size = parts::size(l, i);
+    let from = parts::section(index, l, i);
     numbers::copy_numbers(out, at, to.width, from, l.width, size)
 }
 
@@ -75,13 +60,14 @@ fn convert_sound(index: &[u8], l: Layout, form: usize, out: &mut [u8]) -> Conver
     ensures { λ r. ⌜ Turned (formOf form) (now (index .entry)) (now (out .entry)) r (now (out .exit)) ⌝ }
 {
     let row = stored_header::form_row(form);
-    if (row.vertices < l.n) | ((row.vertices < l.k) | (row.entries < l.c)) {
+    let to = stored_header::lay_out(row.width, l.n, l.k, l.c, l.d);
+    let beyond = (row.vertices < l.n) | ((row.vertices < l.k) | (row.entries < l.c));
+    if beyond {
         return Converted::Refused {
             number: BEYOND_FORM,
             extra: 0,
         };
     }
-    let to = stored_header::lay_out(row.width, l.n, l.k, l.c, l.d);
     if out.len() < to.total {
         return Converted::Refused {
             number: OUTPUT_SHORT,

@@ -45,7 +45,7 @@ module _ (T : FormsTaken) (b : List ℕ) (marks work : ℕ) {a : Counts} (e : an
   pub opened-made : Made (indexIn b)
   opened-made = sound-is-made (indexIn b) .0 (tests .1)
 
-  opened-counts : countsOf (indexOf (opened-made .graph) (opened-made .orders)) ≡ countsIn b
+  pub opened-counts : countsOf (indexOf (opened-made .graph) (opened-made .orders)) ≡ countsIn b
   opened-counts = ap countsOf (opened-made .yields) ∙ counts-are (F .width) b (tests .0)
 
   opened-yields : Bytes b → Yields F b

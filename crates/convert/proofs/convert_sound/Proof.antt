@@ -1,9 +1,9 @@
 -- `convert::convert_sound` meets its contract: 19 is told by the row of the other form, 9 by the layout that the counts have there, and behind them the whole index
 -- is written.
 use native.Mathlib.Omega.{arith}
+use Rattle.convert.specs.Fit.{Turns}
 use Rattle.convert.proofs.Written.{total-small}
 use Rattle.convert.proofs.Fitted.{Other, row-width, turns, turned-beyond, turned-short, turned-whole}
-use Rattle.convert.specs.Fit.{Turns}
 use borrow.Author.Needs.{needs}
 use Rattle.convert.proofs.convert_sound.Statement.{statement}
 use Rattle.convert.proofs.convert_sound.Tie as tie
@@ -18,32 +18,35 @@ entry c = c .before .before .before
 other : (c : tie.After-form-row) → let a = entry c .args in Other (a .index .now) (a .l) (a .form) (c .form-row .result)
 other c = record { sound = entry c .pre .0; known = entry c .pre .1; row-is = c .form-row .ensures }
 
-abbrev row : tie.Else1 → tie.After-form-row
-row e = e .before .before .before .before .before .before .before
+fits : (c : tie.After-lay-out) → let a = entry (c .before) .args in Turns (a .index .now) (a .l) (a .form) (c .lay-out .result)
+fits c = turns (other (c .before)) (c .lay-out .ensures)
 
-fits : (c : tie.After-lay-out) → let a = entry (row (c .before)) .args in Turns (a .index .now) (a .l) (a .form) (c .lay-out .result)
-fits c = turns (other (row (c .before))) (c .lay-out .ensures)
-
-returns : tie.Need-returns
-returns c = turned-beyond (other (c .before .before .before .before .before .before .before)) _ (c .if1 .taken)
+-- where 19 does not apply
+abbrev laid : tie.Else1 → tie.After-lay-out
+laid e = e .before .before .before .before .before .before .before
 
 lay-out-requires : tie.Need-lay-out-requires
 lay-out-requires c κs =
-    let O = other (row c) in
+    let O = other c in
     let L = O .sound .laid in
     (row-width O, (L .vertices, (L .groups, (L .entries, L .most))))
 
+returns : tie.Need-returns
+returns c = turned-beyond (other (c .before .before .before .before .before .before .before .before)) _ (c .if1 .taken)
+
 cast-t13 : tie.Need-cast-t13
-cast-t13 c = omega (arith, total-small (fits (c .before .before .before)))
+cast-t13 c = omega (arith, total-small (fits (laid (c .before .before .before))))
 
 returns-2 : tie.Need-returns-2
-returns-2 c = let t = c .before .before .before in turned-short (other (row (t .before))) _ (t .before .if1 .left) (fits t) (c .before .if2 .taken)
+returns-2 c =
+    let e = c .before .before .before in
+    turned-short (other (laid e .before)) _ (e .if1 .left) (fits (laid e)) (c .before .if2 .taken)
 
 write-as-requires : tie.Need-write-as-requires
-write-as-requires c κs = let t = c .before .before .before in (fits t, c .before .if2 .left)
+write-as-requires c κs = (fits (laid (c .before .before .before)), c .before .if2 .left)
 
 cast-t17 : tie.Need-cast-t17
-cast-t17 c = omega (arith, total-small (fits (c .before .before .before .before .before .before .before)))
+cast-t17 c = omega (arith, total-small (fits (laid (c .before .before .before .before .before .before .before))))
 
 same-length : tie.Need-same-length
 same-length c = search needs
@@ -51,17 +54,17 @@ same-length c = search needs
 returns-3 : tie.Need-returns-3
 returns-3 c =
     let w = c .before .before .before in
-    let e = w .before .before in
-    let t = e .before .before in
-    turned-whole (other (row (t .before))) _ (t .before .if1 .left) (fits t) (e .if2 .left) (w .write-as .ensures)
+    let f = w .before .before in
+    let e = f .before .before in
+    turned-whole (other (laid e .before)) _ (e .if1 .left) (fits (laid e)) (f .if2 .left) (w .write-as .ensures)
 
 pub convert-sound-spec : {M : Type 1} → statement M
 convert-sound-spec =
     tie.close
     (tie.spec
     form-row-requires
-    returns
     lay-out-requires
+    returns
     cast-t13
     returns-2
     write-as-requires
