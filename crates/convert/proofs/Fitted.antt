@@ -1,5 +1,5 @@
 -- Behind 15: 19 by the row of the other form, then 9 by the length that its layout has, or what is written.
-use mathlib.Core.Bool.{true, false, _||_, cond}
+use mathlib.Core.Bool.{Bool, true, false, cond}
 use mathlib.Core.Path.{_≡_, refl, sym, ap, ap₂, subst⁻¹, _∙_}
 use mathlib.Core.List.{List, [], _++_}
 use Prim.Native.Nat.{ℕ, _≤_, _<_}
@@ -60,17 +60,18 @@ module _ {b : List ℕ} {l : Layout} {form : ℕ} {row : Row} (O : Other b l for
       writes = rw (stops-early (fitChecks G b (length out)) [] i s);
     }
 
-    beyond-is : (ltb (row .vertices) (l .n) || (ltb (row .vertices) (l .k) || ltb (row .entries) (l .c))) ≡ beyond G (countsIn b)
-    beyond-is = rw (O .row-is, n-is L, k-is L, c-is L)
+    module _ {t : Bool} (told : t ≡ beyond G (counts (l .n) (l .k) (l .c) (l .d))) where
+      beyond-is : beyond G (countsIn b) ≡ t
+      beyond-is = sym (told ∙ ap (λ (z : Layout). beyond G (counts (z .n) (z .k) (z .c) (z .d))) (L .is))
 
-    pub turned-beyond : (ltb (row .vertices) (l .n) || (ltb (row .vertices) (l .k) || ltb (row .entries) (l .c))) ≡ true → Turned G b out (Refused 19 0) out
-    turned-beyond h = turned-at 0 (sym beyond-is ∙ h) refl
+      pub turned-beyond : t ≡ true → Turned G b out (Refused 19 0) out
+      turned-beyond h = turned-at 0 (beyond-is ∙ h) refl
 
-    module _ (within : (ltb (row .vertices) (l .n) || (ltb (row .vertices) (l .k) || ltb (row .entries) (l .c))) ≡ false) {to : Layout} (T : Turns b l form to) where
-      pub turned-short : length out < to .total → Turned G b out (Refused 9 (to .total)) out
-      turned-short h = turned-at 1 (sym beyond-is ∙ within, lt-ltb (length out) (length (converted G b)) (omega (arith, converted-long T))) (ap (refused 9) (converted-long T))
+      module _ (within : t ≡ false) {to : Layout} (T : Turns b l form to) where
+        pub turned-short : length out < to .total → Turned G b out (Refused 9 (to .total)) out
+        turned-short h = turned-at 1 (beyond-is ∙ within, lt-ltb (length out) (length (converted G b)) (omega (arith, converted-long T))) (ap (refused 9) (converted-long T))
 
-      pub turned-whole : to .total ≤ length out → {t : List ℕ} → t ≡ put out 0 (converted G b) → Turned G b out (Total (to .total)) t
-      turned-whole h e =
-          subst⁻¹ (Turned G b out (Total (to .total))) (e ∙ put-start out (converted G b))
-          (turned-at 2 (sym beyond-is ∙ within, (le-ltb (length out) (length (converted G b)) (omega (arith, converted-long T)), tt)) (ap answered (converted-long T)))
+        pub turned-whole : to .total ≤ length out → {t : List ℕ} → t ≡ put out 0 (converted G b) → Turned G b out (Total (to .total)) t
+        turned-whole h e =
+            subst⁻¹ (Turned G b out (Total (to .total))) (e ∙ put-start out (converted G b))
+            (turned-at 2 (beyond-is ∙ within, (le-ltb (length out) (length (converted G b)) (omega (arith, converted-long T)), tt)) (ap answered (converted-long T)))

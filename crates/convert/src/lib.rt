@@ -6,9 +6,9 @@ ghost use lib.ListN.{length, getD};
 ghost use Rattle.lineage.specs.Numbers.{written};
 ghost use Rattle.lineage.specs.Stored.{countsIn, formOf, isForm, section};
 ghost use Rattle.numbers.specs.Put.{put};
-ghost use Rattle.stored_header.specs.Header.{offsetsOf};
+ghost use Rattle.stored_header.specs.Header.{counts, offsetsOf};
 ghost use Rattle.sound_places.specs.Lent.{SoundBytes};
-ghost use Rattle.convert.specs.Convert.{converted, convertAnswer, convertMarks, convertWork, convertOutput};
+ghost use Rattle.convert.specs.Convert.{converted, beyond, convertAnswer, convertMarks, convertWork, convertOutput};
 ghost use Rattle.convert.specs.Converted.{convertedOf, Turned};
 ghost use Rattle.convert.specs.Fit.{Turns};
 use numbers::clear_words;
@@ -53,6 +53,14 @@ fn write_as(index: &[u8], l: Layout, form: usize, to: Layout, out: &mut [u8])
     }
 }
 
+// Whether n, k or c is beyond the form with this number.
+fn is_beyond(form: usize, l: Layout) -> bool
+    ensures { λ r. ⌜ r ≡ beyond (formOf form) (counts (l .n) (l .k) (l .c) (l .d)) ⌝ }
+{
+    let row = stored_header::form_row(form);
+    (row.vertices < l.n) | ((row.vertices < l.k) | (row.entries < l.c))
+}
+
 // Sound bytes turned into the form with this number: refusals 19 and 9, or what is written.
 fn convert_sound(index: &[u8], l: Layout, form: usize, out: &mut [u8]) -> Converted
     requires { ⌜ SoundBytes (now index) l ⌝ }
@@ -61,14 +69,15 @@ fn convert_sound(index: &[u8], l: Layout, form: usize, out: &mut [u8]) -> Conver
 {
     let row = stored_header::form_row(form);
     let to = stored_header::lay_out(row.width, l.n, l.k, l.c, l.d);
-    let beyond = (row.vertices < l.n) | ((row.vertices < l.k) | (row.entries < l.c));
+    let beyond = is_beyond(form, l);
+    let short = out.len() < to.total;
     if beyond {
         return Converted::Refused {
             number: BEYOND_FORM,
             extra: 0,
         };
     }
-    if out.len() < to.total {
+    if short {
         return Converted::Refused {
             number: OUTPUT_SHORT,
             extra: to.total as u32,

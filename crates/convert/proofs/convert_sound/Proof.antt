@@ -1,6 +1,7 @@
--- `convert::convert_sound` meets its contract: 19 is told by the row of the other form, 9 by the layout that the counts have there, and behind them the whole index
+-- `convert::convert_sound` meets its contract: 19 is told by the bounds of the other form, 9 by the layout that the counts have there, and behind them the whole index
 -- is written.
 use native.Mathlib.Omega.{arith}
+use borrow.Author.Tests.{ltb-true, ltb-false}
 use Rattle.convert.specs.Fit.{Turns}
 use Rattle.convert.proofs.Written.{total-small}
 use Rattle.convert.proofs.Fitted.{Other, row-width, turns, turned-beyond, turned-short, turned-whole}
@@ -22,8 +23,11 @@ fits : (c : tie.After-lay-out) → let a = entry (c .before) .args in Turns (a .
 fits c = turns (other (c .before)) (c .lay-out .ensures)
 
 -- where 19 does not apply
+abbrev told : tie.Else1 → tie.After-is-beyond
+told e = e .before .before
+
 abbrev laid : tie.Else1 → tie.After-lay-out
-laid e = e .before .before .before .before .before .before .before
+laid e = told e .before
 
 lay-out-requires : tie.Need-lay-out-requires
 lay-out-requires c κs =
@@ -31,22 +35,25 @@ lay-out-requires c κs =
     let L = O .sound .laid in
     (row-width O, (L .vertices, (L .groups, (L .entries, L .most))))
 
-returns : tie.Need-returns
-returns c = turned-beyond (other (c .before .before .before .before .before .before .before .before)) _ (c .if1 .taken)
+is-beyond-requires : tie.Need-is-beyond-requires
+is-beyond-requires c κs = search needs
 
-cast-t13 : tie.Need-cast-t13
-cast-t13 c = omega (arith, total-small (fits (laid (c .before .before .before))))
+returns : tie.Need-returns
+returns c = let t = c .before .before in turned-beyond (other (t .before .before)) _ (t .is-beyond .ensures) (c .if1 .taken)
+
+cast-t11 : tie.Need-cast-t11
+cast-t11 c = omega (arith, total-small (fits (laid (c .before .before))))
 
 returns-2 : tie.Need-returns-2
 returns-2 c =
-    let e = c .before .before .before in
-    turned-short (other (laid e .before)) _ (e .if1 .left) (fits (laid e)) (c .before .if2 .taken)
+    let e = c .before .before in
+    turned-short (other (laid e .before)) _ (told e .is-beyond .ensures) (e .if1 .left) (fits (laid e)) (ltb-true _ _ (c .before .if2 .taken))
 
 write-as-requires : tie.Need-write-as-requires
-write-as-requires c κs = (fits (laid (c .before .before .before)), c .before .if2 .left)
+write-as-requires c κs = (fits (laid (c .before .before)), ltb-false _ _ (c .before .if2 .left))
 
-cast-t17 : tie.Need-cast-t17
-cast-t17 c = omega (arith, total-small (fits (laid (c .before .before .before .before .before .before .before))))
+cast-t15 : tie.Need-cast-t15
+cast-t15 c = omega (arith, total-small (fits (laid (c .before .before .before .before .before .before))))
 
 same-length : tie.Need-same-length
 same-length c = search needs
@@ -55,8 +62,8 @@ returns-3 : tie.Need-returns-3
 returns-3 c =
     let w = c .before .before .before in
     let f = w .before .before in
-    let e = f .before .before in
-    turned-whole (other (laid e .before)) _ (e .if1 .left) (fits (laid e)) (f .if2 .left) (w .write-as .ensures)
+    let e = f .before in
+    turned-whole (other (laid e .before)) _ (told e .is-beyond .ensures) (e .if1 .left) (fits (laid e)) (ltb-false _ _ (f .if2 .left)) (w .write-as .ensures)
 
 pub convert-sound-spec : {M : Type 1} → statement M
 convert-sound-spec =
@@ -64,10 +71,11 @@ convert-sound-spec =
     (tie.spec
     form-row-requires
     lay-out-requires
+    is-beyond-requires
     returns
-    cast-t13
+    cast-t11
     returns-2
     write-as-requires
-    cast-t17
+    cast-t15
     same-length
     returns-3)
