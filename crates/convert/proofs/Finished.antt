@@ -1,5 +1,5 @@
--- What was written by a finished conversion, as its caller has it: the first `total` bytes of the output. They open; every question and list is answered from them
--- as from the bytes that were turned; and turned back they are those bytes. Two results that the contract allows are equal, and from form 1 to form 2 there is no 19.
+-- What was written by a finished conversion, as its caller has it: the first `total` bytes of the output. They open; every question, list and Monday call is answered
+-- from them as from the bytes that were turned; and turned back they are those bytes. Two results that the contract allows are equal, and from form 1 to form 2 there is no 19.
 use mathlib.Core.Bool.{Bool, true, false, cond}
 use mathlib.Core.Path.{_≡_, refl, sym, ap, subst⁻¹, _∙_}
 use mathlib.Core.List.{List, [], _∷_, _++_}
@@ -14,11 +14,13 @@ use Rattle.laws.specs.Checks.{Pass}
 use Rattle.laws.proofs.Checks.{stops-early, answered-pass, answered-is, pass-front}
 use Rattle.numbers.proofs.Written.{Bytes}
 use Rattle.stored_header.proofs.Admitted.{header-pass}
+use Rattle.ask_all.specs.Batch.{batchAnswer, batchAnswers, batchMarks}
 use Rattle.convert.specs.declared.Converted.{Converted}
 use Rattle.convert.specs.declared.Converted.the-variants.{Total, Refused}
 use Rattle.convert.specs.Convert.{converted, only, beyond, convertEarly, convertLate, convertAnswer, convertOutput}
 use Rattle.convert.specs.Converted.{convertedOf, Allowed}
 use Rattle.convert.proofs.Same.{Alike, asked-same, ask-marks-same, listed-same, list-output-same, list-marks-same}
+use Rattle.convert.proofs.Monday.{batched-same, batch-answers-same, batch-marks-same}
 use Rattle.convert.proofs.Theorems.{fits-within, header-fit, Turnable, answered-turnable, turnable-answered, counts-kept, words-turned, turned-opens, turned-alike, turned-back, turnable-back}
 
 module _ (from to : ℕ) (b : List ℕ) (marks work : ℕ) (out : List ℕ) {total : ℕ} (e : convertAnswer from to b marks work (length out) ≡ answered total) where
@@ -57,8 +59,8 @@ module _ (from to : ℕ) (b : List ℕ) (marks work : ℕ) (out : List ℕ) {tot
       → openAnswer T turned m w ≡ answered (countsIn b)
   turned-open T m w taken room words = ap (λ (z : List ℕ). openAnswer T z m w) turned-is ∙ turned-opens turnable T m w taken room words
 
-  -- in a call that takes both forms, with words that suffice for each: answer, reason, groups opened, labelling and marks of a question, count, list and marks of a list
-  -- are kept, and so is every refusal
+  -- in a call that takes both forms, with words that suffice for each: answer, reason, groups opened, labelling and marks of a question, count, list and marks of a
+  -- list, and all answers and the marks of a Monday call are kept, and so is every refusal
   module _ (T : FormsTaken) (taken : takes T from ≡ true) (taken' : takes T (G .number) ≡ true)
       (w w' : ℕ) (words : wordsIn b ≤ w) (words' : wordsFor (G .width) (countsIn b) ≤ w')
     where
@@ -79,6 +81,16 @@ module _ (from to : ℕ) (b : List ℕ) (marks work : ℕ) (out : List ℕ) {tot
 
       pub list-marks-kept : (u : ℕ) (m : List ℕ) → listMarks T turned u m w' ≡ listMarks T b u m w
       list-marks-kept u m = list-marks-same alike u m
+
+      module _ (sources targets : List ℕ) where
+        pub monday-kept : (m answers : ℕ) → batchAnswer T turned sources targets m w' answers ≡ batchAnswer T b sources targets m w answers
+        monday-kept m answers = batched-same sources targets alike m answers
+
+        pub monday-answers-kept : (m : ℕ) (answers : List ℕ) → batchAnswers T turned sources targets m w' answers ≡ batchAnswers T b sources targets m w answers
+        monday-answers-kept m answers = batch-answers-same sources targets alike m answers
+
+        pub monday-marks-kept : (m : List ℕ) (answers : ℕ) → batchMarks T turned sources targets m w' answers ≡ batchMarks T b sources targets m w answers
+        monday-marks-kept m answers = batch-marks-same sources targets alike m answers
 
 -- There and back: turned back, what was written gives the bytes that there were, where marks, words and output suffice.
 module _ (from to : ℕ) (known : isForm to ≡ true) (b : List ℕ) (small : Bytes b) (marks work : ℕ) (out : List ℕ) {total : ℕ}

@@ -18,7 +18,6 @@ use Rattle.stored_header.specs.declared.Row.{Row}
 use Rattle.stored_header.specs.declared.Layout.{Layout}
 use Rattle.stored_header.specs.Header.{rowOf, counts, layoutBy, Laid}
 use Rattle.stored_header.proofs.Forms.{form-within}
-use Rattle.stored_header.proofs.Laid.{n-is, k-is, c-is}
 use Rattle.sound_places.specs.Lent.{SoundBytes}
 use Rattle.convert.specs.declared.Converted.{Converted}
 use Rattle.convert.specs.declared.Converted.the-variants.{Total, Refused}

@@ -3,5 +3,6 @@ pub mod Written
 pub mod Fitted
 pub mod Refusals
 pub mod Same
+pub mod Monday
 pub mod Theorems
 pub mod Finished

@@ -21,12 +21,12 @@ pub data Fewer : List Check → List Check → Type 0 where
   keep : (c : Check) {cs ds : List Check} → Fewer cs ds → Fewer (c ∷ cs) (c ∷ ds)
   pass : (c : Check) {cs ds : List Check} → c .applies ≡ false → Fewer cs ds → Fewer (c ∷ cs) ds
 
-fewer-outcome : {A : Type 0} (a : A) {cs ds : List Check} → Fewer cs ds → outcome cs a ≡ outcome ds a
+pub fewer-outcome : {A : Type 0} (a : A) {cs ds : List Check} → Fewer cs ds → outcome cs a ≡ outcome ds a
 fewer-outcome a none = refl
 fewer-outcome a (keep c f) = ap (refuse (c .applies) (c .number) (c .extra)) (fewer-outcome a f)
 fewer-outcome a (pass c h f) = rw h (fewer-outcome a f)
 
-fewer-applies : {cs ds : List Check} → Fewer cs ds → anyApplies cs ≡ anyApplies ds
+pub fewer-applies : {cs ds : List Check} → Fewer cs ds → anyApplies cs ≡ anyApplies ds
 fewer-applies none = refl
 fewer-applies (keep c f) = ap (λ (t : Bool). c .applies || t) (fewer-applies f)
 fewer-applies (pass c h f) = rw h (fewer-applies f)
@@ -38,7 +38,7 @@ pub record Right (T : FormsTaken) (b : List ℕ) (work : ℕ) : Type 0 where
   pub contents : contentsCheck b .applies ≡ false
 
 -- 13, for n vertices
-abbrev marksCheck : (n marks : ℕ) → Check
+abbrev pub marksCheck : (n marks : ℕ) → Check
 marksCheck n marks = check (ltb marks n) 13 n
 
 -- Each call by n and the index: its checks but for those that do not apply, and what it answers and leaves.
@@ -71,7 +71,7 @@ module _ {T : FormsTaken} {b : List ℕ} {work : ℕ} (R : Right T b work) where
   abbrev n : ℕ
   n = countsIn b .n
 
-  front : (marks : ℕ) {cs ds : List Check} → Fewer cs ds → Fewer (formChecks T b marks work ++ cs) (marksCheck n marks ∷ ds)
+  pub front : (marks : ℕ) {cs ds : List Check} → Fewer cs ds → Fewer (formChecks T b marks work ++ cs) (marksCheck n marks ∷ ds)
   front marks f =
       pass _ (R .header .0) (pass _ (R .header .1 .0) (pass _ (R .header .1 .1 .0) (keep _ (pass _ (le-ltb work (wordsIn b) (R .words)) f))))
 
@@ -126,12 +126,12 @@ pub record Alike (T : FormsTaken) (b b' : List ℕ) (work work' : ℕ) : Type 0 
   pub index : indexIn b' ≡ indexIn b
 
 module _ {T : FormsTaken} {b b' : List ℕ} {work work' : ℕ} (S : Alike T b b' work work') where
-  same-n : countsIn b' .n ≡ countsIn b .n
+  pub same-n : countsIn b' .n ≡ countsIn b .n
   same-n = ap (λ (a : Counts). a .n) (S .counts)
 
   -- what both come to
   module _ {A : Type 0} (by : ℕ → Index → A) where
-    by-same : by (countsIn b' .n) (indexIn b') ≡ by (countsIn b .n) (indexIn b)
+    pub by-same : by (countsIn b' .n) (indexIn b') ≡ by (countsIn b .n) (indexIn b)
     by-same = ap₂ by same-n (S .index)
 
   pub opened-same : (marks : ℕ) → openAnswer T b' marks work' ≡ openAnswer T b marks work

@@ -90,7 +90,7 @@ fn convert_sound(index: &[u8], l: Layout, form: usize, out: &mut [u8]) -> Conver
 // Turns a stored index of form `from` into form `to`: the first of the refusals 10, 11, 12, 13, 6, 15, 19 and 9 that applies, or the length of what is written to the
 // front of the output. The output behind it is untouched, and all of it by every refusal. Marks below n and the needed words are 0 after 15 and what comes behind it;
 // the refusals before leave them as they were.
-pub fn convert_between(
+fn convert_between(
     from: usize,
     to: usize,
     index: &[u8],
