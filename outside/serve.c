@@ -25,6 +25,9 @@ __attribute__((weak)) counted trial_list(const uint8_t *index, size_t index_len,
 __attribute__((weak)) counted trial_build(const uint32_t *sources, size_t sources_len, const uint32_t *targets, size_t targets_len,
                                           const uint32_t *orders, size_t orders_len, uint32_t *work, size_t work_len, uint8_t *out, size_t out_len,
                                           uint32_t form, uint32_t n, uint32_t d);
+__attribute__((weak)) counted trial_convert_up(const uint8_t *index, size_t index_len, uint8_t *marks, size_t marks_len, uint8_t *out, size_t out_len);
+__attribute__((weak)) counted trial_convert_down(const uint8_t *index, size_t index_len, uint8_t *marks, size_t marks_len, uint32_t *work, size_t work_len, uint8_t *out,
+                                                 size_t out_len);
 __attribute__((weak)) size_t trial_run(const uint8_t *text, size_t text_len, uint8_t *out);
 
 /* the layout that the header states */
@@ -32,7 +35,7 @@ _Static_assert(sizeof(drobisten_opened) == 24, "drobisten_opened is 24 bytes");
 _Static_assert(sizeof(drobisten_asked) == 24 && offsetof(drobisten_asked, labelling) == 20, "drobisten_asked is 24 bytes, labelling its last four");
 
 /* what a request asks for, and of whom: the calls that Rattle code makes, or the C host's, which are lent no words */
-enum { OPEN = 1, ASK = 2, LIST = 3, BUILD = 4, ASK_MANY = 5, RUN = 6, ASK_ALL = 7 };
+enum { OPEN = 1, ASK = 2, LIST = 3, BUILD = 4, ASK_MANY = 5, RUN = 6, ASK_ALL = 7, CONVERT_UP = 8, CONVERT_DOWN = 9 };
 enum { ORDINARY = 0, HOST = 1 };
 
 /* the bytes that a run is lent for its output, and what they hold before it */
@@ -103,7 +106,7 @@ static void on_stack(uint32_t bytes, void *(*work)(void *), void *job) {
 typedef struct {
     uint32_t face, source, target;
     lent index, marks, work, sources, targets, out;
-    union { drobisten_opened opened; drobisten_asked asked; drobisten_asked_all all; counted listed; } r;
+    union { drobisten_opened opened; drobisten_asked asked; drobisten_asked_all all; counted listed, converted; } r;
 } asking;
 
 static void *open_index(void *job) {
@@ -132,6 +135,19 @@ static void *ask_all(void *job) {
 static void *list(void *job) {
     asking *a = job;
     a->r.listed = trial_list(a->index.at, a->index.length, a->marks.at, a->marks.length, words(a->work), a->work.length, words(a->out), a->out.length, a->source);
+    return NULL;
+}
+
+/* form 1 turned into form 2, which is lent no words, and back */
+static void *convert_up(void *job) {
+    asking *a = job;
+    a->r.converted = trial_convert_up(a->index.at, a->index.length, a->marks.at, a->marks.length, a->out.at, a->out.length);
+    return NULL;
+}
+
+static void *convert_down(void *job) {
+    asking *a = job;
+    a->r.converted = trial_convert_down(a->index.at, a->index.length, a->marks.at, a->marks.length, words(a->work), a->work.length, a->out.at, a->out.length);
     return NULL;
 }
 
@@ -224,6 +240,16 @@ static void serve_list(uint32_t stack) {
     give_back(a.out);
 }
 
+static void serve_convert(uint32_t stack, void *(*convert)(void *)) {
+    asking a = {.face = ORDINARY};
+    take_index(&a);
+    a.out = buffer(1);
+    on_stack(stack, convert, &a);
+    give(&a.r.converted, sizeof a.r.converted);
+    give_marks(&a);
+    give_back(a.out);
+}
+
 typedef struct { uint32_t form, n, d; lent sources, targets, orders, work, out; counted r; } building;
 
 static void *build(void *job) {
@@ -275,6 +301,8 @@ int main(void) {
         case ASK_ALL: if (face != HOST && !trial_ask_all) return 5; serve_ask_all(face, stack); break;
         case LIST: if (!trial_list) return 5; serve_list(stack); break;
         case BUILD: if (!trial_build) return 5; serve_build(stack); break;
+        case CONVERT_UP: if (!trial_convert_up) return 5; serve_convert(stack, convert_up); break;
+        case CONVERT_DOWN: if (!trial_convert_down) return 5; serve_convert(stack, convert_down); break;
         case RUN: if (!trial_run) return 5; serve_run(); break;
         default: return 4;
         }

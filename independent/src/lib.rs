@@ -5,7 +5,7 @@
 //! stored bytes follow the words; soundness is decided by making the index again and comparing bytes.
 //!
 //! The data's way is the reading order: [`graph`], [`closure`], [`groups`], [`labels`], [`index`], [`form`], [`stored`],
-//! [`sound`] with [`every`] beside it, [`question`], [`calls`], [`batch`], [`host`], [`text`]. [`chance`] makes graphs,
+//! [`sound`] with [`every`] beside it, [`question`], [`calls`], [`batch`], [`convert`], [`host`], [`text`]. [`chance`] makes graphs,
 //! orders and damage for comparisons.
 
 pub mod batch;
@@ -13,6 +13,7 @@ pub mod bounds;
 pub mod calls;
 pub mod chance;
 pub mod closure;
+pub mod convert;
 pub mod every;
 pub mod form;
 pub mod graph;
@@ -28,6 +29,7 @@ pub mod text;
 
 pub use batch::ask_all;
 pub use calls::{ask, build, list, open};
+pub use convert::{convert_down, convert_up};
 pub use form::{Form, FORM_1, FORM_2, ORDINARY};
 pub use graph::Graph;
 pub use index::Index;

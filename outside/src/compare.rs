@@ -240,6 +240,23 @@ pub fn list_around(library: &mut Library, index: &[u8], vertex: u32) {
     }
 }
 
+/// An index of this form turned into the other one, into an output of this size: the number of the refusal, 0 where there is none.
+pub fn convert(library: &mut Library, from: &Form, index: &[u8], lent: Lent, out: usize) -> u32 {
+    let (mut ours, mut theirs) = (lent.buffers(Face::Ordinary), lent.buffers(Face::Ordinary));
+    let (mut got, mut expected) = (vec![PATTERN; out], vec![PATTERN; out]);
+    let result = library.convert(from, index, &mut ours.marks, &mut ours.words, &mut got);
+    let right = if *from == FORM_1 {
+        independent::convert_up(index, &mut theirs.marks, &mut expected)
+    } else {
+        independent::convert_down(index, &mut theirs.marks, &mut theirs.words, &mut expected)
+    };
+    let what = format!("{} bytes of form {} converted with {lent:?} into {out}: {right:?}", index.len(), from.number);
+    assert_eq!(result, right, "{what}");
+    assert!(got == expected, "{what}: first difference at {:?}", first_difference(&got, &expected));
+    ours.agree(&theirs, &what);
+    number(result)
+}
+
 /// Open, a question, a list and two pairs of the same bytes; the question's target and the list's vertex may be out of range. The number of each refusal.
 pub fn calls(library: &mut Library, index: &[u8], vertex: u32, lent: Lent) -> [u32; 4] {
     [

@@ -5,7 +5,7 @@ pub mod compare;
 pub mod texts;
 
 use compare::Input;
-use independent::{host, Answer, Counts, Refusal};
+use independent::{host, Answer, Counts, Form, Refusal, FORM_1};
 use std::io::{BufReader, BufWriter, Read, Write};
 use std::os::unix::process::ExitStatusExt;
 use std::process::{Child, ChildStdin, ChildStdout, Command, Stdio};
@@ -70,6 +70,8 @@ const BUILD: u32 = 4;
 const ASK_MANY: u32 = 5;
 const RUN: u32 = 6;
 const ASK_ALL: u32 = 7;
+const CONVERT_UP: u32 = 8;
+const CONVERT_DOWN: u32 = 9;
 
 /// The signal of a touch that is forbidden.
 const SIGSEGV: i32 = 11;
@@ -226,6 +228,17 @@ impl Library {
         self.marks_back(marks, words);
         self.words_back(out);
         outcome(refusal, extra, count == 0, count)
+    }
+
+    /// An index of this form turned into the other one. Form 1 is lent no words.
+    pub fn convert(&mut self, from: &Form, index: &[u8], marks: &mut [u8], words: &mut [u32], out: &mut [u8]) -> Outcome<u32> {
+        self.call(if *from == FORM_1 { CONVERT_UP } else { CONVERT_DOWN }, Face::Ordinary);
+        self.index(index, marks, words);
+        self.bytes(out);
+        let [refusal, extra, total] = self.reply();
+        self.marks_back(marks, words);
+        self.bytes_back(out);
+        outcome(refusal, extra, total == 0, total)
     }
 
     pub fn build(&mut self, input: &Input, work: &mut [u32], out: &mut [u8]) -> Outcome<u32> {

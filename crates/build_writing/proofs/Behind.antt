@@ -1,6 +1,6 @@
 -- Numbers written one behind the other into lent bytes: three of them, blocks of one size, sections.
 use mathlib.Core.Path.{_≡_, sym, ap, ap₂, _∙_}
-use mathlib.Core.List.{List, [], _∷_, _++_, map, append-assoc, append-nil}
+use mathlib.Core.List.{List, [], _∷_, _++_, map, append-assoc}
 use Prim.Native.Nat.{ℕ, _+_, _*_, _≤_, _<_}
 use native.Mathlib.Omega.{arith}
 use native.Mathlib.Numerals.{add-one}
@@ -10,20 +10,9 @@ use Rattle.lineage.specs.Lists.{upto, joined}
 use Rattle.lineage.specs.Numbers.{leBytes, written}
 use Rattle.laws.proofs.Joined.{joined-more, table-blocks-long}
 use Rattle.numbers.specs.Put.{put}
-use Rattle.numbers.proofs.Put.{put-none, put-start, put-next}
-use Rattle.numbers.proofs.Written.{written-long, written-append}
+use Rattle.numbers.proofs.Put.{put-none, put-start}
+use Rattle.numbers.proofs.Written.{written-next, written-one}
 use Rattle.stored.proofs.Offsets.{putSections}
-
--- numbers behind numbers
-pub written-next : (w at : ℕ) (s : List ℕ) (xs ys : List ℕ) (p : ℕ)
-    → p ≡ at + w * length xs
-    → at + w * length xs ≤ length s
-    → put (put s at (written w xs)) p (written w ys) ≡ put s at (written w (xs ++ ys))
-written-next w at s xs ys p e h =
-    let here : p ≡ at + length (written w xs) = omega (arith, written-long w xs) in
-    ap (λ (q : ℕ). put (put s at (written w xs)) q (written w ys)) here
-    ∙ put-next s at (written w xs) (omega (arith, written-long w xs)) (written w ys)
-    ∙ ap (put s at) (sym (written-append w xs ys))
 
 -- bytes, and then those that stand before them from the start on
 pub put-before : (s bs cs : List ℕ) → length bs ≤ length s → put (put s (length bs) cs) 0 bs ≡ put s 0 (bs ++ cs)
@@ -35,10 +24,6 @@ put-before s bs cs h =
     ∙ sym (append-assoc bs cs past)
     ∙ ap (λ (n : ℕ). (bs ++ cs) ++ drop n s) (sym (length-append bs cs))
     ∙ sym (put-start s (bs ++ cs))
-
--- one number, as a list of its own
-written-one : (w a : ℕ) → leBytes w a ≡ written w (a ∷ [])
-written-one w a = sym (append-nil (leBytes w a))
 
 -- three numbers, one by one
 pub triple-put : (w at a b c : ℕ) (s t u v : List ℕ)

@@ -11,8 +11,8 @@ use Rattle.laws.proofs.Lists.{table-same}
 use Rattle.laws.proofs.Parts.{part-at}
 use Rattle.laws.proofs.Joined.{table-blocks-long}
 use Rattle.numbers.specs.Put.{put}
+use Rattle.numbers.proofs.Written.{written-next}
 use Rattle.build_writing.specs.Words.{tripleIn, labellingInWords}
-use Rattle.build_writing.proofs.Behind.{written-next}
 
 module _ (words : List ℕ) (s m e r k : ℕ) where
   triples-are : map (tripleIn words s m e) (upto k) ≡ map (triple (labellingInWords words s m e r k)) (upto k)

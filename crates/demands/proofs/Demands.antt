@@ -15,6 +15,10 @@ use Rattle.ask_all.proofs.ask_all_form1 as ask-all-form1-call
 use Rattle.ask_all.proofs.Theorems.{batch-once}
 use Rattle.list.proofs.list as list-call
 use Rattle.list.proofs.Theorems.{listed-once}
+use Rattle.convert.specs.Convert.{convertAnswer}
+use Rattle.convert.proofs.convert_up as convert-up-call
+use Rattle.convert.proofs.convert_down as convert-down-call
+use Rattle.convert.proofs.Finished.{converted-once}
 use Rattle.text_run.proofs.run as run-call
 use Rattle.text_run.proofs.Theorems.{ran-once}
 use Rattle.drobisten.proofs.drobisten_open as host-open-call
@@ -25,14 +29,14 @@ use Rattle.demands.specs.Calls.{EveryCall}
 use Rattle.demands.specs.Stored.{AsGrail}
 use Rattle.demands.specs.Orders.{MoreOrders}
 use Rattle.demands.proofs.Refusals.{first-refusal}
-use Rattle.demands.proofs.Words.{open-no-words, ask-no-words, batch-no-words}
+use Rattle.demands.proofs.Words.{open-no-words, ask-no-words, batch-no-words, convert-no-words}
 use Rattle.demands.proofs.Stored.{build-stored}
 use Rattle.demands.proofs.Opened.{opened-yields, yielded-stored, opened-answers, asked-path, host-path}
 use Rattle.demands.proofs.Orders.{fewer, on-a-no}
 
 -- 1. The checker's theorem of each call is cited; what the contract says is, equation by equation, what is allowed.
 pub demand-1 : EveryCall
-unfolding buildCall openAnswer askAnswer batchAnswer listAnswer
+unfolding buildCall openAnswer askAnswer batchAnswer listAnswer convertAnswer
 demand-1 = record {
   build = record {
     met = build-call.Met.met;
@@ -82,6 +86,18 @@ demand-1 = record {
     allows = λ κs a r e (answers, (leaves, (clears, writes))). record { answers = answers; leaves = leaves; clears = clears; writes = writes };
     once = λ κs a r r' e e'. listed-once;
   };
+  convert-up = record {
+    met = convert-up-call.Met.met;
+    nothing-asked = λ κs a. tt;
+    allows = λ κs a r e (answers, (leaves, writes)). record { answers = answers; leaves = leaves; clears = sym (convert-no-words _ _ _); writes = writes };
+    once = λ κs a r r' e e' X Y. let (same, (marks, (work, out))) = converted-once X Y in (same, (marks, out));
+  };
+  convert-down = record {
+    met = convert-down-call.Met.met;
+    nothing-asked = λ κs a. tt;
+    allows = λ κs a r e (answers, (leaves, (clears, writes))). record { answers = answers; leaves = leaves; clears = clears; writes = writes };
+    once = λ κs a r r' e e'. converted-once;
+  };
   run = record {
     met = run-call.Met.met;
     nothing-asked = λ κs a. tt;
@@ -111,6 +127,7 @@ demand-1 = record {
   ask-refuses = λ T b u v marks work number extra. first-refusal _ number extra _;
   ask-all-refuses = λ T b sources targets marks work answers number extra. first-refusal _ number extra _;
   list-refuses = λ T b u marks work out number extra. first-refusal _ number extra _;
+  convert-refuses = λ from to b marks work out number extra. first-refusal _ number extra _;
 }
 
 -- 2. What is built and what opens is a stored index, whatever graph and orders yield it; and what is stored is right.

@@ -11,6 +11,7 @@ use Rattle.lineage.specs.Lists.{cleared}
 use Rattle.lineage.specs.Stored.{Form, headerLength, Counts, headerAt, countsIn, formOf, countsFit, offsetsFit}
 use Rattle.lineage.specs.Calls.{Check, check, anyApplies, FormsTaken, takes, wordsIn, formChecks, workAfter, openWork, askWork}
 use Rattle.ask_all.specs.Batch.{batchWork}
+use Rattle.convert.specs.Convert.{only, convertWork}
 use Rattle.laws.proofs.Tests.{or-false-left, or-false-right}
 
 none-cleared : (needed : ℕ) → needed ≡ 0 → cleared needed [] ≡ []
@@ -49,3 +50,8 @@ module _ (T : FormsTaken) (b : List ℕ) where
   pub batch-no-words : (marks : ℕ) → batchWork T b marks [] ≡ []
   unfolding batchWork
   batch-no-words marks = no-words T b marks []
+
+-- and of a conversion
+pub convert-no-words : (from : ℕ) (b : List ℕ) (marks : ℕ) → convertWork from b marks [] ≡ []
+unfolding convertWork
+convert-no-words from b marks = no-words (only from) b marks []

@@ -27,6 +27,10 @@ use Rattle.ask_all.proofs.ask_all_form1 as ask-all-form1-call
 use Rattle.ask_all.proofs.Theorems as asking-all
 use Rattle.list.proofs.list as list-call
 use Rattle.list.specs.Listed as list
+use Rattle.convert.specs.Convert.{convertEarly, convertLate, convertAnswer}
+use Rattle.convert.specs.Converted as converting
+use Rattle.convert.proofs.convert_up as convert-up-call
+use Rattle.convert.proofs.convert_down as convert-down-call
 use Rattle.text_run.proofs.run as run-call
 use Rattle.text_run.proofs.Theorems as run
 use Rattle.drobisten.proofs.drobisten_open as host-open-call
@@ -93,6 +97,17 @@ pub record EveryCall : Type 2 where
       list.Allowed ordinary (now index) vertex (now marks) (now work) (now out) r (now marks') (now work') (now out'))
       (λ κs (_, (_, (marks, (work, (out, _))))) (_, (_, (marks', (work', (out', _))))).
       (now marks ≡ now marks') × ((now work ≡ now work') × (now out ≡ now out')))
+  pub convert-up : Answers convert-up-call.Kinds.ps convert-up-call.Kinds.r convert-up-call.Statement.statement convert-up-call.Reads.Asked
+      convert-up-call.Reads.Learnt
+      (λ κs (index, (marks, (out, _))) r (_, (marks', (out', _))).
+      converting.Allowed 1 2 (now index) (now marks) [] (now out) r (now marks') [] (now out'))
+      (λ κs (_, (marks, (out, _))) (_, (marks', (out', _))). (now marks ≡ now marks') × (now out ≡ now out'))
+  pub convert-down : Answers convert-down-call.Kinds.ps convert-down-call.Kinds.r convert-down-call.Statement.statement convert-down-call.Reads.Asked
+      convert-down-call.Reads.Learnt
+      (λ κs (index, (marks, (work, (out, _)))) r (_, (marks', (work', (out', _)))).
+      converting.Allowed 2 1 (now index) (now marks) (now work) (now out) r (now marks') (now work') (now out'))
+      (λ κs (_, (marks, (work, (out, _)))) (_, (marks', (work', (out', _)))).
+      (now marks ≡ now marks') × ((now work ≡ now work') × (now out ≡ now out')))
   -- the text program's run
   pub run : Answers run-call.Kinds.ps run-call.Kinds.r run-call.Statement.statement run-call.Reads.Asked run-call.Reads.Learnt
       (λ κs (text, (out, _)) r (_, (out', _)). run.Allowed (now text) (now out) r (now out'))
@@ -122,3 +137,5 @@ pub record EveryCall : Type 2 where
       ↔ Refuses (formChecks T b marks work ++ batchLate b sources targets answers) number extra
   pub list-refuses : (T : FormsTaken) (b : List ℕ) (u marks work out number extra : ℕ)
       → (listAnswer T b u marks work out ≡ refused number extra) ↔ Refuses (listEarly T b u marks work ++ listLate b u out) number extra
+  pub convert-refuses : (from to : ℕ) (b : List ℕ) (marks work out number extra : ℕ)
+      → (convertAnswer from to b marks work out ≡ refused number extra) ↔ Refuses (convertEarly from b marks work ++ convertLate to b out) number extra

@@ -1,7 +1,7 @@
 -- The laws of little-endian numbers, at any width. A number is made of its own w bytes alone; so the bytes of a number are read as that number, and the
 -- numbers of a stretch are a list of their own.
 use mathlib.Core.Path.{_≡_, refl, sym, ap, _∙_}
-use mathlib.Core.List.{List, _∷_}
+use mathlib.Core.List.{List, [], _∷_, _++_, map, map-append}
 use Prim.Native.Nat.{ℕ, zero, suc, _+_, _-_, _*_, _/_, _%_, _^_, _≤_, _<_}
 use native.Mathlib.Omega.{arith}
 use native.Mathlib.Numerals.{add-one}
@@ -9,7 +9,7 @@ use native.Mathlib.Nat.{mul-le-mul-left, mul-le-mul-right, mul-suc, mul-add, pow
 use lib.Dec.{ltb}
 use lib.ListN.{length, getD, take, drop, set}
 use lib.Seq.{ext-getD}
-use Rattle.lineage.specs.Lists.{part}
+use Rattle.lineage.specs.Lists.{upto, part}
 use Rattle.lineage.specs.Numbers.{leAt, numAt, numbers, leBytes}
 use Rattle.laws.specs.Rising.{Rises}
 use Rattle.laws.proofs.Rising.{those-short}
@@ -71,6 +71,11 @@ module _ (w : ℕ) (s : List ℕ) where
   pub numbers-at : (k i : ℕ) → i < k → getD (numbers w s k) i 0 ≡ numAt w s i
   unfolding numbers
   numbers-at k i h = table-at (numAt w s) k i 0 h
+
+  -- one more of them
+  pub numbers-next : (k : ℕ) → numbers w s (k + 1) ≡ numbers w s k ++ (numAt w s k ∷ [])
+  unfolding numbers
+  numbers-next k = ap (λ (n : ℕ). map (numAt w s) (upto n)) (add-one k) ∙ map-append (numAt w s) (upto k) (k ∷ [])
 
 -- how many of them are below v is on the side of position i that number i tells, where they rise
 module _ (w k : ℕ) (s : List ℕ) (v : ℕ) where

@@ -15,7 +15,7 @@ use Rattle.laws.proofs.Lists.{getD-mapped, table-is}
 use Rattle.laws.proofs.Parts.{part-left, part-more, part-beyond, part-length, part-at}
 use Rattle.numbers.specs.Put.{put}
 use Rattle.numbers.proofs.Put.{put-none, put-next}
-use Rattle.numbers.proofs.Numbers.{room, le-own, le-tail, le-bytes, bytes-long}
+use Rattle.numbers.proofs.Numbers.{room, le-own, le-tail, le-bytes, bytes-long, numbers-long, numbers-next}
 
 pub written-long : (w : ℕ) (xs : List ℕ) → length (written w xs) ≡ w * length xs
 written-long w [] = sym (mul-zero w)
@@ -82,7 +82,36 @@ written-numbers w s n small e =
     ∙ blocks-of (λ i. leBytes w (numAt w s i)) w s n (λ i l. number-bytes w s n i small e l)
     ∙ take-all (w * n) s (omega arith)
 
--- Words written one by one: none of them yet, and one more.
+-- numbers behind numbers
+pub written-next : (w at : ℕ) (s : List ℕ) (xs ys : List ℕ) (p : ℕ)
+    → p ≡ at + w * length xs
+    → at + w * length xs ≤ length s
+    → put (put s at (written w xs)) p (written w ys) ≡ put s at (written w (xs ++ ys))
+written-next w at s xs ys p e h =
+    let here : p ≡ at + length (written w xs) = omega (arith, written-long w xs) in
+    ap (λ (q : ℕ). put (put s at (written w xs)) q (written w ys)) here
+    ∙ put-next s at (written w xs) (omega (arith, written-long w xs)) (written w ys)
+    ∙ ap (put s at) (sym (written-append w xs ys))
+
+-- one number, as a list of its own
+pub written-one : (w a : ℕ) → leBytes w a ≡ written w (a ∷ [])
+written-one w a = sym (append-nil (leBytes w a))
+
+-- Numbers written one by one: xs are, and one more makes ys of them.
+written-more : (w at : ℕ) (s t xs ys : List ℕ) (p i v : ℕ)
+    → t ≡ put s at (written w xs)
+    → length xs ≡ i
+    → p ≡ at + w * i
+    → ys ≡ xs ++ (v ∷ [])
+    → at + w * i ≤ length s
+    → put t p (leBytes w v) ≡ put s at (written w ys)
+written-more w at s t xs ys p i v e long here more fits =
+    let behind : at + w * i ≡ at + w * length xs = ap (λ (n : ℕ). at + w * n) (sym long) in
+    ap₂ (λ (z x : List ℕ). put z p x) e (written-one w v)
+    ∙ written-next w at s xs (v ∷ []) p (here ∙ behind) (omega arith)
+    ∙ ap (λ (z : List ℕ). put s at (written w z)) (sym more)
+
+-- Words: none of them yet, and one more.
 module _ (w at from : ℕ) (words s : List ℕ) where
   abbrev pub wordsPut : ℕ → List ℕ
   wordsPut i = put s at (written w (part words from i))
@@ -99,15 +128,26 @@ module _ (w at from : ℕ) (words s : List ℕ) where
       → at + w * i + w ≤ length s
       → put t p (leBytes w v) ≡ wordsPut (i + 1)
   words-more t p i v e ep ev h fits =
-      let bs : List ℕ = written w (part words from i) in
-      let long : length bs ≡ w * i =
-      written-long w (part words from i) ∙ ap (λ (n : ℕ). w * n) (part-length words from i (omega arith)) in
-      let here : p ≡ at + length bs = omega arith in
-      let next : bs ++ leBytes w v ≡ written w (part words from (i + 1)) =
-      sym
-      (ap (written w) (part-more words from i 0 h)
-      ∙ written-append w (part words from i) (getD words (from + i) 0 ∷ [])
-      ∙ ap (λ (z : List ℕ). bs ++ z) (append-nil (leBytes w (getD words (from + i) 0)) ∙ ap (leBytes w) (sym ev))) in
-      ap₂ (λ (z : List ℕ) (q : ℕ). put z q (leBytes w v)) e here
-      ∙ put-next s at bs (omega arith) (leBytes w v)
-      ∙ ap (put s at) next
+      written-more w at s t (part words from i) (part words from (i + 1)) p i v e (part-length words from i (omega arith)) ep
+      (part-more words from i 0 h ∙ ap (λ (x : ℕ). part words from i ++ (x ∷ [])) (sym ev))
+      (omega arith)
+
+-- Numbers of w bytes, written as numbers of v: none of them yet, and one more.
+module _ (v at w : ℕ) (from s : List ℕ) where
+  abbrev pub numbersPut : ℕ → List ℕ
+  numbersPut i = put s at (written v (numbers w from i))
+
+  pub numbers-none : s ≡ numbersPut 0
+  unfolding numbers
+  numbers-none = sym (put-none s at)
+
+  pub numbers-more : (t : List ℕ) (p i x : ℕ)
+      → t ≡ numbersPut i
+      → p ≡ at + v * i
+      → x ≡ numAt w from i
+      → at + v * i + v ≤ length s
+      → put t p (leBytes v x) ≡ numbersPut (i + 1)
+  numbers-more t p i x e ep ex fits =
+      written-more v at s t (numbers w from i) (numbers w from (i + 1)) p i x e (numbers-long w from i) ep
+      (numbers-next w from i ∙ ap (λ (y : ℕ). numbers w from i ++ (y ∷ [])) (sym ex))
+      (omega arith)

@@ -141,6 +141,22 @@ pub fn write_words(out: &mut [u8], at: usize, w: usize, words: &[u32], from: usi
     }
 }
 
+// Writes count numbers of w bytes, read from a part, as numbers of v bytes one after the other, from position at on.
+pub fn copy_numbers(out: &mut [u8], at: usize, v: usize, from: &[u8], w: usize, count: usize)
+    requires { ⌜ Width v ⌝ }
+    requires { ⌜ Width w ⌝ }
+    requires { ⌜ (at + v * count ≤ length (now out)) × (w * count ≤ length (now from)) ⌝ }
+    ensures { λ _. ⌜ now (out .exit) ≡ put (now (out .entry)) at (written v (numbers w (now (from .entry)) count)) ⌝ }
+{
+    let mut p = at;
+    let mut i = 0;
+    while i < count {
+        put_at(out, p, v, num(from, w, i));
+        p += v;
+        i += 1;
+    }
+}
+
 // Sets n words to 0, from word at on.
 pub fn clear_part(words: &mut [u32], at: usize, n: usize)
     requires { ⌜ at + n ≤ length (now words) ⌝ }

@@ -8,23 +8,20 @@ use mathlib.Core.List.{List}
 use Prim.Native.Nat.{ℕ, _^_, _≤_, _<_}
 use native.Mathlib.Omega.{arith}
 use lib.ListN.{length, length-map}
-use Rattle.lineage.specs.Lists.{joined, Every}
+use Rattle.lineage.specs.Lists.{Every}
 use Rattle.lineage.specs.Graph.{Graph, Ends}
 use Rattle.lineage.specs.Labels.{Order, labelling}
 use Rattle.lineage.specs.Index.{Index, indexBy, indexOf, Made}
-use Rattle.lineage.specs.Stored.{Form, Counts, countsOf, countsFit, encode, headerAt, countsIn, formOf, stretch, section, labellingAt, decode, mostLabellings}
+use Rattle.lineage.specs.Stored.{Form, Counts, countsOf, countsFit, encode, headerAt, countsIn, formOf, section, mostLabellings}
 use Rattle.lineage.specs.Sound.{startsPass, sound, contentsSound}
 use Rattle.lineage.specs.Calls.{answered, FormsTaken, takes, wordsFor, wordsIn, openAnswer, openMarks, openWork, indexIn}
 use Rattle.laws.proofs.Sound.{made-sound, sound-is-made, made-long}
 use Rattle.laws.proofs.Decides.{sound-decides}
-use Rattle.laws.proofs.Lists.{table-long}
 use Rattle.laws.proofs.Tests.{both}
-use Rattle.laws.proofs.Starts.{pass-laid, rows-joined}
-use Rattle.numbers.proofs.Numbers.{numbers-long}
 use Rattle.numbers.proofs.Written.{Bytes}
 use Rattle.stored_header.proofs.Forms.{form-within}
 use Rattle.stored_header.proofs.Laid.{header-laid}
-use Rattle.stored.proofs.Decoded.{encode-decode}
+use Rattle.stored.proofs.Decoded.{counts-are, encode-decode}
 use Rattle.open.specs.Yields.{Yields, HeaderRight}
 use Rattle.open.proofs.Checks.{opened-right, opened-contents, right-passes}
 use Rattle.open.specs.declared.Opened.{Opened}
@@ -32,17 +29,6 @@ use Rattle.open.specs.declared.Opened.the-variants.{Index as IndexOf, Re
 use Rattle.open.specs.Opened.{openedOf}
 use Rattle.open.proofs.Bounds.{counts-bounded, laid-short}
 use Rattle.open.proofs.Fits.{Wide, form-wide, bounds-kept, yielded-fits, encoded-opens, fits-opens}
-
--- the counts of the index that bytes hold are the header's, where the child starts pass
-counts-are : (w : ℕ) (b : List ℕ) → startsPass (section w (countsIn b) b 3) (countsIn b .k) (countsIn b .c) ≡ true → countsOf (decode w b) ≡ countsIn b
-unfolding decode section
-counts-are w b t =
-    let a : Counts = countsIn b in
-    let c : length (joined (decode w b .children)) ≡ a .c =
-    ap length (rows-joined (pass-laid (section w a b 3) (a .k) (a .c) t (section w a b 4) (numbers-long w (stretch w a b 4) (a .c))))
-    ∙ numbers-long w (stretch w a b 4) (a .c) in
-    let d : length (decode w b .labels) ≡ a .d = table-long (labellingAt (a .k) (section w a b 5)) (a .d) in
-    rw (numbers-long w (stretch w a b 0) (a .n), numbers-long w (stretch w a b 1) (a .k), c, d)
 
 -- What opens.
 module _ (T : FormsTaken) (b : List ℕ) (marks work : ℕ) {a : Counts} (e : answered a ≡ openAnswer T b marks work) where
@@ -57,7 +43,7 @@ module _ (T : FormsTaken) (b : List ℕ) (marks work : ℕ) {a : Counts} (e : an
   pub opened-made : Made (indexIn b)
   opened-made = sound-is-made (indexIn b) .0 (tests .1)
 
-  opened-counts : countsOf (indexOf (opened-made .graph) (opened-made .orders)) ≡ countsIn b
+  pub opened-counts : countsOf (indexOf (opened-made .graph) (opened-made .orders)) ≡ countsIn b
   opened-counts = ap countsOf (opened-made .yields) ∙ counts-are (F .width) b (tests .0)
 
   opened-yields : Bytes b → Yields F b

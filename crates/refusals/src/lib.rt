@@ -51,3 +51,6 @@ pub const LIST_SHORT: u32 = 16;
 
 // The program's text is bad; extra: the line, or 0.
 pub const BAD_TEXT: u32 = 17;
+
+// Conversion: n, k or c is beyond the form's bounds.
+pub const BEYOND_FORM: u32 = 19;

@@ -24,6 +24,48 @@ use Rattle.stored_header.specs.Header.{layoutIn, Laid}
 use Rattle.stored.proofs.LabelNumbers.{labels-written}
 use Rattle.stored.proofs.Offsets.{cut, cut-joined, offsets-within}
 
+-- The index that bytes hold at a width has the sections that are read, and their counts, where the child starts pass.
+module _ (w : ℕ) (b : List ℕ) where
+  abbrev counts : Counts
+  counts = countsIn b
+
+  abbrev pub sectionsIn : List (List ℕ)
+  sectionsIn = section w counts b 0 ∷ section w counts b 1 ∷ section w counts b 2 ∷ section w counts b 3 ∷ section w counts b 4 ∷ section w counts b 5 ∷ []
+
+  pub section-long : (i : ℕ) → length (section w counts b i) ≡ getD (sizes (counts .n) (counts .k) (counts .c) (counts .d)) i 0
+  unfolding section
+  section-long i = numbers-long w (stretch w counts b i) (getD (sizes (counts .n) (counts .k) (counts .c) (counts .d)) i 0)
+
+  module _ (starts : startsPass (section w counts b 3) (counts .k) (counts .c) ≡ true) where
+    laid : LaidRows (section w counts b 3) (section w counts b 4) (counts .k)
+    laid = pass-laid (section w counts b 3) (counts .k) (counts .c) starts (section w counts b 4) (section-long 4)
+
+    starts-are : startsFrom 0 (decode w b .children) ≡ section w counts b 3
+    unfolding decode
+    starts-are = starts-again laid (omega (arith, section-long 3))
+
+    children-are : joined (decode w b .children) ≡ section w counts b 4
+    unfolding decode
+    children-are = rows-joined laid
+
+    labels-are : joined (map (labelNumbers (length (decode w b .groups))) (decode w b .labels)) ≡ section w counts b 5
+    unfolding decode
+    labels-are =
+        ap (λ (k : ℕ). joined (map (labelNumbers k) (decode w b .labels))) (section-long 1)
+        ∙ labels-written (counts .k) (counts .d) (section w counts b 5) (section-long 5)
+
+    pub sections-are : sections (decode w b) ≡ sectionsIn
+    unfolding decode
+    sections-are = rw (starts-are, children-are, labels-are)
+
+    pub counts-are : countsOf (decode w b) ≡ counts
+    unfolding decode
+    counts-are =
+        let c : length (joined (decode w b .children)) ≡ counts .c = ap length children-are ∙ section-long 4 in
+        let d : length (decode w b .labels) ≡ counts .d = table-long (labellingAt (counts .k) (section w counts b 5)) (counts .d) in
+        rw (section-long 0, section-long 1, c, d)
+
+-- Bytes of a layout: header and sections, written, are the bytes.
 module _ {b : List ℕ} {l : Layout} (L : Laid b l) (small : Bytes b) where
   abbrev F : Form
   F = formOf (headerAt b 0)
@@ -65,57 +107,20 @@ module _ {b : List ℕ} {l : Layout} (L : Laid b l) (small : Bytes b) where
       ap (written 4) header-is
       ∙ written-numbers 4 (part b 0 48) 12 (bytes-part b 0 48 small) (part-length b 0 48 (omega (arith, M .long)))
 
-  -- header and sections, written, are the bytes
-  abbrev sectionsIn : List (List ℕ)
-  sectionsIn = section w a b 0 ∷ section w a b 1 ∷ section w a b 2 ∷ section w a b 3 ∷ section w a b 4 ∷ section w a b 5 ∷ []
-
-  sections-written : map (written w) sectionsIn ≡ cut w b 48 (sizes (a .n) (a .k) (a .c) (a .d))
+  sections-written : map (written w) (sectionsIn w b) ≡ cut w b 48 (sizes (a .n) (a .k) (a .c) (a .d))
   unfolding stretch
   sections-written =
       rw (section-written 0 (omega arith), section-written 1 (omega arith), section-written 2 (omega arith), section-written 3 (omega arith), section-written 4 (omega arith), section-written 5 (omega arith))
 
-  pub bytes-written : written 4 (header F a) ++ joined (map (written w) sectionsIn) ≡ b
+  pub bytes-written : written 4 (header F a) ++ joined (map (written w) (sectionsIn w b)) ≡ b
   bytes-written =
       ap₂ (λ (h : List ℕ) (s : List (List ℕ)). h ++ joined s) header-written sections-written
       ∙ cut-joined w b 48 (sizes (a .n) (a .k) (a .c) (a .d))
       ∙ take-all (layoutIn b .total) b (omega (arith, M .long))
 
-  -- Child starts that pass: the index has these sections.
-  section-long : (i : ℕ) → length (section w a b i) ≡ getD (sizes (a .n) (a .k) (a .c) (a .d)) i 0
-  unfolding section
-  section-long i = numbers-long w (stretch w a b i) (getD (sizes (a .n) (a .k) (a .c) (a .d)) i 0)
-
-  module _ (starts : startsPass (section w a b 3) (a .k) (a .c) ≡ true) where
-    laid : LaidRows (section w a b 3) (section w a b 4) (a .k)
-    laid = pass-laid (section w a b 3) (a .k) (a .c) starts (section w a b 4) (section-long 4)
-
-    starts-are : startsFrom 0 (indexIn b .children) ≡ section w a b 3
-    unfolding decode
-    starts-are = starts-again laid (omega (arith, section-long 3))
-
-    children-are : joined (indexIn b .children) ≡ section w a b 4
-    unfolding decode
-    children-are = rows-joined laid
-
-    labels-are : joined (map (labelNumbers (length (indexIn b .groups))) (indexIn b .labels)) ≡ section w a b 5
-    unfolding decode
-    labels-are =
-        ap (λ (k : ℕ). joined (map (labelNumbers k) (indexIn b .labels))) (section-long 1)
-        ∙ labels-written (a .k) (a .d) (section w a b 5) (section-long 5)
-
-    sections-are : sections (indexIn b) ≡ sectionsIn
-    unfolding decode
-    sections-are = rw (starts-are, children-are, labels-are)
-
-    counts-are : countsOf (indexIn b) ≡ a
-    unfolding decode
-    counts-are =
-        let c : length (joined (indexIn b .children)) ≡ a .c = ap length children-are ∙ section-long 4 in
-        let d : length (indexIn b .labels) ≡ a .d = table-long (labellingAt (a .k) (section w a b 5)) (a .d) in
-        rw (section-long 0, section-long 1, c, d)
-
-    -- the bytes are written again
-    pub encode-decode : encode F (indexIn b) ≡ b
-    unfolding encode
-    encode-decode =
-        ap₂ (λ (z : Counts) (s : List (List ℕ)). written 4 (header F z) ++ joined (map (written w) s)) counts-are sections-are ∙ bytes-written
+  -- where the child starts pass, the bytes are written again from the index that they hold
+  pub encode-decode : startsPass (section w a b 3) (a .k) (a .c) ≡ true → encode F (indexIn b) ≡ b
+  unfolding encode
+  encode-decode starts =
+      ap₂ (λ (z : Counts) (s : List (List ℕ)). written 4 (header F z) ++ joined (map (written w) s)) (counts-are w b starts) (sections-are w b starts)
+      ∙ bytes-written

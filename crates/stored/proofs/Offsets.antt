@@ -51,6 +51,14 @@ module _ (w : ℕ) where
   putSections s at [] = s
   putSections s at (x ∷ X) = putSections (put s at (written w x)) (at + w * length x) X
 
+  -- one more of them
+  pub sections-more : (X : List (List ℕ)) (s : List ℕ) (at i : ℕ)
+      → i < length X
+      → put (putSections s at (take i X)) (getD (offsetsFrom w at (lengths X)) i 0) (written w (getD X i [])) ≡ putSections s at (take (suc i) X)
+  sections-more [] s at i h = absurd (not-suc-le-zero h)
+  sections-more (x ∷ X) s at zero h = refl
+  sections-more (x ∷ X) s at (suc i) h = sections-more X (put s at (written w x)) (at + w * length x) i (omega arith)
+
   -- are written one after the other
   pub sections-put : (before : List ℕ) (X : List (List ℕ)) (s : List ℕ) (at : ℕ)
       → at ≡ length before

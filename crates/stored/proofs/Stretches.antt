@@ -22,7 +22,7 @@ abbrev startOf : Layout → ℕ → ℕ
 startOf l i = getD (offsetsOf l) i 0
 
 -- section i ends where the next one starts, within the bytes; the part between is the section
-pub record Stretched (b : List ℕ) (l : Layout) (i : ℕ) : Type 0 where
+record Stretched (b : List ℕ) (l : Layout) (i : ℕ) : Type 0 where
   pub next : startOf l (i + 1) ≡ startOf l i + l .width * sizeIn l i
   pub within : startOf l (i + 1) ≤ length b
   pub whole : Section b l i (take (startOf l (i + 1) - startOf l i) (drop (startOf l i) b))
@@ -41,5 +41,16 @@ section-at b i h total =
       whole = record { is = rw size; long = rw size (part-length b (startOf l i) (l .width * sizeIn l i) (omega arith)) };
     }
 
-pub section-stretched : {b : List ℕ} {l : Layout} → Laid b l → (i : ℕ) → i < 6 → Stretched b l i
+section-stretched : {b : List ℕ} {l : Layout} → Laid b l → (i : ℕ) → i < 6 → Stretched b l i
 section-stretched {b} L i h = subst⁻¹ (λ z. Stretched b z i) (L .is) (section-at b i h (L .long ∙ ap (λ z. z .total) (L .is)))
+
+-- its start and its end as code has them
+module _ {b : List ℕ} {l : Layout} (L : Laid b l) {i : ℕ} (low : i < 6) {from to : ℕ} (from-is : from ≡ startOf l i) (to-is : to ≡ startOf l (i + 1)) where
+  pub span-rises : from ≤ to
+  span-rises = omega (arith, section-stretched L i low .next)
+
+  pub span-within : to ≤ length b
+  span-within = omega (arith, section-stretched L i low .within)
+
+  pub span-whole : Section b l i (take (to - from) (drop from b))
+  span-whole = rw (from-is, to-is) (section-stretched L i low .whole)

@@ -1,18 +1,20 @@
 // Each section as its own stretch of the stored bytes: a part of the lent index. So are the two halves of a labelling and one group's children.
 use stored_header::Layout;
 use stored_header::label_count;
+ghost use mathlib.Core.Path.{_≡_};
 ghost use Prim.Native.Nat.{_+_, _*_, _≤_, _<_};
-ghost use lib.ListN.{length};
+ghost use lib.ListN.{length, getD};
 ghost use Rattle.lineage.specs.Numbers.{Width, numAt};
+ghost use Rattle.lineage.specs.Stored.{sizes, mostLabellings};
+ghost use Rattle.numbers.specs.Bounds.{vertexBound};
 ghost use Rattle.numbers.specs.Regions.{Part};
-ghost use Rattle.stored_header.specs.Header.{Laid};
+ghost use Rattle.stored_header.specs.Header.{offsetsOf, Laid};
 ghost use Rattle.stored.specs.Sections.{Section, ChildrenOf, Labellings};
 
-// Section i: from its offset to the next one, the last to the total length.
-fn section(index: &[u8], l: Layout, i: usize) -> &[u8]
-    requires { ⌜ Laid (now index) l ⌝ }
-    requires { ⌜ i < 6 ⌝ }
-    ensures { λ r. ⌜ Section (now (index .entry)) l i (now r) ⌝ }
+// Where section i starts; behind the last of them, where the bytes end.
+pub fn offset(l: Layout, i: usize) -> usize
+    requires { ⌜ i < 7 ⌝ }
+    ensures { λ r. ⌜ r ≡ getD (offsetsOf l) i 0 ⌝ }
 {
     let offsets = [
         l.names,
@@ -23,8 +25,27 @@ fn section(index: &[u8], l: Layout, i: usize) -> &[u8]
         l.labels,
         l.total,
     ];
-    let from = offsets[i];
-    let to = offsets[i + 1];
+    offsets[i]
+}
+
+// How many numbers section i has.
+pub fn size(l: Layout, i: usize) -> usize
+    requires { ⌜ (l .k ≤ vertexBound) × (l .d ≤ mostLabellings) ⌝ }
+    requires { ⌜ i < 6 ⌝ }
+    ensures { λ r. ⌜ r ≡ getD (sizes (l .n) (l .k) (l .c) (l .d)) i 0 ⌝ }
+{
+    let sizes = [l.n, l.k, l.k, l.k + 1, l.c, label_count(l.k, l.d)];
+    sizes[i]
+}
+
+// Section i: from its offset to the next one, the last to the total length.
+pub fn section(index: &[u8], l: Layout, i: usize) -> &[u8]
+    requires { ⌜ Laid (now index) l ⌝ }
+    requires { ⌜ i < 6 ⌝ }
+    ensures { λ r. ⌜ Section (now (index .entry)) l i (now r) ⌝ }
+{
+    let from = offset(l, i);
+    let to = offset(l, i + 1);
     &index[from..to]
 }
 

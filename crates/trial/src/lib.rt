@@ -3,6 +3,7 @@
 use ask::Asked;
 use ask_all::Batched;
 use build::Built;
+use convert::Converted;
 use list::Listed;
 use open::Opened;
 use text_run::MOST_OUTPUT;
@@ -168,6 +169,36 @@ pub extern "C" fn trial_build(
             count: 0,
         },
     }
+}
+
+fn converted_of(r: Converted) -> Counted {
+    match r {
+        Converted::Total(count) => Counted {
+            refusal: 0,
+            extra: 0,
+            count,
+        },
+        Converted::Refused { number, extra } => Counted {
+            refusal: number,
+            extra,
+            count: 0,
+        },
+    }
+}
+
+#[no_mangle]
+pub extern "C" fn trial_convert_up(index: &[u8], marks: &mut [u8], out: &mut [u8]) -> Counted {
+    converted_of(convert::convert_up(index, marks, out))
+}
+
+#[no_mangle]
+pub extern "C" fn trial_convert_down(
+    index: &[u8],
+    marks: &mut [u8],
+    work: &mut [u32],
+    out: &mut [u8],
+) -> Counted {
+    converted_of(convert::convert_down(index, marks, work, out))
 }
 
 #[no_mangle]

@@ -2,6 +2,7 @@
 
 mod chance;
 mod commands;
+mod converting;
 mod given;
 mod labels;
 mod listing;
