@@ -201,7 +201,8 @@ static void monday(Where w, Case &c) {
     Bytes marks(w.n);
     Numbers sources, targets, answers(6 * pairs.size()), theirs(6 * pairs.size());
     for (auto [u, v] : pairs) sources.push_back(u), targets.push_back(v);
-    auto ours = [&] {
+    auto ours = [&] { // the marks are 0 before, as the check would leave them
+        memset(marks.data(), 0, w.n);
         sink = unchecked_ask_all(c.index.data(), c.index.size(), marks.data(), w.n, sources.data(), sources.size(), targets.data(), targets.size(), answers.data(),
                                  answers.size()).count;
     };

@@ -198,7 +198,11 @@ static void list(Where w, Region &r) {
     auto next = [&] { return vertices[turn++ % 16]; };
     auto ours = [&] { sink = trial_list(r.index.data(), r.index.size(), r.marks.data(), w.n, r.words.data(), r.words.size(), out.data(), w.n, next()).count; };
     auto check = [&] { sink = Index(r.index.data()).sound(scratch) ? r.grail.list(next(), theirs.data()) : 0; };
-    auto alone = [&] { sink = unchecked_list(r.index.data(), r.index.size(), r.marks.data(), w.n, r.words.data(), r.words.size(), out.data(), w.n, next()).count; };
+    auto listed = [&](uint32_t vertex) {
+        memset(r.marks.data(), 0, w.n); // as the check would leave them
+        return unchecked_list(r.index.data(), r.index.size(), r.marks.data(), w.n, r.words.data(), r.words.size(), out.data(), w.n, vertex);
+    };
+    auto alone = [&] { sink = listed(next()).count; };
     auto grail = [&] { sink = r.grail.list(next(), theirs.data()); };
     w.measure = "list", w.pairs = "checked";
     measure(w, 1, {{"ours", ours}, {"check", check}});
@@ -206,7 +210,7 @@ static void list(Where w, Region &r) {
     measure(w, 1, {{"ours", alone}, {"grail", grail}});
     for (uint32_t i = 0; i < 16; i++) {
         out.assign(w.n, 7), theirs.assign(w.n, 7);
-        counted a = unchecked_list(r.index.data(), r.index.size(), r.marks.data(), w.n, r.words.data(), r.words.size(), out.data(), w.n, vertices[i]);
+        counted a = listed(vertices[i]);
         must(a.refusal == 0 && a.count == r.grail.list(vertices[i], theirs.data()), "GRAIL lists more or fewer");
         must(std::equal(out.begin(), out.begin() + a.count, theirs.begin()), "GRAIL lists others");
     }
@@ -222,6 +226,7 @@ static void monday(Where w, Region &r) {
     Numbers sources(all.sources.begin(), all.sources.begin() + count), targets(all.targets.begin(), all.targets.begin() + count), theirs(6 * count);
     answers.resize(6 * count);
     auto ours = [&](size_t pairs) {
+        memset(r.marks.data(), 0, w.n); // as the check would leave them
         drobisten_asked_all a = unchecked_ask_all(r.index.data(), r.index.size(), r.marks.data(), w.n, r.words.data(), r.words.size(), sources.data(), pairs, targets.data(),
                                                   pairs, answers.data(), 6 * pairs);
         must(a.refusal == 0, "pairs are refused");

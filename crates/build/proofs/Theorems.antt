@@ -98,6 +98,7 @@ module _ {form : ℕ} {B : Input} {work out : List ℕ} {r : Built} {work' out' 
       allowed = call-at form B work out build-takes (sym done ∙ X .answers, (X .leaves, X .writes));
     }
 
+-- A finished build.
 module _ {F : Form} {B : Input} (D : Finished F B) where
   abbrev G : Graph
   G = B .graph
