@@ -1,6 +1,6 @@
 -- The three demands on the calls, proved. specs/ says what each is; what follows is the laws of this crate and of those below, cited.
 use mathlib.Core.Path.{sym}
-use Rattle.lineage.specs.Calls.{buildCall, openAnswer, askAnswer, listAnswer}
+use Rattle.lineage.specs.Calls.{buildAnswer, buildCall, openAnswer, askAnswer, listAnswer}
 use Rattle.build.proofs.build as build-call
 use Rattle.build.proofs.Theorems.{built-once, build-finishes}
 use Rattle.open.proofs.open as open-call
@@ -15,6 +15,11 @@ use Rattle.ask_all.proofs.ask_all_form1 as ask-all-form1-call
 use Rattle.ask_all.proofs.Theorems.{batch-once}
 use Rattle.list.proofs.list as list-call
 use Rattle.list.proofs.Theorems.{listed-once}
+use Rattle.turned.proofs.build_turned as build-turned-call
+use Rattle.turned.proofs.open_turned as open-turned-call
+use Rattle.turned.proofs.ask_turned as ask-turned-call
+use Rattle.turned.proofs.list_turned as list-turned-call
+use Rattle.turned.proofs.Theorems.{turned-once, finished-turned}
 use Rattle.text_run.proofs.run as run-call
 use Rattle.text_run.proofs.Theorems.{ran-once}
 use Rattle.drobisten.proofs.drobisten_open as host-open-call
@@ -26,13 +31,13 @@ use Rattle.demands.specs.Stored.{AsGrail}
 use Rattle.demands.specs.Orders.{MoreOrders}
 use Rattle.demands.proofs.Refusals.{first-refusal}
 use Rattle.demands.proofs.Words.{open-no-words, ask-no-words, batch-no-words}
-use Rattle.demands.proofs.Stored.{build-stored}
+use Rattle.demands.proofs.Stored.{build-stored, finished-stored}
 use Rattle.demands.proofs.Opened.{opened-yields, yielded-stored, opened-answers, asked-path, host-path}
 use Rattle.demands.proofs.Orders.{fewer, on-a-no}
 
 -- 1. The checker's theorem of each call is cited; what the contract says is, equation by equation, what is allowed.
 pub demand-1 : EveryCall
-unfolding buildCall openAnswer askAnswer batchAnswer listAnswer
+unfolding buildAnswer buildCall openAnswer askAnswer batchAnswer listAnswer
 demand-1 = record {
   build = record {
     met = build-call.Met.met;
@@ -82,6 +87,30 @@ demand-1 = record {
     allows = λ κs a r e (answers, (leaves, (clears, writes))). record { answers = answers; leaves = leaves; clears = clears; writes = writes };
     once = λ κs a r r' e e'. listed-once;
   };
+  build-turned = record {
+    met = build-turned-call.Met.met;
+    nothing-asked = λ κs a. tt;
+    allows = λ κs a r e (answers, (leaves, writes)). record { answers = answers; leaves = leaves; writes = writes };
+    once = λ κs a r r' e e'. turned-once;
+  };
+  opens-turned = record {
+    met = open-turned-call.Met.met;
+    nothing-asked = λ κs a. tt;
+    allows = λ κs a r e (answers, (leaves, clears)). record { answers = answers; leaves = leaves; clears = clears };
+    once = λ κs a r r' e e'. opened-once;
+  };
+  ask-turned = record {
+    met = ask-turned-call.Met.met;
+    nothing-asked = λ κs a. tt;
+    allows = λ κs a r e (answers, (leaves, clears)). record { answers = answers; leaves = leaves; clears = clears };
+    once = λ κs a r r' e e'. asked-once;
+  };
+  list-turned = record {
+    met = list-turned-call.Met.met;
+    nothing-asked = λ κs a. tt;
+    allows = λ κs a r e (answers, (leaves, (clears, writes))). record { answers = answers; leaves = leaves; clears = clears; writes = writes };
+    once = λ κs a r r' e e'. listed-once;
+  };
   run = record {
     met = run-call.Met.met;
     nothing-asked = λ κs a. tt;
@@ -107,6 +136,7 @@ demand-1 = record {
     once = λ κs a r r' e e'. face.asked-all-once;
   };
   build-refuses = λ form B work out number extra. first-refusal _ number extra _;
+  build-turned-refuses = λ B work out number extra. first-refusal _ number extra _;
   open-refuses = λ T b marks work number extra. first-refusal _ number extra _;
   ask-refuses = λ T b u v marks work number extra. first-refusal _ number extra _;
   ask-all-refuses = λ T b sources targets marks work answers number extra. first-refusal _ number extra _;
@@ -118,6 +148,7 @@ pub demand-2 : AsGrail
 demand-2 = record {
   finishes = build-finishes;
   built = build-stored;
+  built-turned = λ X done. finished-stored (finished-turned X done);
   opened = opened-yields;
   yielded = yielded-stored;
   answers = opened-answers;
