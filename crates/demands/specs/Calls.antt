@@ -26,7 +26,7 @@ use Rattle.ask_all.proofs.ask_all as ask-all-call
 use Rattle.ask_all.proofs.ask_all_form1 as ask-all-form1-call
 use Rattle.ask_all.proofs.Theorems as asking-all
 use Rattle.list.proofs.list as list-call
-use Rattle.list.specs.Listed as list
+use Rattle.list.specs.Listed as listing
 use Rattle.turned.proofs.build_turned as build-turned-call
 use Rattle.turned.proofs.open_turned as open-turned-call
 use Rattle.turned.proofs.ask_turned as ask-turned-call
@@ -95,7 +95,7 @@ pub record EveryCall : Type 2 where
       (λ κs (_, (_, (_, (marks, (answers, _))))) (_, (_, (_, (marks', (answers', _))))). (now marks ≡ now marks') × (now answers ≡ now answers'))
   pub list : Answers list-call.Kinds.ps list-call.Kinds.r list-call.Statement.statement list-call.Reads.Asked list-call.Reads.Learnt
       (λ κs (index, (vertex, (marks, (work, (out, _))))) r (_, (_, (marks', (work', (out', _))))).
-      list.Allowed ordinary (now index) vertex (now marks) (now work) (now out) r (now marks') (now work') (now out'))
+      listing.Allowed ordinary (now index) vertex (now marks) (now work) (now out) r (now marks') (now work') (now out'))
       (λ κs (_, (_, (marks, (work, (out, _))))) (_, (_, (marks', (work', (out', _))))).
       (now marks ≡ now marks') × ((now work ≡ now work') × (now out ≡ now out')))
   -- the calls on a turned index
@@ -116,7 +116,7 @@ pub record EveryCall : Type 2 where
   pub list-turned : Answers list-turned-call.Kinds.ps list-turned-call.Kinds.r list-turned-call.Statement.statement list-turned-call.Reads.Asked
       list-turned-call.Reads.Learnt
       (λ κs (index, (vertex, (marks, (work, (out, _))))) r (_, (_, (marks', (work', (out', _))))).
-      list.Allowed turned (now index) vertex (now marks) (now work) (now out) r (now marks') (now work') (now out'))
+      listing.Allowed turned (now index) vertex (now marks) (now work) (now out) r (now marks') (now work') (now out'))
       (λ κs (_, (_, (marks, (work, (out, _))))) (_, (_, (marks', (work', (out', _))))).
       (now marks ≡ now marks') × ((now work ≡ now work') × (now out ≡ now out')))
   -- the text program's run
