@@ -10,7 +10,7 @@
 #include <sys/mman.h>
 #include <unistd.h>
 
-/* the calls that take stored forms 1 and 2, list, build and the text program's run are exported for these tests alone (crate trial); where one is not linked, a request
+/* the calls that take stored forms 1 and 2, those on a turned index, list, build and the text program's run are exported for these tests alone (crate trial); where one is not linked, a request
  * for it ends this process */
 typedef struct { uint32_t refusal, extra, count; } counted;
 
@@ -25,6 +25,14 @@ __attribute__((weak)) counted trial_list(const uint8_t *index, size_t index_len,
 __attribute__((weak)) counted trial_build(const uint32_t *sources, size_t sources_len, const uint32_t *targets, size_t targets_len,
                                           const uint32_t *orders, size_t orders_len, uint32_t *work, size_t work_len, uint8_t *out, size_t out_len,
                                           uint32_t form, uint32_t n, uint32_t d);
+__attribute__((weak)) drobisten_opened trial_open_turned(const uint8_t *index, size_t index_len, uint8_t *marks, size_t marks_len, uint32_t *work, size_t work_len);
+__attribute__((weak)) drobisten_asked trial_ask_turned(const uint8_t *index, size_t index_len, uint8_t *marks, size_t marks_len, uint32_t *work, size_t work_len,
+                                                       uint32_t source, uint32_t target);
+__attribute__((weak)) counted trial_list_turned(const uint8_t *index, size_t index_len, uint8_t *marks, size_t marks_len, uint32_t *work, size_t work_len,
+                                                uint32_t *out, size_t out_len, uint32_t vertex);
+__attribute__((weak)) counted trial_build_turned(const uint32_t *sources, size_t sources_len, const uint32_t *targets, size_t targets_len,
+                                                 const uint32_t *orders, size_t orders_len, uint32_t *work, size_t work_len, uint8_t *out, size_t out_len,
+                                                 uint32_t n, uint32_t d);
 __attribute__((weak)) counted trial_convert_up(const uint8_t *index, size_t index_len, uint8_t *marks, size_t marks_len, uint8_t *out, size_t out_len);
 __attribute__((weak)) counted trial_convert_down(const uint8_t *index, size_t index_len, uint8_t *marks, size_t marks_len, uint32_t *work, size_t work_len, uint8_t *out,
                                                  size_t out_len);
@@ -34,9 +42,9 @@ __attribute__((weak)) size_t trial_run(const uint8_t *text, size_t text_len, uin
 _Static_assert(sizeof(drobisten_opened) == 24, "drobisten_opened is 24 bytes");
 _Static_assert(sizeof(drobisten_asked) == 24 && offsetof(drobisten_asked, labelling) == 20, "drobisten_asked is 24 bytes, labelling its last four");
 
-/* what a request asks for, and of whom: the calls that Rattle code makes, or the C host's, which are lent no words */
+/* what a request asks for, and of whom: the calls that Rattle code makes, the C host's, which are lent no words, or those on a turned index */
 enum { OPEN = 1, ASK = 2, LIST = 3, BUILD = 4, ASK_MANY = 5, RUN = 6, ASK_ALL = 7, CONVERT_UP = 8, CONVERT_DOWN = 9 };
-enum { ORDINARY = 0, HOST = 1 };
+enum { ORDINARY = 0, HOST = 1, TURNED = 2 };
 
 /* the bytes that a run is lent for its output, and what they hold before it */
 enum { MOST_OUTPUT = 338582, PATTERN = 0xa5 };
@@ -112,14 +120,16 @@ typedef struct {
 static void *open_index(void *job) {
     asking *a = job;
     a->r.opened = a->face == HOST ? drobisten_open(a->index.at, a->index.length, a->marks.at, a->marks.length)
-                                  : trial_open(a->index.at, a->index.length, a->marks.at, a->marks.length, words(a->work), a->work.length);
+                                  : (a->face == TURNED ? trial_open_turned : trial_open)(a->index.at, a->index.length, a->marks.at, a->marks.length,
+                                                                                         words(a->work), a->work.length);
     return NULL;
 }
 
 static void *ask(void *job) {
     asking *a = job;
     a->r.asked = a->face == HOST ? drobisten_ask(a->index.at, a->index.length, a->marks.at, a->marks.length, a->source, a->target)
-                                 : trial_ask(a->index.at, a->index.length, a->marks.at, a->marks.length, words(a->work), a->work.length, a->source, a->target);
+                                 : (a->face == TURNED ? trial_ask_turned : trial_ask)(a->index.at, a->index.length, a->marks.at, a->marks.length,
+                                                                                      words(a->work), a->work.length, a->source, a->target);
     return NULL;
 }
 
@@ -134,7 +144,8 @@ static void *ask_all(void *job) {
 
 static void *list(void *job) {
     asking *a = job;
-    a->r.listed = trial_list(a->index.at, a->index.length, a->marks.at, a->marks.length, words(a->work), a->work.length, words(a->out), a->out.length, a->source);
+    a->r.listed = (a->face == TURNED ? trial_list_turned : trial_list)(a->index.at, a->index.length, a->marks.at, a->marks.length, words(a->work),
+                                                                       a->work.length, words(a->out), a->out.length, a->source);
     return NULL;
 }
 
@@ -229,8 +240,8 @@ static void serve_ask_all(uint32_t face, uint32_t stack) {
     give_back(a.out);
 }
 
-static void serve_list(uint32_t stack) {
-    asking a = {.face = ORDINARY};
+static void serve_list(uint32_t face, uint32_t stack) {
+    asking a = {.face = face};
     a.source = number();
     take_index(&a);
     a.out = buffer(4);
@@ -250,17 +261,21 @@ static void serve_convert(uint32_t stack, void *(*convert)(void *)) {
     give_back(a.out);
 }
 
-typedef struct { uint32_t form, n, d; lent sources, targets, orders, work, out; counted r; } building;
+typedef struct { uint32_t face, form, n, d; lent sources, targets, orders, work, out; counted r; } building;
 
 static void *build(void *job) {
     building *b = job;
-    b->r = trial_build(words(b->sources), b->sources.length, words(b->targets), b->targets.length, words(b->orders), b->orders.length, words(b->work), b->work.length,
-                       b->out.at, b->out.length, b->form, b->n, b->d);
+    b->r = b->face == TURNED ? trial_build_turned(words(b->sources), b->sources.length, words(b->targets), b->targets.length, words(b->orders), b->orders.length,
+                                                  words(b->work), b->work.length, b->out.at, b->out.length, b->n, b->d)
+                             : trial_build(words(b->sources), b->sources.length, words(b->targets), b->targets.length, words(b->orders), b->orders.length,
+                                           words(b->work), b->work.length, b->out.at, b->out.length, b->form, b->n, b->d);
     return NULL;
 }
 
-static void serve_build(uint32_t stack) {
+/* a turned build is told no form: the number that comes in its place is not looked at */
+static void serve_build(uint32_t face, uint32_t stack) {
     building b;
+    b.face = face;
     b.form = number();
     b.n = number();
     b.d = number();
@@ -290,17 +305,20 @@ static void serve_run(void) {
     done(out);
 }
 
+/* whether the call is linked that this face makes */
+static int linked(uint32_t face, int ordinary, int host, int turned) { return face == HOST ? host : face == TURNED ? turned : ordinary; }
+
 int main(void) {
     uint32_t call;
     while (fread(&call, 4, 1, stdin) == 1) {
         uint32_t face = number(), stack = number();
         switch (call) {
-        case OPEN: if (face != HOST && !trial_open) return 5; serve_open(face, stack); break;
-        case ASK: if (face != HOST && !trial_ask) return 5; serve_ask(face, stack); break;
-        case ASK_MANY: if (face != HOST && !trial_ask) return 5; serve_ask_many(face); break;
-        case ASK_ALL: if (face != HOST && !trial_ask_all) return 5; serve_ask_all(face, stack); break;
-        case LIST: if (!trial_list) return 5; serve_list(stack); break;
-        case BUILD: if (!trial_build) return 5; serve_build(stack); break;
+        case OPEN: if (!linked(face, trial_open != NULL, 1, trial_open_turned != NULL)) return 5; serve_open(face, stack); break;
+        case ASK: if (!linked(face, trial_ask != NULL, 1, trial_ask_turned != NULL)) return 5; serve_ask(face, stack); break;
+        case ASK_MANY: if (!linked(face, trial_ask != NULL, 1, trial_ask_turned != NULL)) return 5; serve_ask_many(face); break;
+        case ASK_ALL: if (!linked(face, trial_ask_all != NULL, 1, 0)) return 5; serve_ask_all(face, stack); break;
+        case LIST: if (!linked(face, trial_list != NULL, 0, trial_list_turned != NULL)) return 5; serve_list(face, stack); break;
+        case BUILD: if (!linked(face, trial_build != NULL, 0, trial_build_turned != NULL)) return 5; serve_build(face, stack); break;
         case CONVERT_UP: if (!trial_convert_up) return 5; serve_convert(stack, convert_up); break;
         case CONVERT_DOWN: if (!trial_convert_down) return 5; serve_convert(stack, convert_down); break;
         case RUN: if (!trial_run) return 5; serve_run(); break;

@@ -1,5 +1,6 @@
 //! The four calls with the refusals of the documents, in their order, and what each leaves in lent memory. They take the
-//! stored forms 1 and 2; [`crate::host`] has those of the C host, which takes form 1 alone.
+//! stored forms 1 and 2; [`crate::host`] has those of the C host, which takes form 1 alone, [`crate::turned`] those on a turned
+//! index.
 
 use crate::bounds::{work_words, MOST_LABELLINGS};
 use crate::form::{Form, ORDINARY};
@@ -27,6 +28,21 @@ pub fn build(
     let Some(form) = Form::among(&ORDINARY, form) else {
         return refuse(11, form as usize);
     };
+    build_as(&form, n, sources, targets, orders, d, work, out)
+}
+
+/// `build` in this form, by its bounds.
+#[allow(clippy::too_many_arguments)]
+pub(crate) fn build_as(
+    form: &Form,
+    n: u32,
+    sources: &[u32],
+    targets: &[u32],
+    orders: &[u32],
+    d: u32,
+    work: &mut [u32],
+    out: &mut [u8],
+) -> Result<u32, Refusal> {
     let (vertices, labellings) = (n as usize, d as usize);
     if vertices > form.most_vertices {
         return refuse(1, 0);
@@ -62,7 +78,7 @@ pub fn build(
         return refuse(8, order);
     }
     let graph = Graph::from_lists(n, sources, targets);
-    let bytes = encode(&form, &Index::of(&graph, &orders));
+    let bytes = encode(form, &Index::of(&graph, &orders));
     if out.len() < bytes.len() {
         return refuse(9, bytes.len());
     }
@@ -85,17 +101,7 @@ pub fn ask(index: &[u8], source: u32, target: u32, marks: &mut [u8], words: &mut
 /// Writes the downstream list of a vertex to `out` and returns its count. Marks below n and the words needed are 0
 /// afterwards, after refusals 15 and 16 too; refusals 10 to 14 and 6 alter nothing.
 pub fn list(index: &[u8], vertex: u32, marks: &mut [u8], words: &mut [u32], out: &mut [u32]) -> Result<u32, Refusal> {
-    let held = Held::of(&ORDINARY, index, marks, words)?;
-    let vertex = vertex_in_range(held.counts.n, vertex, 0)?;
-    let index = held.sound_or_refused(index, marks, words)?;
-    let downstream = index.downstream(vertex);
-    if out.len() < downstream.len() {
-        return refuse(16, downstream.len());
-    }
-    for (slot, &v) in out.iter_mut().zip(&downstream) {
-        *slot = v as u32;
-    }
-    Ok(downstream.len() as u32)
+    list_taking(&ORDINARY, index, vertex, marks, words, out)
 }
 
 /// `open` of these forms.
@@ -127,6 +133,28 @@ pub(crate) fn ask_taking(
         marks[name] = 1;
     }
     Ok(asked.answer)
+}
+
+/// `list` of these forms.
+pub(crate) fn list_taking(
+    taken: &[Form],
+    index: &[u8],
+    vertex: u32,
+    marks: &mut [u8],
+    words: &mut [u32],
+    out: &mut [u32],
+) -> Result<u32, Refusal> {
+    let held = Held::of(taken, index, marks, words)?;
+    let vertex = vertex_in_range(held.counts.n, vertex, 0)?;
+    let index = held.sound_or_refused(index, marks, words)?;
+    let downstream = index.downstream(vertex);
+    if out.len() < downstream.len() {
+        return refuse(16, downstream.len());
+    }
+    for (slot, &v) in out.iter_mut().zip(&downstream) {
+        *slot = v as u32;
+    }
+    Ok(downstream.len() as u32)
 }
 
 /// Refusal 14 of a question, source first; otherwise the two vertices.

@@ -2,7 +2,7 @@
 //! the same things on every machine, so a failure that is reported with its seed can be seen again.
 
 use crate::bounds::{HEADER_BYTES, MOST_LABELLINGS};
-use crate::form::{Form, FORM_1, ORDINARY};
+use crate::form::{Form, FORMS, FORM_1, ORDINARY};
 use crate::graph::Graph;
 use crate::stored::{decode, encode, little_endian, Counts};
 
@@ -364,7 +364,7 @@ impl Chance {
     }
 
     fn swap_ranks(&mut self, bytes: &mut [u8]) {
-        let Ok((_, counts)) = Counts::read(bytes, &ORDINARY) else {
+        let Ok((_, counts)) = Counts::read(bytes, &FORMS) else {
             return;
         };
         if counts.k == 0 {
@@ -408,7 +408,7 @@ impl Chance {
     }
 
     fn other_child(&mut self, image: &[u8], added: bool) -> Vec<u8> {
-        let Ok((form, counts)) = Counts::read(image, &ORDINARY) else {
+        let Ok((form, counts)) = Counts::read(image, &FORMS) else {
             return image.to_vec();
         };
         let Some(mut index) = decode(image, &form, &counts) else {
@@ -433,7 +433,7 @@ impl Chance {
 /// The form that bytes say they are of; form 1 if there is none such.
 fn form_of(bytes: &[u8]) -> Form {
     let number = bytes.get(..4).map_or(0, little_endian);
-    Form::among(&ORDINARY, number as u32).unwrap_or(FORM_1)
+    Form::among(&FORMS, number as u32).unwrap_or(FORM_1)
 }
 
 /// The numbers behind the header, by their position, each of the width that the bytes' form has.

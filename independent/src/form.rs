@@ -36,11 +36,20 @@ pub const FORM_2: Form = Form {
     lends_words: true,
 };
 
+/// Request [13], "What feeds this rule?": form 2 but for its number.
+pub const FORM_3: Form = Form { number: 3, ..FORM_2 };
+
 /// The forms that build, open, ask, list and the call for all pairs take.
 pub const ORDINARY: [Form; 2] = [FORM_1, FORM_2];
 
+/// The form that the calls on a turned index take.
+pub const TURNED: [Form; 1] = [FORM_3];
+
 /// The form that the C host takes.
 pub const HOST: [Form; 1] = [FORM_1];
+
+/// All forms that there are.
+pub const FORMS: [Form; 3] = [FORM_1, FORM_2, FORM_3];
 
 impl Form {
     /// The form of this number among those that a call takes.

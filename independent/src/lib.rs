@@ -5,7 +5,7 @@
 //! stored bytes follow the words; soundness is decided by making the index again and comparing bytes.
 //!
 //! The data's way is the reading order: [`graph`], [`closure`], [`groups`], [`labels`], [`index`], [`form`], [`stored`],
-//! [`sound`] with [`every`] beside it, [`question`], [`calls`], [`batch`], [`convert`], [`host`], [`text`]. [`chance`] makes graphs,
+//! [`sound`] with [`every`] beside it, [`question`], [`calls`], [`batch`], [`convert`], [`turned`], [`host`], [`text`]. [`chance`] makes graphs,
 //! orders and damage for comparisons.
 
 pub mod batch;
@@ -26,14 +26,16 @@ pub mod refusal;
 pub mod sound;
 pub mod stored;
 pub mod text;
+pub mod turned;
 
 pub use batch::ask_all;
 pub use calls::{ask, build, list, open};
 pub use convert::{convert_down, convert_up};
-pub use form::{Form, FORM_1, FORM_2, ORDINARY};
+pub use form::{Form, FORMS, FORM_1, FORM_2, FORM_3, ORDINARY};
 pub use graph::Graph;
 pub use index::Index;
 pub use question::Answer;
 pub use refusal::Refusal;
 pub use stored::Counts;
 pub use text::run_text;
+pub use turned::{ask_turned, build_turned, list_turned, open_turned};

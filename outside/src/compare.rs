@@ -1,5 +1,6 @@
 //! One call made twice, of the library and of the independent program, on the same input and equal buffers: outcomes and buffers must be equal. Buffers
-//! are lent with a pattern in them and a few elements behind what the call may touch. Calls that the C host has too are made of both faces.
+//! are lent with a pattern in them and a few elements behind what the call may touch. Calls that the C host has too are made of both faces;
+//! those on a turned index are made where they are asked for.
 
 use crate::{Face, Library, Outcome, FACES};
 use independent::batch::{six, NUMBERS};
@@ -9,7 +10,7 @@ use independent::chance::Chance;
 use independent::closure::Closure;
 use independent::graph::flat;
 use independent::stored::{encode, little_endian};
-use independent::{Answer, Counts, Form, Graph, Index, FORM_1, ORDINARY};
+use independent::{Answer, Counts, Form, Graph, Index, FORMS, FORM_1, ORDINARY};
 
 /// What bytes, the words lent with an index, and lists hold before a call.
 const PATTERN: u8 = 0xa5;
@@ -27,7 +28,7 @@ impl Lent {
     /// As many as this index needs. Where the header is refused no number is too small; marks are then as many as it says, if so many can be lent.
     pub fn needed(index: &[u8]) -> Lent {
         let says = index.get(4..8).map_or(0, little_endian);
-        match Counts::read(index, &ORDINARY) {
+        match Counts::read(index, &FORMS) {
             Ok((form, counts)) => Lent { marks: counts.n, words: form.words_needed(&counts) },
             Err(_) => Lent { marks: if says <= 300_000 { says } else { 5_000 }, words: 3 },
         }
@@ -75,16 +76,18 @@ fn number<T>(outcome: Outcome<T>) -> u32 {
 
 /// The number of the ordinary call's refusal, 0 where there is none.
 pub fn open(library: &mut Library, index: &[u8], lent: Lent) -> u32 {
-    let refusals = FACES.map(|face| {
-        let (mut ours, mut theirs) = (lent.buffers(face), lent.buffers(face));
-        let got = library.open(face, index, &mut ours.marks, &mut ours.words);
-        let expected = face.open(index, &mut theirs.marks, &mut theirs.words);
-        let what = format!("open by {face:?} of {} bytes with {lent:?}: {expected:?}", index.len());
-        assert_eq!(got, expected, "{what}");
-        ours.agree(&theirs, &what);
-        number(got)
-    });
-    refusals[0]
+    FACES.map(|face| open_by(library, face, index, lent))[0]
+}
+
+/// The same of one face.
+pub fn open_by(library: &mut Library, face: Face, index: &[u8], lent: Lent) -> u32 {
+    let (mut ours, mut theirs) = (lent.buffers(face), lent.buffers(face));
+    let got = library.open(face, index, &mut ours.marks, &mut ours.words);
+    let expected = face.open(index, &mut theirs.marks, &mut theirs.words);
+    let what = format!("open by {face:?} of {} bytes with {lent:?}: {expected:?}", index.len());
+    assert_eq!(got, expected, "{what}");
+    ours.agree(&theirs, &what);
+    number(got)
 }
 
 /// Open with marks and words as many as the header asks for, fewer and more.
@@ -96,16 +99,18 @@ pub fn open_around(library: &mut Library, index: &[u8]) {
 
 /// One question: the number of the ordinary call's refusal, 0 where there is none.
 pub fn ask(library: &mut Library, index: &[u8], source: u32, target: u32, lent: Lent) -> u32 {
-    let refusals = FACES.map(|face| {
-        let (mut ours, mut theirs) = (lent.buffers(face), lent.buffers(face));
-        let got = library.ask(face, index, source, target, &mut ours.marks, &mut ours.words);
-        let expected = face.ask(index, source, target, &mut theirs.marks, &mut theirs.words);
-        let what = format!("{source} to {target} by {face:?} of {} bytes with {lent:?}: {expected:?}", index.len());
-        assert_eq!(got, expected, "{what}");
-        ours.agree(&theirs, &what);
-        number(got)
-    });
-    refusals[0]
+    FACES.map(|face| ask_by(library, face, index, source, target, lent))[0]
+}
+
+/// The same of one face.
+pub fn ask_by(library: &mut Library, face: Face, index: &[u8], source: u32, target: u32, lent: Lent) -> u32 {
+    let (mut ours, mut theirs) = (lent.buffers(face), lent.buffers(face));
+    let got = library.ask(face, index, source, target, &mut ours.marks, &mut ours.words);
+    let expected = face.ask(index, source, target, &mut theirs.marks, &mut theirs.words);
+    let what = format!("{source} to {target} by {face:?} of {} bytes with {lent:?}: {expected:?}", index.len());
+    assert_eq!(got, expected, "{what}");
+    ours.agree(&theirs, &what);
+    number(got)
 }
 
 /// Every question of `pairs`, of bytes that open and of bytes that do not.
@@ -126,16 +131,21 @@ pub fn stored(index: &Index) -> Vec<(Vec<u8>, Face)> {
 /// Questions of an index that the independent program has made and need not judge each time, in both forms and by each face: answers by its own walk, yes and no by plain
 /// closure, the same in all.
 pub fn ask_made(library: &mut Library, graph: &Graph, index: &Index, pairs: &[(u32, u32)]) -> Vec<Answer> {
+    ask_stored(library, graph, index, &stored(index), pairs)
+}
+
+/// The same of these bytes of it, by these faces.
+pub fn ask_stored(library: &mut Library, graph: &Graph, index: &Index, stored: &[(Vec<u8>, Face)], pairs: &[(u32, u32)]) -> Vec<Answer> {
     let closure = Closure::of(graph);
     let asked: Vec<_> = pairs.iter().map(|&(u, v)| index.question(u as usize, v as usize)).collect();
     for (&(u, v), asked) in pairs.iter().zip(&asked) {
         assert_eq!(asked.answer.yes, closure.reaches(u as usize, v as usize), "{u} to {v}: yes exactly when a path exists");
     }
     let n = graph.n;
-    for (image, face) in stored(index) {
-        let needed = Lent::needed(&image);
-        let before = needed.more(3, 2).buffers(face);
-        let replies = library.ask_many(face, &image, &before.marks, &before.words, pairs);
+    for (image, face) in stored {
+        let needed = Lent::needed(image);
+        let before = needed.more(3, 2).buffers(*face);
+        let replies = library.ask_many(*face, image, &before.marks, &before.words, pairs);
         for ((&(u, v), asked), got) in pairs.iter().zip(&asked).zip(replies) {
             let what = format!("{u} to {v} by {face:?} of {} bytes", image.len());
             assert_eq!(got.said.expect("a question in range of a sound index is answered"), asked.answer, "{what}");
@@ -150,12 +160,12 @@ pub fn ask_made(library: &mut Library, graph: &Graph, index: &Index, pairs: &[(u
 }
 
 /// The downstream list into a list of this size: the number of the refusal, 0 where there is none.
-pub fn list(library: &mut Library, index: &[u8], vertex: u32, lent: Lent, size: usize) -> u32 {
-    let (mut ours, mut theirs) = (lent.buffers(Face::Ordinary), lent.buffers(Face::Ordinary));
+pub fn list(library: &mut Library, face: Face, index: &[u8], vertex: u32, lent: Lent, size: usize) -> u32 {
+    let (mut ours, mut theirs) = (lent.buffers(face), lent.buffers(face));
     let (mut got, mut expected) = (vec![BLANK; size], vec![BLANK; size]);
-    let result = library.list(index, vertex, &mut ours.marks, &mut ours.words, &mut got);
-    let right = independent::list(index, vertex, &mut theirs.marks, &mut theirs.words, &mut expected);
-    let what = format!("the list of {vertex} of {} bytes with {lent:?} into {size}: {right:?}", index.len());
+    let result = library.list(face, index, vertex, &mut ours.marks, &mut ours.words, &mut got);
+    let right = face.list(index, vertex, &mut theirs.marks, &mut theirs.words, &mut expected);
+    let what = format!("the list of {vertex} by {face:?} of {} bytes with {lent:?} into {size}: {right:?}", index.len());
     assert_eq!(result, right, "{what}");
     assert!(got == expected, "{what}: first difference at {:?}", first_difference(&got, &expected));
     ours.agree(&theirs, &what);
@@ -230,13 +240,13 @@ pub fn one_by_one(library: &mut Library, index: &Index, pairs: &[(u32, u32)]) {
 }
 
 /// The downstream list into a list that is longer than needed, exact, and one too short; with marks and words that are longer than needed, and exact.
-pub fn list_around(library: &mut Library, index: &[u8], vertex: u32) {
+pub fn list_around(library: &mut Library, face: Face, index: &[u8], vertex: u32) {
     let lent = Lent::needed(index);
-    let room = lent.more(3, 1).buffers(Face::Ordinary);
+    let room = lent.more(3, 1).buffers(face);
     let (mut marks, mut words, mut out) = (room.marks, room.words, vec![0; lent.marks]);
-    let needed = independent::list(index, vertex, &mut marks, &mut words, &mut out).unwrap_or(0) as usize;
+    let needed = face.list(index, vertex, &mut marks, &mut words, &mut out).unwrap_or(0) as usize;
     for (lent, size) in [(lent.more(3, 1), needed + 2), (lent, needed), (lent.more(3, 2), needed.saturating_sub(1))] {
-        list(library, index, vertex, lent, size);
+        list(library, face, index, vertex, lent, size);
     }
 }
 
@@ -262,7 +272,7 @@ pub fn calls(library: &mut Library, index: &[u8], vertex: u32, lent: Lent) -> [u
     [
         open(library, index, lent),
         ask(library, index, 0, vertex, lent),
-        list(library, index, vertex, lent, 5),
+        list(library, Face::Ordinary, index, vertex, lent, 5),
         ask_all(library, index, &[0, vertex], &[vertex, 0], lent, 2 * NUMBERS),
     ]
 }
@@ -291,19 +301,19 @@ impl Input {
     /// An output as large as any that a build of these can need.
     pub fn room(&self) -> usize {
         let (n, c, d) = (self.n as usize, self.sources.len(), self.d.min(5) as usize);
-        let form = Form::among(&ORDINARY, self.form).unwrap_or(FORM_1);
+        let form = Form::among(&FORMS, self.form).unwrap_or(FORM_1);
         form.total_length(&Counts { n, k: n, c, d })
     }
 }
 
 /// A build into memory of these sizes: the number of its refusal, 0 where there is none.
-pub fn build(library: &mut Library, input: &Input, work: usize, out: usize) -> u32 {
+pub fn build(library: &mut Library, face: Face, input: &Input, work: usize, out: usize) -> u32 {
     let (mut our_work, mut their_work) = (vec![WORD; work], vec![WORD; work]);
     let (mut our_out, mut their_out) = (vec![PATTERN; out], vec![PATTERN; out]);
-    let Input { form, n, sources, targets, orders, d } = input;
-    let got = library.build(input, &mut our_work, &mut our_out);
-    let expected = independent::build(*form, *n, sources, targets, orders, *d, &mut their_work, &mut their_out);
-    let what = format!("build in form {form} of {n} vertices, {} edges, d = {d}, work {work}, out {out}: {expected:?}", sources.len());
+    let Input { form, n, sources, d, .. } = input;
+    let got = library.build(face, input, &mut our_work, &mut our_out);
+    let expected = face.build(input, &mut their_work, &mut their_out);
+    let what = format!("build by {face:?} in form {form} of {n} vertices, {} edges, d = {d}, work {work}, out {out}: {expected:?}", sources.len());
     assert_eq!(got, expected, "{what}");
     assert!(our_out == their_out, "the output of {what}: first difference at {:?}", first_difference(&our_out, &their_out));
     assert!(our_work == their_work, "the work memory after {what}: first difference at {:?}", first_difference(&our_work, &their_work));
@@ -311,13 +321,12 @@ pub fn build(library: &mut Library, input: &Input, work: usize, out: usize) -> u
 }
 
 /// A build into exact memory, into more, and into one element less of either.
-pub fn build_around(library: &mut Library, input: &Input) {
+pub fn build_around(library: &mut Library, face: Face, input: &Input) {
     let work = input.work_needed();
     let mut room = vec![0; input.room()];
-    let Input { form, n, sources, targets, orders, d } = input;
-    let total = independent::build(*form, *n, sources, targets, orders, *d, &mut vec![0; work], &mut room).unwrap_or(0) as usize;
+    let total = face.build(input, &mut vec![0; work], &mut room).unwrap_or(0) as usize;
     for (work, out) in [(work, total), (work + 5, total + 5), (work - 1, total), (work, total.saturating_sub(1))] {
-        build(library, input, work, out);
+        build(library, face, input, work, out);
     }
 }
 

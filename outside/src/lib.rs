@@ -22,13 +22,16 @@ pub struct Library {
 /// What a call returned: the numbers of its answer, or its refusal.
 pub type Outcome<T> = Result<T, Refusal>;
 
-/// Who a call on stored bytes is made of: the calls that Rattle code makes, which take forms 1 and 2, or the C host's, which take form 1 and are lent no words.
+/// Who a call is made of: the calls that Rattle code makes, which take forms 1 and 2, the C host's, which take form 1 and are lent no words, or those on a turned index,
+/// which take form 3. The host has no list and no build, and there is no call for all pairs on a turned index.
 #[derive(Clone, Copy, Debug, PartialEq, Eq)]
 pub enum Face {
     Ordinary,
     Host,
+    Turned,
 }
 
+/// Those that take ordinary indexes.
 pub const FACES: [Face; 2] = [Face::Ordinary, Face::Host];
 
 /// What the independent program does in its place.
@@ -37,6 +40,7 @@ impl Face {
         match self {
             Face::Ordinary => independent::open(index, marks, words),
             Face::Host => host::open(index, marks),
+            Face::Turned => independent::open_turned(index, marks, words),
         }
     }
 
@@ -44,6 +48,7 @@ impl Face {
         match self {
             Face::Ordinary => independent::ask(index, source, target, marks, words),
             Face::Host => host::ask(index, source, target, marks),
+            Face::Turned => independent::ask_turned(index, source, target, marks, words),
         }
     }
 
@@ -51,6 +56,25 @@ impl Face {
         match self {
             Face::Ordinary => independent::ask_all(index, sources, targets, marks, words, answers),
             Face::Host => host::ask_all(index, sources, targets, marks, answers),
+            Face::Turned => unreachable!("it has no call for all pairs"),
+        }
+    }
+
+    pub fn list(self, index: &[u8], vertex: u32, marks: &mut [u8], words: &mut [u32], out: &mut [u32]) -> Outcome<u32> {
+        match self {
+            Face::Ordinary => independent::list(index, vertex, marks, words, out),
+            Face::Host => unreachable!("it has no list"),
+            Face::Turned => independent::list_turned(index, vertex, marks, words, out),
+        }
+    }
+
+    /// A turned build is told no form.
+    pub fn build(self, input: &Input, work: &mut [u32], out: &mut [u8]) -> Outcome<u32> {
+        let Input { form, n, sources, targets, orders, d } = input;
+        match self {
+            Face::Ordinary => independent::build(*form, *n, sources, targets, orders, *d, work, out),
+            Face::Host => unreachable!("it has no build"),
+            Face::Turned => independent::build_turned(*n, sources, targets, orders, *d, work, out),
         }
     }
 }
@@ -219,8 +243,8 @@ impl Library {
         outcome(refusal, extra, count == 0, count)
     }
 
-    pub fn list(&mut self, index: &[u8], vertex: u32, marks: &mut [u8], words: &mut [u32], out: &mut [u32]) -> Outcome<u32> {
-        self.call(LIST, Face::Ordinary);
+    pub fn list(&mut self, face: Face, index: &[u8], vertex: u32, marks: &mut [u8], words: &mut [u32], out: &mut [u32]) -> Outcome<u32> {
+        self.call(LIST, face);
         self.number(vertex);
         self.index(index, marks, words);
         self.words(out);
@@ -241,8 +265,8 @@ impl Library {
         outcome(refusal, extra, total == 0, total)
     }
 
-    pub fn build(&mut self, input: &Input, work: &mut [u32], out: &mut [u8]) -> Outcome<u32> {
-        self.call(BUILD, Face::Ordinary);
+    pub fn build(&mut self, face: Face, input: &Input, work: &mut [u32], out: &mut [u8]) -> Outcome<u32> {
+        self.call(BUILD, face);
         self.number(input.form);
         self.number(input.n);
         self.number(input.d);
@@ -255,6 +279,14 @@ impl Library {
         self.words_back(work);
         self.bytes_back(out);
         outcome(refusal, extra, total == 0, total)
+    }
+
+    /// The bytes that an accepted build stores.
+    pub fn built(&mut self, face: Face, input: &Input) -> Vec<u8> {
+        let (mut work, mut out) = (vec![0; input.work_needed()], vec![0; input.room()]);
+        let total = self.build(face, input, &mut work, &mut out).expect("it is built");
+        out.truncate(total as usize);
+        out
     }
 
     /// The text program's run on a text: what it prints. The output behind that is as it was.

@@ -3,7 +3,7 @@
 use independent::chance::{Chance, Kind};
 use independent::{Form, Graph, FORM_1, FORM_2, ORDINARY};
 use outside::compare::{self, Input};
-use outside::Library;
+use outside::{Face, Library};
 
 #[test]
 fn bytes_equal_on_random_graphs_of_every_kind() {
@@ -14,18 +14,14 @@ fn bytes_equal_on_random_graphs_of_every_kind() {
         let d = chance.between(1, 5);
         let orders = chance.orders(graph.n, d);
         for form in ORDINARY {
-            compare::build_around(&mut library, &Input::of(&form, &graph, &orders));
+            compare::build_around(&mut library, Face::Ordinary, &Input::of(&form, &graph, &orders));
         }
     }
 }
 
 /// The bytes that the library stores.
 fn stored(library: &mut Library, form: &Form, graph: &Graph, orders: &[Vec<usize>]) -> Vec<u8> {
-    let input = Input::of(form, graph, orders);
-    let (mut work, mut out) = (vec![0; input.work_needed()], vec![0; input.room()]);
-    let total = library.build(&input, &mut work, &mut out).expect("it is built");
-    out.truncate(total as usize);
-    out
+    library.built(Face::Ordinary, &Input::of(form, graph, orders))
 }
 
 /// Puts an edge in anywhere.
@@ -82,7 +78,7 @@ fn bytes_equal_at_the_largest_sizes_of_form_1() {
         let orders = chance.orders(graph.n, d);
         for form in ORDINARY {
             let input = Input::of(&form, &graph, &orders);
-            compare::build(&mut library, &input, input.work_needed(), input.room() + 5);
+            compare::build(&mut library, Face::Ordinary, &input, input.work_needed(), input.room() + 5);
         }
     }
 }
@@ -101,7 +97,7 @@ fn bounds_are_checked_in_order() {
                     2 => drop((input.orders.pop(), input.orders.pop())),
                     _ => {}
                 }
-                compare::build(&mut library, &input, input.work_needed(), input.room());
+                compare::build(&mut library, Face::Ordinary, &input, input.work_needed(), input.room());
             }
         }
     }
@@ -115,11 +111,11 @@ fn bounds_of_form_2_are_checked_in_order() {
     for (n, m, refusal) in [(200_000, 3, 0), (200_001, 3, 1), (5, 1_000_000, 0), (5, 1_000_001, 3), (200_001, 1_000_001, 1)] {
         let identity: Vec<usize> = (0..n).collect();
         let mut input = Input::of(&FORM_2, &edges(n, m), &[identity]);
-        assert_eq!(compare::build(&mut library, &input, input.work_needed(), input.room()), refusal, "{n} vertices, {m} edges");
+        assert_eq!(compare::build(&mut library, Face::Ordinary, &input, input.work_needed(), input.room()), refusal, "{n} vertices, {m} edges");
         input.targets.pop();
-        assert_eq!(compare::build(&mut library, &input, 0, 0), if refusal == 1 { 1 } else { 2 }, "{n} vertices, {m} and {} edge ends", m - 1);
+        assert_eq!(compare::build(&mut library, Face::Ordinary, &input, 0, 0), if refusal == 1 { 1 } else { 2 }, "{n} vertices, {m} and {} edge ends", m - 1);
         input.form = 1;
-        assert_eq!(compare::build(&mut library, &input, 0, 0), if n == 5 { 2 } else { 1 }, "{n} vertices in form 1");
+        assert_eq!(compare::build(&mut library, Face::Ordinary, &input, 0, 0), if n == 5 { 2 } else { 1 }, "{n} vertices in form 1");
     }
 }
 
@@ -143,7 +139,7 @@ fn other_forms_are_refused_before_all_else() {
                 _ => {}
             }
             let work = if wrong == 6 { 0 } else { 16 * 6 + 4 * 16_385 + 64 };
-            assert_eq!(compare::build(&mut library, &input, work, 500), 11);
+            assert_eq!(compare::build(&mut library, Face::Ordinary, &input, work, 500), 11);
         }
     }
 }
@@ -165,7 +161,7 @@ fn bad_edges_and_bad_orders_are_named() {
             3 => { let i = place % input.orders.len(); input.orders[i] = chance.below(graph.n) as u32; }
             _ => input.sources.push(0),
         }
-        compare::build_around(&mut library, &input);
+        compare::build_around(&mut library, Face::Ordinary, &input);
     }
 }
 
@@ -177,7 +173,7 @@ fn plain_shapes_build() {
             let graph = chance.graph(kind, n);
             let orders = chance.orders(graph.n, 2);
             for form in ORDINARY {
-                compare::build_around(&mut library, &Input::of(&form, &graph, &orders));
+                compare::build_around(&mut library, Face::Ordinary, &Input::of(&form, &graph, &orders));
             }
         }
     }

@@ -4,7 +4,7 @@ use independent::chance::{Chance, Kind};
 use independent::stored::{encode, image};
 use independent::{Graph, Index, ORDINARY};
 use outside::compare::{self, Lent};
-use outside::Library;
+use outside::{Face, Library};
 
 #[test]
 fn lists_of_all_vertices_of_random_graphs() {
@@ -17,12 +17,12 @@ fn lists_of_all_vertices_of_random_graphs() {
         for form in ORDINARY {
             let bytes = encode(&form, &index);
             for vertex in 0..=graph.n as u32 {
-                compare::list_around(&mut library, &bytes, vertex);
+                compare::list_around(&mut library, Face::Ordinary, &bytes, vertex);
             }
             for image in [chance.any_damage(&bytes), bytes] {
-                compare::list_around(&mut library, &image, 0);
+                compare::list_around(&mut library, Face::Ordinary, &image, 0);
                 for lent in Lent::around(&image) {
-                    compare::list(&mut library, &image, chance.below(n + 1) as u32, lent, chance.below(n + 1));
+                    compare::list(&mut library, Face::Ordinary, &image, chance.below(n + 1) as u32, lent, chance.below(n + 1));
                 }
             }
         }
@@ -55,15 +55,15 @@ fn a_vertex_is_in_its_own_list_exactly_if_its_group_has_more_than_one_vertex() {
         let mut first = 0;
         for size in sizes {
             for vertex in first..first + size {
-                compare::list_around(&mut library, &bytes, vertex as u32);
+                compare::list_around(&mut library, Face::Ordinary, &bytes, vertex as u32);
                 let from = if size == 1 { vertex + 1 } else { first };
                 let told: Vec<u32> = (from as u32..graph.n as u32).collect();
                 let Lent { marks, words } = Lent::needed(&bytes);
                 let (mut marks, mut words, mut out) = (vec![7; marks], vec![7; words], vec![9; told.len()]);
-                assert_eq!(library.list(&bytes, vertex as u32, &mut marks, &mut words, &mut out), Ok(told.len() as u32));
+                assert_eq!(library.list(Face::Ordinary, &bytes, vertex as u32, &mut marks, &mut words, &mut out), Ok(told.len() as u32));
                 assert_eq!(out, told, "the list of {vertex}, self-loops: {loops}");
                 if let Some(short) = told.len().checked_sub(1) {
-                    let refusal = library.list(&bytes, vertex as u32, &mut marks, &mut words, &mut out[..short]).unwrap_err();
+                    let refusal = library.list(Face::Ordinary, &bytes, vertex as u32, &mut marks, &mut words, &mut out[..short]).unwrap_err();
                     assert_eq!((refusal.number, refusal.extra as usize), (16, told.len()), "the list of {vertex} with room for {short}");
                 }
             }
@@ -80,7 +80,7 @@ fn lists_at_the_largest_sizes_of_form_1() {
         let index = Index::of(&graph, &chance.orders(graph.n, 1));
         let vertex = chance.below(graph.n) as u32;
         for form in ORDINARY {
-            compare::list_around(&mut library, &encode(&form, &index), vertex);
+            compare::list_around(&mut library, Face::Ordinary, &encode(&form, &index), vertex);
         }
     }
 }

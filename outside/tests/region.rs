@@ -30,7 +30,7 @@ impl Region {
     fn builds(&self, library: &mut Library) {
         let input = Input::of(&FORM_2, &self.graph, &self.orders);
         let (mut work, mut out) = (vec![7; input.work_needed() + 1], vec![7; self.bytes.len() + 1]);
-        assert_eq!(library.build(&input, &mut work, &mut out), Ok(self.bytes.len() as u32));
+        assert_eq!(library.build(Face::Ordinary, &input, &mut work, &mut out), Ok(self.bytes.len() as u32));
         assert!(out == [&self.bytes[..], &[7]].concat(), "the bytes are those of the independent program");
         assert!(work.pop() == Some(7) && work.iter().all(|&word| word == 0), "the work memory needed is 0");
     }
@@ -56,7 +56,7 @@ impl Region {
         for words in [needed - 1, needed, needed + 1] {
             let opened = self.call(words, |marks, words| library.open(Face::Ordinary, &self.bytes, marks, words));
             let mut list = vec![7; told.len() + 1];
-            let listed = self.call(words, |marks, words| library.list(&self.bytes, vertex as u32, marks, words, &mut list));
+            let listed = self.call(words, |marks, words| library.list(Face::Ordinary, &self.bytes, vertex as u32, marks, words, &mut list));
             if words < needed {
                 assert_eq!((opened, listed), (Err(short), Err(short)));
                 assert!(list.iter().all(|&v| v == 7), "the list after 6");
@@ -171,7 +171,7 @@ fn as_many_child_entries_as_form_2_allows_and_one_more() {
     let bytes = image(&FORM_2, &beyond, &chance.orders(2_101, 1));
     assert_eq!(compare::calls(&mut library, &bytes, 2_100, Lent::needed(&bytes))[0], 0);
     let input = Input::of(&FORM_2, &beyond, &chance.orders(2_101, 1));
-    assert_eq!(compare::build(&mut library, &input, input.work_needed(), 0), 3);
+    assert_eq!(compare::build(&mut library, Face::Ordinary, &input, input.work_needed(), 0), 3);
 }
 
 /// Vertices without edges, at the bounds of each form and one beyond: 12 where the header says too many.

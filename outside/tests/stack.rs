@@ -42,7 +42,7 @@ fn lines_and_a_star_build_on_the_least_stack() {
                 let input = Input::of(&form, &graph, &orders);
                 let total = image(&form, &graph, &orders).len();
                 for out in [total, total - 1] {
-                    compare::build(&mut library, &input, input.work_needed(), out);
+                    compare::build(&mut library, Face::Ordinary, &input, input.work_needed(), out);
                 }
             }
         }
@@ -112,7 +112,7 @@ fn on_a_small_stack(form: &Form, graph: &Graph, orders: &[Vec<usize>]) {
 
     let input = Input::of(form, graph, orders);
     let (mut work, mut out) = (vec![7; input.work_needed() + 1], vec![7; bytes.len() + 1]);
-    assert_eq!(library.build(&input, &mut work, &mut out), Ok(bytes.len() as u32));
+    assert_eq!(library.build(Face::Ordinary, &input, &mut work, &mut out), Ok(bytes.len() as u32));
     assert!(out == [&bytes[..], &[7]].concat(), "the bytes are those of the independent program");
     assert!(work.pop() == Some(7) && work.iter().all(|&word| word == 0), "the work memory needed is 0");
 
@@ -141,7 +141,7 @@ fn on_a_small_stack(form: &Form, graph: &Graph, orders: &[Vec<usize>]) {
     let (mut marks, mut words) = lent();
     let told: Vec<u32> = index.downstream(0).iter().map(|&v| v as u32).collect();
     let mut list = vec![0; told.len()];
-    assert_eq!(library.list(&bytes, 0, &mut marks, &mut words, &mut list), Ok(told.len() as u32));
+    assert_eq!(library.list(Face::Ordinary, &bytes, 0, &mut marks, &mut words, &mut list), Ok(told.len() as u32));
     assert!(list == told && zeros(&marks) && cleared(&words), "the list of 0, marks and words");
 
     let (mut marks, mut words) = lent();

@@ -53,7 +53,7 @@ pub record Allowed (form : ℕ) (B : Input) (work out : List ℕ) (r : Built) (w
   pub leaves : work' ≡ buildCallWork form B work
   pub writes : out' ≡ buildCallOutput form B (length work) out
 
-built-one : (r r' : Built) → builtOf r ≡ builtOf r' → r ≡ r'
+pub built-one : (r r' : Built) → builtOf r ≡ builtOf r' → r ≡ r'
 built-one (Total t) (Total t') e = cc
 built-one (Total t) (Refused number extra) e = let z : _≡_ {A = ℕ} 0 1 = cc in absurd (omega arith)
 built-one (Refused number extra) (Total t) e = let z : _≡_ {A = ℕ} 0 1 = cc in absurd (omega arith)

@@ -1,6 +1,6 @@
 -- The three demands on the calls, proved. specs/ says what each is; what follows is the laws of this crate and of those below, cited.
 use mathlib.Core.Path.{sym}
-use Rattle.lineage.specs.Calls.{buildCall, openAnswer, askAnswer, listAnswer}
+use Rattle.lineage.specs.Calls.{buildAnswer, buildCall, openAnswer, askAnswer, listAnswer}
 use Rattle.build.proofs.build as build-call
 use Rattle.build.proofs.Theorems.{built-once, build-finishes}
 use Rattle.open.proofs.open as open-call
@@ -19,6 +19,11 @@ use Rattle.convert.specs.Convert.{convertAnswer}
 use Rattle.convert.proofs.convert_up as convert-up-call
 use Rattle.convert.proofs.convert_down as convert-down-call
 use Rattle.convert.proofs.Finished.{converted-once}
+use Rattle.turned.proofs.build_turned as build-turned-call
+use Rattle.turned.proofs.open_turned as open-turned-call
+use Rattle.turned.proofs.ask_turned as ask-turned-call
+use Rattle.turned.proofs.list_turned as list-turned-call
+use Rattle.turned.proofs.Theorems.{turned-once, finished-turned}
 use Rattle.text_run.proofs.run as run-call
 use Rattle.text_run.proofs.Theorems.{ran-once}
 use Rattle.drobisten.proofs.drobisten_open as host-open-call
@@ -30,13 +35,13 @@ use Rattle.demands.specs.Stored.{AsGrail}
 use Rattle.demands.specs.Orders.{MoreOrders}
 use Rattle.demands.proofs.Refusals.{first-refusal}
 use Rattle.demands.proofs.Words.{open-no-words, ask-no-words, batch-no-words, convert-no-words}
-use Rattle.demands.proofs.Stored.{build-stored}
+use Rattle.demands.proofs.Stored.{build-stored, finished-stored}
 use Rattle.demands.proofs.Opened.{opened-yields, yielded-stored, opened-answers, asked-path, host-path}
 use Rattle.demands.proofs.Orders.{fewer, on-a-no}
 
 -- 1. The checker's theorem of each call is cited; what the contract says is, equation by equation, what is allowed.
 pub demand-1 : EveryCall
-unfolding buildCall openAnswer askAnswer batchAnswer listAnswer convertAnswer
+unfolding buildAnswer buildCall openAnswer askAnswer batchAnswer listAnswer convertAnswer
 demand-1 = record {
   build = record {
     met = build-call.Met.met;
@@ -98,6 +103,30 @@ demand-1 = record {
     allows = λ κs a r e (answers, (leaves, (clears, writes))). record { answers = answers; leaves = leaves; clears = clears; writes = writes };
     once = λ κs a r r' e e'. converted-once;
   };
+  build-turned = record {
+    met = build-turned-call.Met.met;
+    nothing-asked = λ κs a. tt;
+    allows = λ κs a r e (answers, (leaves, writes)). record { answers = answers; leaves = leaves; writes = writes };
+    once = λ κs a r r' e e'. turned-once;
+  };
+  opens-turned = record {
+    met = open-turned-call.Met.met;
+    nothing-asked = λ κs a. tt;
+    allows = λ κs a r e (answers, (leaves, clears)). record { answers = answers; leaves = leaves; clears = clears };
+    once = λ κs a r r' e e'. opened-once;
+  };
+  ask-turned = record {
+    met = ask-turned-call.Met.met;
+    nothing-asked = λ κs a. tt;
+    allows = λ κs a r e (answers, (leaves, clears)). record { answers = answers; leaves = leaves; clears = clears };
+    once = λ κs a r r' e e'. asked-once;
+  };
+  list-turned = record {
+    met = list-turned-call.Met.met;
+    nothing-asked = λ κs a. tt;
+    allows = λ κs a r e (answers, (leaves, (clears, writes))). record { answers = answers; leaves = leaves; clears = clears; writes = writes };
+    once = λ κs a r r' e e'. listed-once;
+  };
   run = record {
     met = run-call.Met.met;
     nothing-asked = λ κs a. tt;
@@ -123,6 +152,7 @@ demand-1 = record {
     once = λ κs a r r' e e'. face.asked-all-once;
   };
   build-refuses = λ form B work out number extra. first-refusal _ number extra _;
+  build-turned-refuses = λ B work out number extra. first-refusal _ number extra _;
   open-refuses = λ T b marks work number extra. first-refusal _ number extra _;
   ask-refuses = λ T b u v marks work number extra. first-refusal _ number extra _;
   ask-all-refuses = λ T b sources targets marks work answers number extra. first-refusal _ number extra _;
@@ -135,6 +165,7 @@ pub demand-2 : AsGrail
 demand-2 = record {
   finishes = build-finishes;
   built = build-stored;
+  built-turned = λ X done. finished-stored (finished-turned X done);
   opened = opened-yields;
   yielded = yielded-stored;
   answers = opened-answers;

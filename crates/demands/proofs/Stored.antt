@@ -7,7 +7,7 @@ use mathlib.Core.List.{List, _++_}
 use Prim.Native.Nat.{ℕ, _≤_, _<_}
 use native.Mathlib.Omega.{arith}
 use lib.Dec.{leb}
-use lib.ListN.{length, drop}
+use lib.ListN.{length, take, drop}
 use borrow.Author.Tests.{leb-true}
 use Rattle.lineage.specs.Graph.{Graph, Reaches}
 use Rattle.lineage.specs.Index.{Index, indexOf, Made}
@@ -135,14 +135,14 @@ stored-at : {F : Form} {b : List ℕ} → formIn b ≡ F → (Y : Yields F b) �
 stored-at {b = b} e = subst (λ (F : Form). (Y : Yields F b) → countsFit F (countsOf (indexOf (Y .graph) (Y .orders))) ≡ true → Stored (Y .graph) (Y .orders) b) e stored
 
 -- what a finished build leaves
-pub build-stored : {G : Graph} {orders : List (List ℕ)} {b : List ℕ} → Builds G orders b → Stored G orders b
-build-stored D =
-    let B : Input = D .input in
-    let E : build.Finished (formOf (D .form)) B = build.finished (D .allowed) (D .finished) in
-    let A : Admitted (formOf (D .form)) B (length (D .work)) = build.input-right E in
+pub finished-stored : {F : Form} {B : Input} (E : build.Finished F B) → Stored (B .graph) (ordersOf B) (take (E .total) (E .out'))
+finished-stored {F} {B} E =
+    let A : Admitted F B (length (E .work)) = build.input-right E in
     let permuted = build.orders-right E in
     let many = table-long (orderAt (B .graph .n) (B .orders)) (B .d) in
-    rw (← D .from-graph, ← D .from-orders, ← D .left)
-    (stored-at (build.stored-form E)
+    stored-at (build.stored-form E)
     (record { graph = B .graph; ends = A .ends; orders = ordersOf B; permuted = permuted; bytes = sym (build.build-stores E) })
-    (bounds-kept (form-wide (D .form)) (B .graph) (A .ends) (ordersOf B) permuted (A .vertices) (A .edges) (omega (arith, A .least)) (omega (arith, A .most))))
+    (bounds-kept (E .wide) (B .graph) (A .ends) (ordersOf B) permuted (A .vertices) (A .edges) (omega (arith, A .least)) (omega (arith, A .most)))
+
+pub build-stored : {G : Graph} {orders : List (List ℕ)} {b : List ℕ} → Builds G orders b → Stored G orders b
+build-stored D = rw (← D .from-graph, ← D .from-orders, ← D .left) (finished-stored (build.finished (D .allowed) (D .finished)))

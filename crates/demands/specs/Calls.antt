@@ -10,8 +10,8 @@ use contract.Lifetimes.{Lfts}
 use denote.Ref.{now}
 use denote.Triple.Clauses.{AtExit}
 use borrow.Fn.Kinds.{PK, RK, In, Out, Dens, resT, endedOf}
-use Rattle.lineage.specs.Stored.{formOf}
-use Rattle.lineage.specs.Calls.{Check, check, refused, FormsTaken, host, ordinary, takes, Input, buildEarly, buildLate, buildCall, formChecks, contentsCheck, openAnswer, askEarly, askAnswer, listEarly, listLate, listAnswer}
+use Rattle.lineage.specs.Stored.{form3, formOf}
+use Rattle.lineage.specs.Calls.{Check, check, refused, FormsTaken, host, ordinary, turned, takes, Input, turnedInput, buildEarly, buildLate, buildAnswer, buildCall, formChecks, contentsCheck, openAnswer, askEarly, askAnswer, listEarly, listLate, listAnswer}
 use Rattle.build.specs.Input.{inputOf}
 use Rattle.build.proofs.build as build-call
 use Rattle.build.proofs.Theorems as build
@@ -26,11 +26,16 @@ use Rattle.ask_all.proofs.ask_all as ask-all-call
 use Rattle.ask_all.proofs.ask_all_form1 as ask-all-form1-call
 use Rattle.ask_all.proofs.Theorems as asking-all
 use Rattle.list.proofs.list as list-call
-use Rattle.list.specs.Listed as list
+use Rattle.list.specs.Listed as listing
 use Rattle.convert.specs.Convert.{convertEarly, convertLate, convertAnswer}
 use Rattle.convert.specs.Converted as converting
 use Rattle.convert.proofs.convert_up as convert-up-call
 use Rattle.convert.proofs.convert_down as convert-down-call
+use Rattle.turned.proofs.build_turned as build-turned-call
+use Rattle.turned.proofs.open_turned as open-turned-call
+use Rattle.turned.proofs.ask_turned as ask-turned-call
+use Rattle.turned.proofs.list_turned as list-turned-call
+use Rattle.turned.proofs.Theorems as turning
 use Rattle.text_run.proofs.run as run-call
 use Rattle.text_run.proofs.Theorems as run
 use Rattle.drobisten.proofs.drobisten_open as host-open-call
@@ -94,7 +99,28 @@ pub record EveryCall : Type 2 where
       (λ κs (_, (_, (_, (marks, (answers, _))))) (_, (_, (_, (marks', (answers', _))))). (now marks ≡ now marks') × (now answers ≡ now answers'))
   pub list : Answers list-call.Kinds.ps list-call.Kinds.r list-call.Statement.statement list-call.Reads.Asked list-call.Reads.Learnt
       (λ κs (index, (vertex, (marks, (work, (out, _))))) r (_, (_, (marks', (work', (out', _))))).
-      list.Allowed ordinary (now index) vertex (now marks) (now work) (now out) r (now marks') (now work') (now out'))
+      listing.Allowed ordinary (now index) vertex (now marks) (now work) (now out) r (now marks') (now work') (now out'))
+      (λ κs (_, (_, (marks, (work, (out, _))))) (_, (_, (marks', (work', (out', _))))).
+      (now marks ≡ now marks') × ((now work ≡ now work') × (now out ≡ now out')))
+  -- the calls on a turned index
+  pub build-turned : Answers build-turned-call.Kinds.ps build-turned-call.Kinds.r build-turned-call.Statement.statement build-turned-call.Reads.Asked
+      build-turned-call.Reads.Learnt
+      (λ κs (n, (sources, (targets, (orders, (d, (work, (out, _))))))) r (_, (_, (_, (_, (_, (work', (out', _))))))).
+      turning.Allowed (inputOf n (now sources) (now targets) d (now orders)) (now work) (now out) r (now work') (now out'))
+      (λ κs (_, (_, (_, (_, (_, (work, (out, _))))))) (_, (_, (_, (_, (_, (work', (out', _))))))). (now work ≡ now work') × (now out ≡ now out'))
+  pub opens-turned : Answers open-turned-call.Kinds.ps open-turned-call.Kinds.r open-turned-call.Statement.statement open-turned-call.Reads.Asked
+      open-turned-call.Reads.Learnt
+      (λ κs (index, (marks, (work, _))) r (_, (marks', (work', _))). opening.Allowed turned (now index) (now marks) (now work) r (now marks') (now work'))
+      (λ κs (_, (marks, (work, _))) (_, (marks', (work', _))). (now marks ≡ now marks') × (now work ≡ now work'))
+  pub ask-turned : Answers ask-turned-call.Kinds.ps ask-turned-call.Kinds.r ask-turned-call.Statement.statement ask-turned-call.Reads.Asked
+      ask-turned-call.Reads.Learnt
+      (λ κs (index, (source, (target, (marks, (work, _))))) r (_, (_, (_, (marks', (work', _))))).
+      asking.Allowed turned (now index) source target (now marks) (now work) r (now marks') (now work'))
+      (λ κs (_, (_, (_, (marks, (work, _))))) (_, (_, (_, (marks', (work', _))))). (now marks ≡ now marks') × (now work ≡ now work'))
+  pub list-turned : Answers list-turned-call.Kinds.ps list-turned-call.Kinds.r list-turned-call.Statement.statement list-turned-call.Reads.Asked
+      list-turned-call.Reads.Learnt
+      (λ κs (index, (vertex, (marks, (work, (out, _))))) r (_, (_, (marks', (work', (out', _))))).
+      listing.Allowed turned (now index) vertex (now marks) (now work) (now out) r (now marks') (now work') (now out'))
       (λ κs (_, (_, (marks, (work, (out, _))))) (_, (_, (marks', (work', (out', _))))).
       (now marks ≡ now marks') × ((now work ≡ now work') × (now out ≡ now out')))
   pub convert-up : Answers convert-up-call.Kinds.ps convert-up-call.Kinds.r convert-up-call.Statement.statement convert-up-call.Reads.Asked
@@ -128,6 +154,9 @@ pub record EveryCall : Type 2 where
   pub build-refuses : (form : ℕ) (B : Input) (work out number extra : ℕ)
       → (buildCall form B work out ≡ refused number extra)
       ↔ Refuses (check (not (takes ordinary form)) 11 form ∷ (buildEarly (formOf form) B work ++ buildLate (formOf form) B out)) number extra
+  pub build-turned-refuses : (B : Input) (work out number extra : ℕ)
+      → (buildAnswer form3 (turnedInput B) work out ≡ refused number extra)
+      ↔ Refuses (buildEarly form3 (turnedInput B) work ++ buildLate form3 (turnedInput B) out) number extra
   pub open-refuses : (T : FormsTaken) (b : List ℕ) (marks work number extra : ℕ)
       → (openAnswer T b marks work ≡ refused number extra) ↔ Refuses (formChecks T b marks work ++ (contentsCheck b ∷ [])) number extra
   pub ask-refuses : (T : FormsTaken) (b : List ℕ) (u v marks work number extra : ℕ)

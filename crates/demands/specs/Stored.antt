@@ -8,7 +8,7 @@ use mathlib.Core.List.{List, _++_}
 use Prim.Native.Nat.{ℕ, _<_, _≤_}
 use lib.ListN.{length, take, drop}
 use Rattle.lineage.specs.Lists.{Every}
-use Rattle.lineage.specs.Graph.{Graph, Ends, Reaches}
+use Rattle.lineage.specs.Graph.{Graph, turnedGraph, Ends, Reaches}
 use Rattle.lineage.specs.Labels.{Order}
 use Rattle.lineage.specs.Index.{Index, indexOf}
 use Rattle.lineage.specs.Stored.{Form, Counts, countsOf, countsFit, encode, headerAt, countsIn, formOf}
@@ -28,6 +28,7 @@ use Rattle.ask.specs.declared.Asked.{Asked}
 use Rattle.ask.specs.Asked.{askedOf}
 use Rattle.ask.proofs.Theorems as ask
 use Rattle.drobisten.specs.declared.DrobistenAsked.{DrobistenAsked}
+use Rattle.turned.proofs.Theorems as turning
 use Rattle.drobisten.proofs.Theorems as face
 use Rattle.demands.specs.Grail.{Grail}
 
@@ -103,6 +104,10 @@ pub record AsGrail : Type 0 where
       → builtOf r ≡ answered (lengthOf (formOf form) (indexOf (B .graph) (ordersOf B)))
   -- what a finished build leaves is a stored index of its edge list under its orders
   pub built : {G : Graph} {orders : List (List ℕ)} {b : List ℕ} → Builds G orders b → Stored G orders b
+  -- what a finished turned build leaves is a stored index of the turned edge list
+  pub built-turned : {B : Input} {work out : List ℕ} {r : Built} {work' out' : List ℕ} {total : ℕ} → turning.Allowed B work out r work' out'
+      → builtOf r ≡ answered total
+      → Stored (turnedGraph (B .graph)) (ordersOf B) (take total out')
   -- bytes open exactly when their form is taken and some edge list, of any length, and some orders yield them within the form's bounds
   pub opened : {T : FormsTaken} {b marks work : List ℕ} {r : OpenAnswer} {m w : List ℕ} → Bytes b → countsIn b .n ≤ length marks → wordsIn b ≤ length work
       → opening.Allowed T b marks work r m w

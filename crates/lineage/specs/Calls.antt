@@ -1,4 +1,4 @@
--- The calls (document 01, "Refusal numbers, in order of checking"; document 02, [6]): of each call its checks in order, its answer, and what every lent buffer
+-- The calls (document 01, "Refusal numbers, in order of checking"; document 02, [6] and [13]): of each call its checks in order, its answer, and what every lent buffer
 -- holds afterwards, as functions of what was lent and of the forms that the call takes.
 use mathlib.Core.Bool.{Bool, true, false, not, _||_, _&&_, cond}
 use mathlib.Core.List.{List, [], _∷_, _++_, map}
@@ -6,7 +6,7 @@ use Prim.Native.Nat.{ℕ, _+_, _*_}
 use lib.Dec.{eqb, leb, ltb}
 use lib.ListN.{length, getD, drop}
 use Rattle.lineage.specs.Lists.{upto, any, among, firstOf, part, cleared}
-use Rattle.lineage.specs.Graph.{Graph}
+use Rattle.lineage.specs.Graph.{Graph, turnedGraph}
 use Rattle.lineage.specs.Index.{Index, indexOf}
 use Rattle.lineage.specs.Question.{Answer, answer, downstream}
 use Rattle.lineage.specs.Stored.{Form, mostLabellings, headerLength, Counts, countsOf, totalLength, encode, headerAt, countsIn, formOf, isForm, countsFit, offsetsFit, decode}
@@ -56,6 +56,10 @@ host = formsTaken 1 1
 abbrev pub ordinary : FormsTaken
 ordinary = formsTaken 1 2
 
+-- the calls on a turned index take form 3 alone
+abbrev pub turned : FormsTaken
+turned = formsTaken 3 3
+
 -- a call that takes these forms takes the one with this number
 abbrev pub takes : FormsTaken → ℕ → Bool
 takes T number = (leb (T .least) number && leb number (T .most)) && isForm number
@@ -74,6 +78,10 @@ orderAt n orders i = part orders (i * n) n
 
 abbrev pub ordersOf : Input → List (List ℕ)
 ordersOf B = map (orderAt (B .graph .n) (B .orders)) (upto (B .d))
+
+-- what a turned build is lent: the edge list as given; it turns it itself
+abbrev pub turnedInput : Input → Input
+turnedInput B = record { graph = turnedGraph (B .graph); d = B .d; orders = B .orders }
 
 -- an edge end is n or more
 abbrev pub badEdge : Graph → ℕ → Bool

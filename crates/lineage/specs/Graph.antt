@@ -13,6 +13,10 @@ pub record Graph : Type 0 where
   pub sources : List ℕ
   pub targets : List ℕ
 
+-- the graph with every edge turned: it leads back, from its target to its source (document 02, [13])
+abbrev pub turnedGraph : Graph → Graph
+turnedGraph G = record { n = G .n; sources = G .targets; targets = G .sources }
+
 -- an edge leads from u to v: they stand at one position of the two lists
 pub data Edge : List ℕ → List ℕ → ℕ → ℕ → Type 0 where
   first : {u v : ℕ} {S T : List ℕ} → Edge (u ∷ S) (v ∷ T) u v

@@ -1,4 +1,4 @@
--- The stored forms (document 01, "Stored form 1" and "Bounds"; document 02, [6]), at a form's width: header, sections, total length; written and read.
+-- The stored forms (document 01, "Stored form 1" and "Bounds"; document 02, [6] and [13]), at a form's width: header, sections, total length; written and read.
 use mathlib.Core.Bool.{Bool, _&&_, cond}
 use mathlib.Core.List.{List, [], _∷_, _++_, map}
 use Prim.Native.Nat.{ℕ, suc, _+_, _-_, _*_}
@@ -25,9 +25,13 @@ form1 = record { number = 1; width = 2; vertices = 4096; edges = 16384; entries 
 abbrev pub form2 : Form
 form2 = record { number = 2; width = 4; vertices = 200000; edges = 1000000; entries = 1000000 }
 
+-- form 3: an index over the turned edges, otherwise laid out and bounded like form 2
+abbrev pub form3 : Form
+form3 = record { number = 3; width = 4; vertices = 200000; edges = 1000000; entries = 1000000 }
+
 -- the forms that are there
 abbrev pub forms : List Form
-forms = form1 ∷ form2 ∷ []
+forms = form1 ∷ form2 ∷ form3 ∷ []
 
 -- the most labellings: d is 1 to 5
 abbrev pub mostLabellings : ℕ

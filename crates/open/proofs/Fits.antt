@@ -11,7 +11,7 @@ use Rattle.lineage.specs.Lists.{Every}
 use Rattle.lineage.specs.Graph.{Graph, Ends, namesOf, condense, levelsOf}
 use Rattle.lineage.specs.Labels.{Order, Labelling, labelling}
 use Rattle.lineage.specs.Index.{Index, indexBy, indexOf}
-use Rattle.lineage.specs.Stored.{Form, form1, form2, forms, Counts, countsOf, countsFit, encode, headerAt, countsIn, formOf, section, mostLabellings}
+use Rattle.lineage.specs.Stored.{Form, form1, form2, form3, forms, Counts, countsOf, countsFit, encode, headerAt, countsIn, formOf, section, mostLabellings}
 use Rattle.lineage.specs.Sound.{startsPass, sound, contentsSound}
 use Rattle.lineage.specs.Calls.{answered, FormsTaken, takes, wordsFor, wordsIn, openAnswer}
 use Rattle.laws.specs.Sound.{SoundLabelling, Sound}
@@ -40,8 +40,11 @@ form1-wide = record { known = refl; vertices = omega arith; entries = omega arit
 form2-wide : Wide form2
 form2-wide = record { known = refl; vertices = omega arith; entries = omega arith; edges = omega arith }
 
+form3-wide : Wide form3
+form3-wide = record { known = refl; vertices = omega arith; entries = omega arith; edges = omega arith }
+
 forms-wide : Every Wide forms
-forms-wide = (form1-wide, (form2-wide, tt))
+forms-wide = (form1-wide, (form2-wide, (form3-wide, tt)))
 
 -- every number stands for such a form
 pub form-wide : (number : ℕ) → Wide (formOf number)

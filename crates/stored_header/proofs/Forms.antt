@@ -1,6 +1,6 @@
 -- The table of forms: each has a number of 32 bits, a width of 2 or 4, and bounds that are not above 200,000 vertices and 1,000,000 edges and child entries.
 use mathlib.Core.Bool.{Bool, true, false, cond}
-use mathlib.Core.Path.{_≡_, refl, sym}
+use mathlib.Core.Path.{_≡_, refl, sym, ap}
 use mathlib.Core.List.{List, [], _∷_}
 use Prim.Native.Nat.{ℕ, _^_, _≤_, _<_}
 use native.Mathlib.Omega.{arith}
@@ -8,7 +8,7 @@ use lib.Dec.{eqb}
 use borrow.Author.Tests.{ne-eqb}
 use Rattle.lineage.specs.Lists.{Every}
 use Rattle.lineage.specs.Numbers.{Width}
-use Rattle.lineage.specs.Stored.{Form, form1, form2, forms, formFrom, formOf}
+use Rattle.lineage.specs.Stored.{Form, form1, form2, form3, forms, formFrom, formOf}
 use Rattle.numbers.specs.Bounds.{vertexBound, entryBound}
 use Rattle.stored_header.specs.declared.Row.{Row}
 use Rattle.stored_header.specs.Header.{rowOf}
@@ -31,10 +31,11 @@ form1-within =
       entries = omega arith;
     }
 
-form2-within : Within form2
-form2-within =
+-- the forms of 32-bit numbers
+wide-within : (number : ℕ) → number < 2 ^ 32 → Within (record { number = number; width = 4; vertices = 200000; edges = 1000000; entries = 1000000 })
+wide-within number small =
     record {
-      number = omega arith;
+      number = small;
       width = record { low = omega arith; high = omega arith; even = refl };
       vertices = omega arith;
       edges = omega arith;
@@ -42,7 +43,7 @@ form2-within =
     }
 
 forms-within : Every Within forms
-forms-within = (form1-within, (form2-within, tt))
+forms-within = (form1-within, (wide-within 2 (omega arith), (wide-within 3 (omega arith), tt)))
 
 -- what holds of every form of the table, and of the first, holds of the form that a number stands for
 module _ (P : Form → Type 0) (first : P form1) where
@@ -60,18 +61,21 @@ form-each P h number = from-each P (h .0) forms number h
 pub form-within : (number : ℕ) → Within (formOf number)
 form-within = form-each Within forms-within
 
--- the rows that code has: that of form 2, and that of form 1, which stands for every number that no form has
-pub row-second : (number : ℕ) → number ≡ 2 → record { known = true; width = 4; vertices = 200000; edges = 1000000; entries = 1000000 } ≡ rowOf number
-row-second number e = rw e
+-- the rows that code has: that of forms 2 and 3, and that of form 1, which stands for every number that no form has
+pub row-second : (number : ℕ) → number ≡ 2 → rowOf 2 ≡ rowOf number
+row-second number e = ap rowOf (sym e)
 
-pub row-first : (number : ℕ) → ¬ (number ≡ 2)
+pub row-third : (number : ℕ) → number ≡ 3 → rowOf 2 ≡ rowOf number
+row-third number e = rw e
+
+pub row-first : (number : ℕ) → ¬ (number ≡ 2) → ¬ (number ≡ 3)
     → record { known = eqb 1 number; width = 2; vertices = 4096; edges = 16384; entries = 16384 } ≡ rowOf number
-row-first number h = at (eqb 1 number) (eqb 2 number) (ne-eqb 2 number (λ e. h (sym e)))
+row-first number h i = at (eqb 1 number) (eqb 2 number) (eqb 3 number) (ne-eqb 2 number (λ e. h (sym e))) (ne-eqb 3 number (λ e. i (sym e)))
   where
-    at : (one two : Bool) → two ≡ false
+    at : (one two three : Bool) → two ≡ false → three ≡ false
         → _≡_ {A = Row}
         (record { known = eqb 1 number; width = 2; vertices = 4096; edges = 16384; entries = 16384 })
-        (let F : Form = cond one form1 (cond two form2 form1) in
+        (let F : Form = cond one form1 (cond two form2 (cond three form3 form1)) in
         record {
           known = eqb (F .number) number;
           width = F .width;
@@ -79,5 +83,5 @@ row-first number h = at (eqb 1 number) (eqb 2 number) (ne-eqb 2 number (λ e. h 
           edges = F .edges;
           entries = F .entries;
         })
-    at true two e = refl
-    at false two e = rw e
+    at true two three e f = refl
+    at false two three e f = rw (e, f)

@@ -52,18 +52,28 @@ pub enum Header {
     Refused { number: u32, extra: u32 },
 }
 
+// The row that forms 2 and 3 have.
+fn wide_row() -> Row
+    ensures { λ r. ⌜ r ≡ rowOf 2 ⌝ }
+{
+    Row {
+        known: true,
+        width: 4,
+        vertices: 200000,
+        edges: 1000000,
+        entries: 1000000,
+    }
+}
+
 // The table of forms; where there is none of this number, the first form's row.
 pub fn form_row(number: usize) -> Row
     ensures { λ r. ⌜ r ≡ rowOf number ⌝ }
 {
     if number == 2 {
-        return Row {
-            known: true,
-            width: 4,
-            vertices: 200000,
-            edges: 1000000,
-            entries: 1000000,
-        };
+        return wide_row();
+    }
+    if number == 3 {
+        return wide_row();
     }
     Row {
         known: 1 == number,

@@ -19,9 +19,8 @@ pub struct Counts {
     pub d: u32,
 }
 
-#[no_mangle]
-pub extern "C" fn trial_open(index: &[u8], marks: &mut [u8], work: &mut [u32]) -> Counts {
-    match open::open(index, marks, work) {
+fn counts_of(r: Opened) -> Counts {
+    match r {
         Opened::Index { n, k, c, d } => Counts {
             refusal: 0,
             extra: 0,
@@ -52,15 +51,8 @@ pub struct Answer {
     pub labelling: u32,
 }
 
-#[no_mangle]
-pub extern "C" fn trial_ask(
-    index: &[u8],
-    marks: &mut [u8],
-    work: &mut [u32],
-    source: u32,
-    target: u32,
-) -> Answer {
-    match ask::ask(index, source, target, marks, work) {
+fn answer_of(r: Asked) -> Answer {
+    match r {
         Asked::Answer {
             says,
             reason,
@@ -124,15 +116,8 @@ pub struct Counted {
     pub count: u32,
 }
 
-#[no_mangle]
-pub extern "C" fn trial_list(
-    index: &[u8],
-    marks: &mut [u8],
-    work: &mut [u32],
-    out: &mut [u32],
-    vertex: u32,
-) -> Counted {
-    match list::list(index, vertex, marks, work, out) {
+fn listed_of(r: Listed) -> Counted {
+    match r {
         Listed::Count(count) => Counted {
             refusal: 0,
             extra: 0,
@@ -146,18 +131,8 @@ pub extern "C" fn trial_list(
     }
 }
 
-#[no_mangle]
-pub extern "C" fn trial_build(
-    sources: &[u32],
-    targets: &[u32],
-    orders: &[u32],
-    work: &mut [u32],
-    out: &mut [u8],
-    form: u32,
-    n: u32,
-    d: u32,
-) -> Counted {
-    match build::build(form, n, sources, targets, orders, d, work, out) {
+fn built_of(r: Built) -> Counted {
+    match r {
         Built::Total(count) => Counted {
             refusal: 0,
             extra: 0,
@@ -199,6 +174,87 @@ pub extern "C" fn trial_convert_down(
     out: &mut [u8],
 ) -> Counted {
     converted_of(convert::convert_down(index, marks, work, out))
+}
+
+#[no_mangle]
+pub extern "C" fn trial_open(index: &[u8], marks: &mut [u8], work: &mut [u32]) -> Counts {
+    counts_of(open::open(index, marks, work))
+}
+
+#[no_mangle]
+pub extern "C" fn trial_open_turned(index: &[u8], marks: &mut [u8], work: &mut [u32]) -> Counts {
+    counts_of(turned::open_turned(index, marks, work))
+}
+
+#[no_mangle]
+pub extern "C" fn trial_ask(
+    index: &[u8],
+    marks: &mut [u8],
+    work: &mut [u32],
+    source: u32,
+    target: u32,
+) -> Answer {
+    answer_of(ask::ask(index, source, target, marks, work))
+}
+
+#[no_mangle]
+pub extern "C" fn trial_ask_turned(
+    index: &[u8],
+    marks: &mut [u8],
+    work: &mut [u32],
+    source: u32,
+    target: u32,
+) -> Answer {
+    answer_of(turned::ask_turned(index, source, target, marks, work))
+}
+
+#[no_mangle]
+pub extern "C" fn trial_list(
+    index: &[u8],
+    marks: &mut [u8],
+    work: &mut [u32],
+    out: &mut [u32],
+    vertex: u32,
+) -> Counted {
+    listed_of(list::list(index, vertex, marks, work, out))
+}
+
+#[no_mangle]
+pub extern "C" fn trial_list_turned(
+    index: &[u8],
+    marks: &mut [u8],
+    work: &mut [u32],
+    out: &mut [u32],
+    vertex: u32,
+) -> Counted {
+    listed_of(turned::list_turned(index, vertex, marks, work, out))
+}
+
+#[no_mangle]
+pub extern "C" fn trial_build(
+    sources: &[u32],
+    targets: &[u32],
+    orders: &[u32],
+    work: &mut [u32],
+    out: &mut [u8],
+    form: u32,
+    n: u32,
+    d: u32,
+) -> Counted {
+    built_of(build::build(form, n, sources, targets, orders, d, work, out))
+}
+
+#[no_mangle]
+pub extern "C" fn trial_build_turned(
+    sources: &[u32],
+    targets: &[u32],
+    orders: &[u32],
+    work: &mut [u32],
+    out: &mut [u8],
+    n: u32,
+    d: u32,
+) -> Counted {
+    built_of(turned::build_turned(n, sources, targets, orders, d, work, out))
 }
 
 #[no_mangle]

@@ -2,7 +2,7 @@
 
 use independent::bounds::work_words;
 use independent::graph::flat;
-use independent::{build, Counts, Form, Graph, Refusal, ORDINARY};
+use independent::{build, Counts, Form, Graph, Refusal, FORMS};
 
 /// Graph G of the document.
 pub fn g() -> Graph {
@@ -39,7 +39,7 @@ pub const WORD: u32 = 7;
 
 /// Words for this index, as many as it needs.
 pub fn words_for(index: &[u8]) -> Vec<u32> {
-    let needed = Counts::read(index, &ORDINARY).map_or(0, |(form, counts)| form.words_needed(&counts));
+    let needed = Counts::read(index, &FORMS).map_or(0, |(form, counts)| form.words_needed(&counts));
     vec![WORD; needed]
 }
 

@@ -13,3 +13,4 @@ mod refusals_stored;
 mod sizes;
 mod soundness;
 mod text;
+mod upstream;

@@ -1,0 +1,2 @@
+-- What is upstream of a vertex.
+pub mod Upstream

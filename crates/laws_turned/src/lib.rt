@@ -1,0 +1,1 @@
+// What is upstream stands in specs/, what the turned graph's paths, names, refusals and answers are in proofs/; there is no code here.

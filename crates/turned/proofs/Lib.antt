@@ -1,0 +1,2 @@
+-- What the turned calls promise.
+pub mod Theorems
