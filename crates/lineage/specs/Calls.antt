@@ -1,6 +1,6 @@
--- The calls (document 01, "Refusal numbers, in order of checking"): of each call its checks in order, its answer, and what every lent buffer holds
--- afterwards, as functions of what was lent.
-use mathlib.Core.Bool.{Bool, true, false, not, _||_, cond}
+-- The calls (document 01, "Refusal numbers, in order of checking"; document 02, [6]): of each call its checks in order, its answer, and what every lent buffer
+-- holds afterwards, as functions of what was lent and of the forms that the call takes.
+use mathlib.Core.Bool.{Bool, true, false, not, _||_, _&&_, cond}
 use mathlib.Core.List.{List, [], _∷_, _++_, map}
 use Prim.Native.Nat.{ℕ, _+_, _*_}
 use lib.Dec.{eqb, leb, ltb}
@@ -40,6 +40,25 @@ module _ {A : Type 0} where
 abbrev pub anyApplies : List Check → Bool
 anyApplies [] = false
 anyApplies (c ∷ cs) = c .applies || anyApplies cs
+
+-- the forms that a call takes: those numbered from the least to the most
+pub record FormsTaken : Type 0 where
+  pub least : ℕ
+  pub most : ℕ
+
+abbrev pub formsTaken : (least most : ℕ) → FormsTaken
+formsTaken least most = record { least = least; most = most }
+
+-- the C host and the text program stay with form 1; every other call on indexes that are not turned takes forms 1 and 2
+abbrev pub host : FormsTaken
+host = formsTaken 1 1
+
+abbrev pub ordinary : FormsTaken
+ordinary = formsTaken 1 2
+
+-- a call that takes these forms takes the one with this number
+abbrev pub takes : FormsTaken → ℕ → Bool
+takes T number = (leb (T .least) number && leb number (T .most)) && isForm number
 
 -- Build.
 
@@ -110,17 +129,38 @@ buildOutput F B work out =
 unfoldable pub buildWork : Form → Input → List ℕ → List ℕ
 buildWork F B work = cond (anyApplies (buildEarly F B (length work))) work (cleared (workNeeded (B .graph)) work)
 
+-- build is told the form: 11 first of all for one that it does not take, and then nothing is altered; the rest as before, at that form
+unfoldable pub buildCall : ℕ → Input → (work out : ℕ) → Outcome ℕ
+unfolding buildAnswer
+buildCall form B work out = refuse (not (takes ordinary form)) 11 form (buildAnswer (formOf form) B work out)
+
+unfoldable pub buildCallOutput : ℕ → Input → ℕ → List ℕ → List ℕ
+unfolding buildOutput
+buildCallOutput form B work out = cond (takes ordinary form) (buildOutput (formOf form) B work out) out
+
+unfoldable pub buildCallWork : ℕ → Input → List ℕ → List ℕ
+unfolding buildWork
+buildCallWork form B work = cond (takes ordinary form) (buildWork (formOf form) B work) work
+
 -- The calls on stored bytes.
 
--- 10 to 13, for bytes and marks of this length
-abbrev pub formChecks : List ℕ → ℕ → List Check
-formChecks b marks =
+-- the words that a call is lent beside bytes of a form: 16n + 4c + 64, and none where the numbers are of 16 bits
+abbrev pub wordsFor : ℕ → Counts → ℕ
+wordsFor width a = cond (eqb width 2) 0 (16 * a .n + 4 * a .c + 64)
+
+abbrev pub wordsIn : List ℕ → ℕ
+wordsIn b = wordsFor (formOf (headerAt b 0) .width) (countsIn b)
+
+-- 10 to 13, then 6, for bytes, and marks and words of these lengths
+abbrev pub formChecks : FormsTaken → List ℕ → (marks work : ℕ) → List Check
+formChecks T b marks work =
     let form : ℕ = headerAt b 0 in
     let a : Counts = countsIn b in
     check (ltb (length b) headerLength) 10 0
-    ∷ check (not (isForm form)) 11 form
+    ∷ check (not (takes T form)) 11 form
     ∷ check (not (countsFit (formOf form) a) || not (offsetsFit (formOf form) a b)) 12 0
     ∷ check (ltb marks (a .n)) 13 (a .n)
+    ∷ check (ltb work (wordsIn b)) 6 (wordsIn b)
     ∷ []
 
 -- 15
@@ -135,13 +175,20 @@ indexIn b = decode (formOf (headerAt b 0) .width) b
 abbrev pub marksAfter : List Check → List ℕ → List ℕ → List ℕ
 marksAfter early b marks = cond (anyApplies early) marks (cleared (countsIn b .n) marks)
 
--- open: n, k, c and d
-unfoldable pub openAnswer : List ℕ → ℕ → Outcome Counts
-unfolding contentsSound
-openAnswer b marks = outcome (formChecks b marks ++ (contentsCheck b ∷ [])) (countsIn b)
+-- and the words: unchanged, or those needed at 0 and later words untouched
+abbrev pub workAfter : List Check → List ℕ → List ℕ → List ℕ
+workAfter early b work = cond (anyApplies early) work (cleared (wordsIn b) work)
 
-unfoldable pub openMarks : List ℕ → List ℕ → List ℕ
-openMarks b marks = marksAfter (formChecks b (length marks)) b marks
+-- open: n, k, c and d
+unfoldable pub openAnswer : FormsTaken → List ℕ → (marks work : ℕ) → Outcome Counts
+unfolding contentsSound
+openAnswer T b marks work = outcome (formChecks T b marks work ++ (contentsCheck b ∷ [])) (countsIn b)
+
+unfoldable pub openMarks : FormsTaken → List ℕ → (marks : List ℕ) → (work : ℕ) → List ℕ
+openMarks T b marks work = marksAfter (formChecks T b (length marks) work) b marks
+
+unfoldable pub openWork : FormsTaken → List ℕ → (marks : ℕ) → (work : List ℕ) → List ℕ
+openWork T b marks work = workAfter (formChecks T b marks (length work)) b work
 
 -- ask: yes or no, the reason, the number of groups opened, and the number of the labelling that decided (0 where none did)
 pub record Said : Type 0 where
@@ -154,26 +201,29 @@ abbrev pub saidOf : Answer → Said
 saidOf a = record { says = a .says; reason = a .reason; opened = a .opened; deciding = a .deciding }
 
 -- 14: vertex n or more, source first
-abbrev pub askEarly : List ℕ → (source target marks : ℕ) → List Check
-askEarly b source target marks =
-    formChecks b marks ++ (check (leb (countsIn b .n) source) 14 0 ∷ check (leb (countsIn b .n) target) 14 1 ∷ [])
+abbrev pub askEarly : FormsTaken → List ℕ → (source target marks work : ℕ) → List Check
+askEarly T b source target marks work =
+    formChecks T b marks work ++ (check (leb (countsIn b .n) source) 14 0 ∷ check (leb (countsIn b .n) target) 14 1 ∷ [])
 
-unfoldable pub askAnswer : List ℕ → (source target marks : ℕ) → Outcome Said
+unfoldable pub askAnswer : FormsTaken → List ℕ → (source target marks work : ℕ) → Outcome Said
 unfolding contentsSound answer decode
-askAnswer b source target marks =
-    outcome (askEarly b source target marks ++ (contentsCheck b ∷ [])) (saidOf (answer (indexIn b) source target))
+askAnswer T b source target marks work =
+    outcome (askEarly T b source target marks work ++ (contentsCheck b ∷ [])) (saidOf (answer (indexIn b) source target))
 
 -- marks after a question: those of the answer below n, where there is one
-unfoldable pub askMarks : List ℕ → (source target : ℕ) → List ℕ → List ℕ
+unfoldable pub askMarks : FormsTaken → List ℕ → (source target : ℕ) → (marks : List ℕ) → (work : ℕ) → List ℕ
 unfolding contentsSound answer decode
-askMarks b source target marks =
-    cond (anyApplies (askEarly b source target (length marks) ++ (contentsCheck b ∷ [])))
-    (marksAfter (askEarly b source target (length marks)) b marks)
+askMarks T b source target marks work =
+    cond (anyApplies (askEarly T b source target (length marks) work ++ (contentsCheck b ∷ [])))
+    (marksAfter (askEarly T b source target (length marks) work) b marks)
     (answer (indexIn b) source target .marks ++ drop (countsIn b .n) marks)
 
+unfoldable pub askWork : FormsTaken → List ℕ → (source target marks : ℕ) → (work : List ℕ) → List ℕ
+askWork T b source target marks work = workAfter (askEarly T b source target marks (length work)) b work
+
 -- list: the vertices downstream of a vertex
-abbrev pub listEarly : List ℕ → (vertex marks : ℕ) → List Check
-listEarly b vertex marks = formChecks b marks ++ (check (leb (countsIn b .n) vertex) 14 0 ∷ [])
+abbrev pub listEarly : FormsTaken → List ℕ → (vertex marks work : ℕ) → List Check
+listEarly T b vertex marks work = formChecks T b marks work ++ (check (leb (countsIn b .n) vertex) 14 0 ∷ [])
 
 abbrev pub listLate : List ℕ → (vertex out : ℕ) → List Check
 listLate b vertex out =
@@ -181,17 +231,20 @@ listLate b vertex out =
     contentsCheck b ∷ check (ltb out count) 16 count ∷ []
 
 -- their count
-unfoldable pub listAnswer : List ℕ → (vertex marks out : ℕ) → Outcome ℕ
+unfoldable pub listAnswer : FormsTaken → List ℕ → (vertex marks work out : ℕ) → Outcome ℕ
 unfolding contentsSound downstream decode
-listAnswer b vertex marks out =
-    outcome (listEarly b vertex marks ++ listLate b vertex out) (length (downstream (indexIn b) vertex))
+listAnswer T b vertex marks work out =
+    outcome (listEarly T b vertex marks work ++ listLate b vertex out) (length (downstream (indexIn b) vertex))
 
 -- the out list: unchanged by every refusal; the list behind the vertices is untouched
-unfoldable pub listOutput : List ℕ → (vertex marks : ℕ) → List ℕ → List ℕ
+unfoldable pub listOutput : FormsTaken → List ℕ → (vertex marks work : ℕ) → (out : List ℕ) → List ℕ
 unfolding contentsSound downstream decode
-listOutput b vertex marks out =
+listOutput T b vertex marks work out =
     let found : List ℕ = downstream (indexIn b) vertex in
-    cond (anyApplies (listEarly b vertex marks ++ listLate b vertex (length out))) out (found ++ drop (length found) out)
+    cond (anyApplies (listEarly T b vertex marks work ++ listLate b vertex (length out))) out (found ++ drop (length found) out)
 
-unfoldable pub listMarks : List ℕ → ℕ → List ℕ → List ℕ
-listMarks b vertex marks = marksAfter (listEarly b vertex (length marks)) b marks
+unfoldable pub listMarks : FormsTaken → List ℕ → (vertex : ℕ) → (marks : List ℕ) → (work : ℕ) → List ℕ
+listMarks T b vertex marks work = marksAfter (listEarly T b vertex (length marks) work) b marks
+
+unfoldable pub listWork : FormsTaken → List ℕ → (vertex marks : ℕ) → (work : List ℕ) → List ℕ
+listWork T b vertex marks work = workAfter (listEarly T b vertex marks (length work)) b work

@@ -1,4 +1,4 @@
--- The stored form (document 01, "Stored form 1" and "Bounds"), at a form's width: header, sections, total length; written and read.
+-- The stored forms (document 01, "Stored form 1" and "Bounds"; document 02, [6]), at a form's width: header, sections, total length; written and read.
 use mathlib.Core.Bool.{Bool, _&&_, cond}
 use mathlib.Core.List.{List, [], _∷_, _++_, map}
 use Prim.Native.Nat.{ℕ, suc, _+_, _-_, _*_}
@@ -21,9 +21,13 @@ pub record Form : Type 0 where
 abbrev pub form1 : Form
 form1 = record { number = 1; width = 2; vertices = 4096; edges = 16384; entries = 16384 }
 
+-- form 2: 32-bit numbers; n 0 to 200,000; edges 0 to 1,000,000; c at most 1,000,000
+abbrev pub form2 : Form
+form2 = record { number = 2; width = 4; vertices = 200000; edges = 1000000; entries = 1000000 }
+
 -- the forms that are there
 abbrev pub forms : List Form
-forms = form1 ∷ []
+forms = form1 ∷ form2 ∷ []
 
 -- the most labellings: d is 1 to 5
 abbrev pub mostLabellings : ℕ

@@ -13,9 +13,9 @@ use lib.Seq.{take-at, drop-at}
 use borrow.Author.Tests.{leb-false}
 use Rattle.lineage.specs.Lists.{among}
 use Rattle.lineage.specs.Index.{indexOf, Made}
-use Rattle.lineage.specs.Stored.{form1, countsOf, countsFit, countsIn}
+use Rattle.lineage.specs.Stored.{Form, countsOf, countsFit, countsIn}
 use Rattle.lineage.specs.Question.{downstream}
-use Rattle.lineage.specs.Calls.{Check, check, answered, anyApplies, indexIn, formChecks, listEarly, listLate, listAnswer, listOutput}
+use Rattle.lineage.specs.Calls.{Check, check, answered, anyApplies, FormsTaken, indexIn, formChecks, listLate, listAnswer, listOutput}
 use Rattle.laws.specs.Rising.{Rises}
 use Rattle.laws_answers.specs.Answers.{Downstream}
 use Rattle.laws_answers.proofs.Demands.{downstream-rises, downstream-made}
@@ -25,70 +25,76 @@ use Rattle.laws.proofs.Checks.{stops-early, pass-behind, answered-pass, answere
 use Rattle.stored.proofs.Contents.{names-many}
 use Rattle.stored.proofs.Encoded.{index-encode}
 use Rattle.open.specs.Yields.{Yields}
-use Rattle.open.proofs.Fits.{form1-wide, yielded-fits}
+use Rattle.open.proofs.Fits.{Wide, yielded-fits}
 use Rattle.list.specs.declared.Listed.{Listed}
 use Rattle.list.specs.declared.Listed.the-variants.{Count, Refused}
 use Rattle.list.specs.Listed.{listedOf, Allowed}
 
-module _ (b : List ℕ) (u : ℕ) (marks out : List ℕ) (count : ℕ) (e : listAnswer b u (length marks) (length out) ≡ answered count) where
-  abbrev checks : List Check
-  checks = listEarly b u (length marks) ++ listLate b u (length out)
+module _ (T : FormsTaken) (b : List ℕ) (u : ℕ) (marks work out : List ℕ) (count : ℕ)
+    (e : listAnswer T b u (length marks) (length work) (length out) ≡ answered count)
+  where
+    abbrev early : List Check
+    early = formChecks T b (length marks) (length work)
 
-  abbrev found : List ℕ
-  found = downstream (indexIn b) u
+    -- those behind 6
+    abbrev own : List Check
+    own = check (leb (countsIn b .n) u) 14 0 ∷ listLate b u (length out)
 
-  abbrev list : List ℕ
-  list = take count (listOutput b u (length marks) out)
+    abbrev found : List ℕ
+    found = downstream (indexIn b) u
 
-  passes : Pass checks
-  unfolding listAnswer
-  passes = answered-pass (length found) checks count e
+    abbrev list : List ℕ
+    list = take count (listOutput T b u (length marks) (length work) out)
 
-  none : anyApplies checks ≡ false
-  none = stops-early checks [] 7 passes
+    passes : Pass (early ++ own)
+    unfolding listAnswer
+    passes = answered-pass (length found) (early ++ own) count e
 
-  -- those behind 13
-  behind : Pass (check (leb (countsIn b .n) u) 14 0 ∷ listLate b u (length out))
-  behind = pass-behind (formChecks b (length marks)) (check (leb (countsIn b .n) u) 14 0 ∷ listLate b u (length out)) passes
+    none : anyApplies (early ++ own) ≡ false
+    none = stops-early (early ++ own) [] 8 passes
 
-  counted : length found ≡ count
-  unfolding listAnswer
-  counted = sym (answered-is (length found) checks count e)
+    behind : Pass own
+    behind = pass-behind early own passes
 
-  -- the list, and what stands behind it
-  output : listOutput b u (length marks) out ≡ found ++ drop (length found) out
-  unfolding listOutput
-  output = rw none refl
+    counted : length found ≡ count
+    unfolding listAnswer
+    counted = sym (answered-is (length found) (early ++ own) count e)
 
-  list-is : list ≡ found
-  list-is = rw output (take-at found (drop (length found) out) count counted)
+    -- the list, and what stands behind it
+    output : listOutput T b u (length marks) (length work) out ≡ found ++ drop (length found) out
+    unfolding listOutput
+    output = rw none refl
 
-  pub listed-behind : drop count (listOutput b u (length marks) out) ≡ drop count out
-  listed-behind = rw output (drop-at found (drop (length found) out) count counted ∙ ap (λ (k : ℕ). drop k out) counted)
+    list-is : list ≡ found
+    list-is = rw output (take-at found (drop (length found) out) count counted)
 
-  -- it rises
-  pub listed-rises : Rises list
-  listed-rises = rw list-is (downstream-rises (indexIn b) u)
+    pub listed-behind : drop count (listOutput T b u (length marks) (length work) out) ≡ drop count out
+    listed-behind = rw output (drop-at found (drop (length found) out) count counted ∙ ap (λ (k : ℕ). drop k out) counted)
 
-  vertex : u < length (indexIn b .names)
-  vertex = omega (arith, leb-false (countsIn b .n) u (behind .0), names-many b)
+    -- it rises
+    pub listed-rises : Rises list
+    listed-rises = rw list-is (downstream-rises (indexIn b) u)
 
-  -- v is in the list exactly where it is downstream of the vertex, in whatever graph yields the bytes
-  pub listed-right : (M : Made (indexIn b)) (v : ℕ) → (among v list ≡ true) ↔ Downstream (M .graph) u v
-  listed-right M v = rw list-is (downstream-made M u v vertex)
+    vertex : u < length (indexIn b .names)
+    vertex = omega (arith, leb-false (countsIn b .n) u (behind .0), names-many b)
 
-  -- so in whatever graph yields these very bytes, with counts within form 1's bounds
-  pub listed-yielded :
-      (Y : Yields form1 b) → countsFit form1 (countsOf (indexOf (Y .graph) (Y .orders))) ≡ true → (v : ℕ) → (among v list ≡ true) ↔ Downstream (Y .graph) u v
-  listed-yielded Y bounds =
-      let E : Fits form1 (indexOf (Y .graph) (Y .orders)) = yielded-fits form1-wide (Y .graph) (Y .ends) (Y .orders) (Y .permuted) bounds in
-      listed-right (record {
-        graph = Y .graph;
-        ends = Y .ends;
-        orders = Y .orders;
-        permuted = Y .permuted;
-        yields = sym (index-encode E) ∙ ap indexIn (Y .bytes);
-      })
+    -- v is in the list exactly where it is downstream of the vertex, in whatever graph yields the bytes
+    pub listed-right : (M : Made (indexIn b)) (v : ℕ) → (among v list ≡ true) ↔ Downstream (M .graph) u v
+    listed-right M v = rw list-is (downstream-made M u v vertex)
+
+    -- so in whatever graph yields these very bytes, with counts within their form's bounds
+    pub listed-yielded :
+        {F : Form} → Wide F → (Y : Yields F b) → countsFit F (countsOf (indexOf (Y .graph) (Y .orders))) ≡ true → (v : ℕ)
+        → (among v list ≡ true) ↔ Downstream (Y .graph) u v
+    listed-yielded {F} W Y bounds =
+        let E : Fits F (indexOf (Y .graph) (Y .orders)) = yielded-fits W (Y .graph) (Y .ends) (Y .orders) (Y .permuted) bounds in
+        listed-right (record {
+          graph = Y .graph;
+          ends = Y .ends;
+          orders = Y .orders;
+          permuted = Y .permuted;
+          yields = sym (index-encode E) ∙ ap indexIn (Y .bytes);
+        })
 
 -- two results that the contract allows are equal
 listed-one : (r r' : Listed) → listedOf r ≡ listedOf r' → r ≡ r'
@@ -98,6 +104,7 @@ listed-one (Refused number extra) (Count count) e = let z : _≡_ {A = ℕ} 0 1 
 listed-one (Refused number extra) (Refused number' extra') e = cc
 
 pub listed-once :
-    {b : List ℕ} {u : ℕ} {marks out : List ℕ} {r r' : Listed} {ms ms' os os' : List ℕ}
-    → Allowed b u marks out r ms os → Allowed b u marks out r' ms' os' → (r ≡ r') × ((ms ≡ ms') × (os ≡ os'))
-listed-once A B = (listed-one _ _ (A .answers ∙ sym (B .answers)), (A .leaves ∙ sym (B .leaves), A .writes ∙ sym (B .writes)))
+    {T : FormsTaken} {b : List ℕ} {u : ℕ} {marks work out : List ℕ} {r r' : Listed} {ms ms' ws ws' os os' : List ℕ}
+    → Allowed T b u marks work out r ms ws os → Allowed T b u marks work out r' ms' ws' os' → (r ≡ r') × ((ms ≡ ms') × ((ws ≡ ws') × (os ≡ os')))
+listed-once A B =
+    (listed-one _ _ (A .answers ∙ sym (B .answers)), (A .leaves ∙ sym (B .leaves), (A .clears ∙ sym (B .clears), A .writes ∙ sym (B .writes))))

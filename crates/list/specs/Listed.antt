@@ -5,7 +5,7 @@ use mathlib.Core.List.{List, [], _∷_, _++_}
 use Prim.Native.Nat.{ℕ}
 use lib.Dec.{ltb}
 use lib.ListN.{length, drop}
-use Rattle.lineage.specs.Calls.{Check, check, Outcome, refused, answered, outcome, anyApplies, listAnswer, listMarks, listOutput}
+use Rattle.lineage.specs.Calls.{Check, check, Outcome, refused, answered, outcome, anyApplies, FormsTaken, listAnswer, listMarks, listWork, listOutput}
 use Rattle.list.specs.declared.Listed.{Listed}
 use Rattle.list.specs.declared.Listed.the-variants.{Count, Refused}
 
@@ -23,8 +23,9 @@ pub record Fills (found out : List ℕ) (r : Listed) (out' : List ℕ) : Type 0 
   pub answers : listedOf r ≡ outcome (roomChecks found (length out)) (length found)
   pub writes : out' ≡ cond (anyApplies (roomChecks found (length out))) out (found ++ drop (length found) out)
 
--- of bytes, a vertex, marks and an out list: what may be answered, and what marks and out list may hold afterwards
-pub record Allowed (b : List ℕ) (vertex : ℕ) (marks out : List ℕ) (r : Listed) (marks' out' : List ℕ) : Type 0 where
-  pub answers : listedOf r ≡ listAnswer b vertex (length marks) (length out)
-  pub leaves : marks' ≡ listMarks b vertex marks
-  pub writes : out' ≡ listOutput b vertex (length marks) out
+-- of the forms taken, bytes, a vertex, marks, words and an out list: what may be answered, and what marks, words and out list may hold afterwards
+pub record Allowed (T : FormsTaken) (b : List ℕ) (vertex : ℕ) (marks work out : List ℕ) (r : Listed) (marks' work' out' : List ℕ) : Type 0 where
+  pub answers : listedOf r ≡ listAnswer T b vertex (length marks) (length work) (length out)
+  pub leaves : marks' ≡ listMarks T b vertex marks (length work)
+  pub clears : work' ≡ listWork T b vertex (length marks) work
+  pub writes : out' ≡ listOutput T b vertex (length marks) (length work) out

@@ -9,41 +9,50 @@ use lib.ListN.{length}
 use Rattle.lineage.specs.Lists.{Every}
 use Rattle.lineage.specs.Index.{Index}
 use Rattle.lineage.specs.Numbers.{written}
-use Rattle.lineage.specs.Stored.{form1, Counts, startsFrom, sections, countsOf, header, encode, countsIn}
+use Rattle.lineage.specs.Stored.{Form, Counts, startsFrom, sections, countsOf, header, encode, countsIn}
 use Rattle.laws.specs.Sound.{Sound}
 use Rattle.laws.proofs.Starts.{starts-long}
 use Rattle.numbers.specs.Bounds.{vertexBound}
+use Rattle.numbers.proofs.Numbers.{count-low}
 use Rattle.numbers.proofs.Written.{written-long}
 use Rattle.stored_header.specs.declared.Layout.{Layout}
 use Rattle.stored_header.specs.Header.{Laid}
+use Rattle.stored_header.proofs.Forms.{Within}
 use Rattle.stored.proofs.Offsets.{offsets-last}
 use Rattle.stored.proofs.LabelNumbers.{labels-long}
 use Rattle.stored.proofs.Encoded.{counts-again}
 use Rattle.open.proofs.Fits.{full}
 
-module _ {I : Index} (S : Sound I) where
+module _ (F : Form) {I : Index} (S : Sound I) where
   abbrev a : Counts
   a = countsOf I
 
+  abbrev w : ℕ
+  w = F .width
+
   -- the length is that of header and sections
-  pub yielded-long : length (encode form1 I) ≡ 48 + 2 * a .n + 2 * a .k + 2 * a .k + 2 * (a .k + 1) + 2 * a .c + 2 * (a .d * (4 * a .k))
+  pub yielded-long : length (encode F I) ≡ 48 + w * a .n + w * a .k + w * a .k + w * (a .k + 1) + w * a .c + w * (a .d * (4 * a .k))
   unfolding encode
   yielded-long =
       let G = S .condensed in
       let levels : length (I .levels) ≡ a .k = G .levels-long ∙ G .children-long in
       let starts : length (startsFrom 0 (I .children)) ≡ a .k + 1 = omega (arith, starts-long 0 (I .children), G .children-long) in
       let labels = labels-long (a .k) (I .labels) (full (I .children) (a .k) (G .children-long) (I .labels) (S .labelled)) in
-      omega (arith, offsets-last 2 (written 4 (header form1 a)) (sections I) 48 (sym (written-long 4 (header form1 a))))
+      offsets-last w (written 4 (header F a)) (sections I) 48 (sym (written-long 4 (header F a)))
+      ∙ rw (levels, starts, labels)
 
   -- so every number of the header is of 32 bits, and is read again
-  module _ (short : length (encode form1 I) < 2 ^ 31) (few : length (I .labels) < 2 ^ 31) where
-    header-small : Every (λ x. x < 256 ^ 4) (header form1 a)
+  module _ (W : Within F) (short : length (encode F I) < 2 ^ 31) (few : length (I .labels) < 2 ^ 31) where
+    header-small : Every (λ x. x < 256 ^ 4) (header F a)
     header-small =
         let l = yielded-long in
-        (omega arith, (omega arith, (omega arith, (omega arith, (omega arith, (omega arith, (omega arith, (omega arith, (omega arith, (omega arith, (omega arith, (omega arith, tt))))))))))))
+        let n : a .n ≤ w * a .n = count-low w (a .n) (W .width .low) in
+        let k : a .k ≤ w * a .k = count-low w (a .k) (W .width .low) in
+        let c : a .c ≤ w * a .c = count-low w (a .c) (W .width .low) in
+        (omega (arith, W .number), (omega arith, (omega arith, (omega arith, (omega arith, (omega arith, (omega arith, (omega arith, (omega arith, (omega arith, (omega arith, (omega arith, tt))))))))))))
 
-    pub counts-bounded : countsIn (encode form1 I) ≡ a
-    counts-bounded = counts-again form1 I header-small
+    pub counts-bounded : countsIn (encode F I) ≡ a
+    counts-bounded = counts-again F I header-small
 
 -- bytes whose header is right are short
 pub laid-short : {b : List ℕ} {l : Layout} → Laid b l → length b < 2 ^ 31

@@ -1,99 +1,106 @@
 -- What `open` answers and leaves, by where its checks stop; and what bytes are that open.
 use mathlib.Core.Bool.{Bool, true, false, not, cond}
-use mathlib.Core.Path.{_≡_, refl, sym, ap, _∙_}
+use mathlib.Core.Path.{_≡_, sym, ap, _∙_}
 use mathlib.Core.List.{List, [], _∷_, _++_}
 use Prim.Native.Nat.{ℕ, _≤_}
-use lib.Dec.{eqb}
 use lib.ListN.{length}
-use borrow.Author.Tests.{ltb-false, eqb-true, not-false}
+use borrow.Author.Tests.{ltb-false, not-false}
 use Rattle.lineage.specs.Lists.{cleared}
-use Rattle.lineage.specs.Stored.{Form, form1, Counts, headerAt, countsIn, formOf, isForm, countsFit, offsetsFit}
+use Rattle.lineage.specs.Stored.{Form, Counts, headerAt, countsIn, formOf, countsFit, offsetsFit}
 use Rattle.lineage.specs.Sound.{contentsSound}
-use Rattle.lineage.specs.Calls.{Check, Outcome, refused, answered, outcome, formChecks, contentsCheck, openAnswer, openMarks}
+use Rattle.lineage.specs.Calls.{Check, Outcome, refused, answered, outcome, FormsTaken, takes, wordsIn, formChecks, contentsCheck, openAnswer, openMarks, openWork}
 use Rattle.laws.proofs.Tests.{neither}
 use Rattle.stored_header.specs.declared.Layout.{Layout}
 use Rattle.laws.specs.Checks.{Pass, Comes}
-use Rattle.stored_header.specs.Header.{layoutIn, headerChecks, Laid}
-use Rattle.laws.proofs.Checks.{answered-pass, pass-behind, refused-comes, stops-comes}
+use Rattle.stored_header.specs.Header.{layoutIn, wordsOf, headerChecks, Laid}
+use Rattle.laws.proofs.Checks.{stops-outcome, answered-pass, pass-behind, pass-both, refused-comes, rest-comes}
 use Rattle.stored_header.proofs.Checked.{all-right}
-use Rattle.stored_header.proofs.Laid.{width-is, n-is, k-is, c-is, d-is, cleared-in}
-use Rattle.stored_header.proofs.Admitted.{marks-pass, Admits, admitted, admitted-laid}
+use Rattle.stored_header.proofs.Laid.{width-is, n-is, k-is, c-is, d-is, words-are, cleared-in}
+use Rattle.stored_header.proofs.Admitted.{lent-pass, Admits, admitted, admitted-laid}
 use Rattle.open.specs.Yields.{HeaderRight}
 
 -- 15 as code tests it
 pub contents-applies : {b : List ℕ} {l : Layout} {t : Bool} → Laid b l → t ≡ contentsSound (l .width) b → contentsCheck b .applies ≡ not t
 contents-applies {b} L e = ap not (ap (λ (w : ℕ). contentsSound w b) (sym (width-is L)) ∙ sym e)
 
-module _ (b marks : List ℕ) where
+-- the needed words as code has them
+pub words-cleared : {b : List ℕ} {l : Layout} {needed : ℕ} → Laid b l → needed ≡ wordsOf l → (work : List ℕ) {w : List ℕ} → w ≡ cleared needed work
+    → w ≡ cleared (wordsIn b) work
+words-cleared L e work f = f ∙ ap (λ (n : ℕ). cleared n work) (e ∙ words-are L)
+
+module _ (T : FormsTaken) (b marks work : List ℕ) where
+  abbrev early : List Check
+  early = formChecks T b (length marks) (length work)
+
   abbrev late : List Check
   late = contentsCheck b ∷ []
 
-  -- what may be answered, and what marks may hold afterwards
-  abbrev pub Opens : Outcome Counts → List ℕ → Type 0
-  Opens o m = (o ≡ openAnswer b (length marks)) × (m ≡ openMarks b marks)
+  -- what may be answered, and what marks and words may hold afterwards
+  abbrev pub Opens : Outcome Counts → List ℕ → List ℕ → Type 0
+  Opens o m w =
+      (o ≡ openAnswer T b (length marks) (length work)) × ((m ≡ openMarks T b marks (length work)) × (w ≡ openWork T b (length marks) work))
 
   opens-by : {o : Outcome Counts} {kept stops : Bool}
-      → Comes (formChecks b (length marks)) late (countsIn b) o kept stops
-      → Opens o (cond kept marks (cleared (countsIn b .n) marks))
-  unfolding openAnswer openMarks
-  opens-by C = (sym (C .says), rw (C .before))
+      → Comes early late (countsIn b) o kept stops
+      → Opens o (cond kept marks (cleared (countsIn b .n) marks)) (cond kept work (cleared (wordsIn b) work))
+  unfolding openAnswer openMarks openWork
+  opens-by C = (sym (C .says), (rw (C .before), rw (C .before)))
 
-  pub opens-refused : {x y : ℕ} → refused x y ≡ outcome (formChecks b (length marks)) (layoutIn b) → Opens (refused x y) marks
-  opens-refused e = opens-by (refused-comes (countsIn b) (layoutIn b) (formChecks b (length marks)) [] late _ _ (sym e))
+  pub opens-refused : {x y : ℕ} → refused x y ≡ outcome early (layoutIn b) → Opens (refused x y) marks work
+  opens-refused e = opens-by (refused-comes (countsIn b) (layoutIn b) early [] late _ _ (sym e))
 
-  -- t says whether the contents are sound, and the marks are cleared
-  module _ {l : Layout} (A : Admits b (length marks) l) {t : Bool} (told : t ≡ contentsSound (l .width) b) {m : List ℕ} (left : m ≡ cleared (l .n) marks) where
-    abbrev L : Laid b l
-    L = admitted-laid A
+  -- t says whether the contents are sound, and marks and needed words are cleared
+  module _ {l : Layout} (A : Admits T b (length marks) (length work) l)
+      {t : Bool} (told : t ≡ contentsSound (l .width) b)
+      {m : List ℕ} (left : m ≡ cleared (l .n) marks)
+      {needed : ℕ} (need : needed ≡ wordsOf l) {w : List ℕ} (words : w ≡ cleared needed work)
+    where
+      abbrev L : Laid b l
+      L = admitted-laid A
 
-    pub opens-unsound : not t ≡ true → Opens (refused 15 0) m
-    opens-unsound h =
-        let (o, k) = opens-by (stops-comes (countsIn b) (formChecks b (length marks)) [] late 0 (admitted A) (contents-applies L told ∙ h)) in (o, cleared-in L marks left ∙ k)
+      -- behind 6 the check of the contents decides
+      opens-late : {o : Outcome Counts} → outcome late (countsIn b) ≡ o → Opens o m w
+      opens-late e =
+          let (o, (k, v)) = opens-by (rest-comes (countsIn b) early [] late (admitted A) e) in
+          (o, (cleared-in L marks left ∙ k, words-cleared L need work words ∙ v))
 
-    pub opens-sound : not t ≡ false → Opens (answered (record { n = l .n; k = l .k; c = l .c; d = l .d })) m
-    opens-sound h =
-        let (o, k) = opens-by (stops-comes (countsIn b) (formChecks b (length marks)) [] late 1 (admitted A) (contents-applies L told ∙ h, tt)) in
-        (rw (n-is L, k-is L, c-is L, d-is L) o, cleared-in L marks left ∙ k)
+      pub opens-unsound : not t ≡ true → Opens (refused 15 0) m w
+      opens-unsound h = opens-late (stops-outcome (countsIn b) late 0 (contents-applies L told ∙ h))
 
--- every number stands for form 1, the only one there is
-pub form-is : (number : ℕ) → formOf number ≡ form1
-form-is number = at (eqb 1 number)
-  where
-    at : (t : Bool) → cond t form1 form1 ≡ form1
-    at true = refl
-    at false = refl
+      pub opens-sound : not t ≡ false → Opens (answered (record { n = l .n; k = l .k; c = l .c; d = l .d })) m w
+      opens-sound h =
+          let (o, rest) = opens-late (stops-outcome (countsIn b) late 1 (contents-applies L told ∙ h, tt)) in (rw (n-is L, k-is L, c-is L, d-is L) o, rest)
 
-module _ (b : List ℕ) where
+module _ (T : FormsTaken) (b : List ℕ) where
   -- what opens: its header is right, and its contents are sound
-  module _ (m : ℕ) {a : Counts} (e : answered a ≡ openAnswer b m) where
+  module _ (m w : ℕ) {a : Counts} (e : answered a ≡ openAnswer T b m w) where
     abbrev F : Form
     F = formOf (headerAt b 0)
 
-    passed : Pass (formChecks b m ++ (contentsCheck b ∷ []))
+    passed : Pass (formChecks T b m w ++ (contentsCheck b ∷ []))
     unfolding openAnswer
-    passed = answered-pass (countsIn b) (formChecks b m ++ (contentsCheck b ∷ [])) a (sym e)
+    passed = answered-pass (countsIn b) (formChecks T b m w ++ (contentsCheck b ∷ [])) a (sym e)
 
-    pub opened-right : HeaderRight b
+    pub opened-right : HeaderRight T b
     opened-right =
-        let known : isForm (headerAt b 0) ≡ true = not-false (isForm (headerAt b 0)) (passed .1 .0) in
         let fit = neither (countsFit F (countsIn b)) (offsetsFit F (countsIn b) b) (passed .1 .1 .0) in
         record {
           long = ltb-false (length b) 48 (passed .0);
-          form = sym (eqb-true (F .number) (headerAt b 0) known) ∙ ap (λ (G : Form). G .number) (form-is (headerAt b 0));
-          counts = ap (λ (G : Form). countsFit G (countsIn b)) (sym (form-is (headerAt b 0))) ∙ fit .0;
-          offsets = ap (λ (G : Form). offsetsFit G (countsIn b) b) (sym (form-is (headerAt b 0))) ∙ fit .1;
+          taken = not-false (takes T (headerAt b 0)) (passed .1 .0);
+          counts = fit .0;
+          offsets = fit .1;
         }
 
     pub opened-contents : contentsSound (F .width) b ≡ true
-    opened-contents = not-false (contentsSound (F .width) b) (pass-behind (formChecks b m) (contentsCheck b ∷ []) passed .0)
+    opened-contents = not-false (contentsSound (F .width) b) (pass-behind (formChecks T b m w) (contentsCheck b ∷ []) passed .0)
 
-  -- a header that is right passes; with sound contents the bytes open
-  pub right-passes : HeaderRight b → Pass (headerChecks b)
-  right-passes R =
-      all-right b (R .long) (ap isForm (R .form))
-      (ap (λ (G : Form). countsFit G (countsIn b)) (form-is (headerAt b 0)) ∙ R .counts)
-      (ap (λ (G : Form). offsetsFit G (countsIn b) b) (form-is (headerAt b 0)) ∙ R .offsets)
+  -- a header that is right passes; with sound contents, and marks and words that suffice, the bytes open
+  pub right-passes : HeaderRight T b → Pass (headerChecks T b)
+  right-passes R = all-right T b (R .long) (R .taken) (R .counts) (R .offsets)
 
-  pub passed-opens : Pass (headerChecks b) → (m : ℕ) → countsIn b .n ≤ m → contentsSound (formOf (headerAt b 0) .width) b ≡ true → answered (countsIn b) ≡ openAnswer b m
+  pub passed-opens : Pass (headerChecks T b) → (m w : ℕ) → countsIn b .n ≤ m → wordsIn b ≤ w → contentsSound (formOf (headerAt b 0) .width) b ≡ true
+      → answered (countsIn b) ≡ openAnswer T b m w
   unfolding openAnswer
-  passed-opens p m h s = sym (stops-comes (countsIn b) (formChecks b m) [] (contentsCheck b ∷ []) 1 (marks-pass b m p h) (ap not s, tt) .says)
+  passed-opens p m w h i s =
+      let late : List Check = contentsCheck b ∷ [] in
+      sym (stops-outcome (countsIn b) (formChecks T b m w ++ late) 6 (pass-both (formChecks T b m w) late (lent-pass T b m w p h i) (ap not s, tt)))

@@ -1,19 +1,19 @@
 -- What some edge list and orders yield within a form's bounds fits the form, and its bytes open.
-use mathlib.Core.Bool.{true, _&&_}
-use mathlib.Core.Path.{_≡_, refl, sym, ap, ap₂, _∙_}
+use mathlib.Core.Bool.{Bool, true, false, _&&_, cond}
+use mathlib.Core.Path.{_≡_, refl, sym, ap, ap₂, subst⁻¹, _∙_}
 use mathlib.Core.List.{List, [], _∷_}
 use Prim.Native.Nat.{ℕ, _^_, _≤_, _<_}
 use native.Mathlib.Omega.{arith}
-use lib.Dec.{leb}
+use lib.Dec.{eqb, leb}
 use lib.ListN.{length, length-map}
 use borrow.Author.Tests.{leb-true, le-leb}
 use Rattle.lineage.specs.Lists.{Every}
 use Rattle.lineage.specs.Graph.{Graph, Ends, namesOf, condense, levelsOf}
 use Rattle.lineage.specs.Labels.{Order, Labelling, labelling}
 use Rattle.lineage.specs.Index.{Index, indexBy, indexOf}
-use Rattle.lineage.specs.Stored.{Form, form1, Counts, countsOf, countsFit, encode, headerAt, countsIn, formOf, section, mostLabellings}
+use Rattle.lineage.specs.Stored.{Form, form1, form2, forms, formFrom, Counts, countsOf, countsFit, encode, headerAt, countsIn, formOf, section, mostLabellings}
 use Rattle.lineage.specs.Sound.{startsPass, sound, contentsSound}
-use Rattle.lineage.specs.Calls.{answered, openAnswer}
+use Rattle.lineage.specs.Calls.{answered, FormsTaken, takes, wordsFor, wordsIn, openAnswer}
 use Rattle.laws.specs.Sound.{SoundLabelling, Sound}
 use Rattle.laws.proofs.Tests.{and-both, both}
 use Rattle.laws.proofs.Names.{names-long}
@@ -26,30 +26,49 @@ use Rattle.open.proofs.Starts.{starts-read}
 use Rattle.open.proofs.Small.{groups-few, sections-small}
 use Rattle.open.proofs.Entries.{entries-few}
 
--- a form of the table, whose width holds its bounds
+-- a form of the table, whose width holds its bounds, and which takes no more edges than child entries
 pub record Wide (F : Form) : Type 0 where
   pub known : formOf (F .number) ≡ F
   pub vertices : F .vertices < 256 ^ F .width
   pub entries : F .entries < 256 ^ F .width
+  pub edges : F .edges ≤ F .entries
 
-pub form1-wide : Wide form1
-form1-wide = record { known = refl; vertices = omega arith; entries = omega arith }
+form1-wide : Wide form1
+form1-wide = record { known = refl; vertices = omega arith; entries = omega arith; edges = omega arith }
+
+form2-wide : Wide form2
+form2-wide = record { known = refl; vertices = omega arith; entries = omega arith; edges = omega arith }
+
+forms-wide : Every Wide forms
+forms-wide = (form1-wide, (form2-wide, tt))
+
+from-wide : (Fs : List Form) (number : ℕ) → Every Wide Fs → Wide (formFrom Fs number)
+from-wide [] number h = form1-wide
+from-wide (F ∷ Fs) number h = at (eqb (F .number) number) (from-wide Fs number (h .1))
+  where
+    at : (t : Bool) → Wide (formFrom Fs number) → Wide (cond t F (formFrom Fs number))
+    at true rest = h .0
+    at false rest = rest
+
+-- every number stands for such a form
+pub form-wide : (number : ℕ) → Wide (formOf number)
+form-wide number = from-wide forms number forms-wide
 
 -- accepted input keeps the bounds: there are no more groups than vertices, and no more child entries than edges
-pub bounds-kept : (F : Form) (G : Graph) → Ends G → (orders : List (List ℕ)) → Every (Order (G .n)) orders
+pub bounds-kept : {F : Form} → Wide F → (G : Graph) → Ends G → (orders : List (List ℕ)) → Every (Order (G .n)) orders
     → G .n ≤ F .vertices
-    → length (G .sources) ≤ F .entries
+    → length (G .sources) ≤ F .edges
     → 1 ≤ length orders
     → length orders ≤ mostLabellings
     → countsFit F (countsOf (indexOf G orders)) ≡ true
 unfolding indexOf indexBy condense
-bounds-kept F G ends orders permuted vertices edges least most =
+bounds-kept {F} W G ends orders permuted vertices edges least most =
     let a : Counts = countsOf (indexOf G orders) in
     let n : a .n ≡ G .n = names-long G ends in
     let d : a .d ≡ length orders = length-map orders (labelling (indexOf G orders .groups) (indexOf G orders .children)) in
     and-both (le-leb (a .n) (F .vertices) (omega arith))
     (and-both (le-leb (a .k) (a .n) (groups-few (made-sound G ends orders permuted)))
-    (and-both (le-leb (a .c) (F .entries) (omega (arith, entries-few G (namesOf G))))
+    (and-both (le-leb (a .c) (F .entries) (omega (arith, entries-few G (namesOf G), W .edges)))
     (and-both (le-leb 1 (a .d) (omega arith)) (le-leb (a .d) 5 (omega arith)))))
 
 -- each labelling has its k entries
@@ -95,8 +114,11 @@ module _ {F : Form} {I : Index} (E : Fits F I) (passes : sound I ≡ true) where
   abbrev b : List ℕ
   b = encode F I
 
+  number-again : headerAt b 0 ≡ F .number
+  number-again = header-read E 0 (omega arith)
+
   form-again : formOf (headerAt b 0) ≡ F
-  form-again = ap formOf (header-read E 0 (omega arith)) ∙ E .known
+  form-again = ap formOf number-again ∙ E .known
 
   contents-again : contentsSound (F .width) b ≡ true
   unfolding contentsSound
@@ -106,8 +128,20 @@ module _ {F : Form} {I : Index} (E : Fits F I) (passes : sound I ≡ true) where
       ∙ ap₂ (λ (s : List ℕ) (k : ℕ). startsPass s k (a .c) && sound I) (starts-read E) (sym (E .children))
       ∙ rw (starts-pass (I .children)) passes
 
-  pub fits-opens : (marks : ℕ) → length (I .names) ≤ marks → answered (countsOf I) ≡ openAnswer b marks
-  fits-opens marks h =
-      let n : countsIn b .n ≡ length (I .names) = ap (λ (a : Counts). a .n) (counts-read E) in
-      ap answered (sym (counts-read E))
-      ∙ passed-opens b (encode-passes E) marks (omega arith) (ap (λ (G : Form). contentsSound (G .width) b) form-again ∙ contents-again)
+  words-again : wordsIn b ≡ wordsFor (F .width) (countsOf I)
+  words-again = ap₂ (λ (G : Form) (a : Counts). wordsFor (G .width) a) form-again (counts-read E)
+
+  module _ (T : FormsTaken) (marks work : ℕ) where
+    -- told from the bytes
+    pub encoded-opens : takes T (headerAt b 0) ≡ true → countsIn b .n ≤ marks → wordsIn b ≤ work → answered (countsIn b) ≡ openAnswer T b marks work
+    encoded-opens taken room words =
+        passed-opens T b (encode-passes E T (sym (ap (takes T) number-again) ∙ taken)) marks work room words (ap (λ (G : Form). contentsSound (G .width) b) form-again ∙ contents-again)
+
+    -- and from the index
+    pub fits-opens : takes T (F .number) ≡ true → length (I .names) ≤ marks → wordsFor (F .width) (countsOf I) ≤ work
+        → answered (countsOf I) ≡ openAnswer T b marks work
+    fits-opens taken room words =
+        ap answered (sym (counts-read E))
+        ∙ encoded-opens (ap (takes T) number-again ∙ taken)
+        (omega (arith, ap (λ (a : Counts). a .n) (counts-read E)))
+        (subst⁻¹ (λ (x : ℕ). x ≤ work) words-again words)

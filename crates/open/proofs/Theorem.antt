@@ -12,9 +12,9 @@ use Rattle.lineage.specs.Lists.{joined, Every}
 use Rattle.lineage.specs.Graph.{Graph, Ends}
 use Rattle.lineage.specs.Labels.{Order, labelling}
 use Rattle.lineage.specs.Index.{Index, indexBy, indexOf, Made}
-use Rattle.lineage.specs.Stored.{Form, form1, Counts, countsOf, countsFit, encode, headerAt, countsIn, formOf, stretch, section, labellingAt, decode, mostLabellings}
+use Rattle.lineage.specs.Stored.{Form, Counts, countsOf, countsFit, encode, headerAt, countsIn, formOf, stretch, section, labellingAt, decode, mostLabellings}
 use Rattle.lineage.specs.Sound.{startsPass, sound, contentsSound}
-use Rattle.lineage.specs.Calls.{answered, openAnswer, openMarks, indexIn}
+use Rattle.lineage.specs.Calls.{answered, FormsTaken, takes, wordsFor, wordsIn, openAnswer, openMarks, openWork, indexIn}
 use Rattle.laws.proofs.Sound.{made-sound, sound-is-made, made-long}
 use Rattle.laws.proofs.Decides.{sound-decides}
 use Rattle.laws.proofs.Lists.{table-long}
@@ -23,16 +23,17 @@ use Rattle.laws.proofs.Starts.{pass-laid, rows-joined}
 use Rattle.numbers.proofs.Numbers.{numbers-long}
 use Rattle.numbers.proofs.Written.{Bytes}
 use Rattle.stored.specs.Fits.{Fits}
+use Rattle.stored_header.proofs.Forms.{form-within}
 use Rattle.stored_header.proofs.Laid.{header-laid}
 use Rattle.stored.proofs.Encoded.{counts-read}
 use Rattle.stored.proofs.Decoded.{encode-decode}
 use Rattle.open.specs.Yields.{Yields, HeaderRight}
-use Rattle.open.proofs.Checks.{form-is, opened-right, opened-contents, right-passes}
+use Rattle.open.proofs.Checks.{opened-right, opened-contents, right-passes}
 use Rattle.open.specs.declared.Opened.{Opened}
 use Rattle.open.specs.declared.Opened.the-variants.{Index as IndexOf, Refused}
 use Rattle.open.specs.Opened.{openedOf}
 use Rattle.open.proofs.Bounds.{counts-bounded, laid-short}
-use Rattle.open.proofs.Fits.{form1-wide, bounds-kept, yielded-fits, fits-opens}
+use Rattle.open.proofs.Fits.{Wide, form-wide, bounds-kept, yielded-fits, encoded-opens, fits-opens}
 
 -- the counts of the index that bytes hold are the header's, where the child starts pass
 counts-are : (w : ℕ) (b : List ℕ) → startsPass (section w (countsIn b) b 3) (countsIn b .k) (countsIn b .c) ≡ true → countsOf (decode w b) ≡ countsIn b
@@ -46,13 +47,13 @@ counts-are w b t =
     rw (numbers-long w (stretch w a b 0) (a .n), numbers-long w (stretch w a b 1) (a .k), c, d)
 
 -- What opens.
-module _ (b : List ℕ) (marks : ℕ) {a : Counts} (e : answered a ≡ openAnswer b marks) where
+module _ (T : FormsTaken) (b : List ℕ) (marks work : ℕ) {a : Counts} (e : answered a ≡ openAnswer T b marks work) where
   abbrev F : Form
   F = formOf (headerAt b 0)
 
   tests : (startsPass (section (F .width) (countsIn b) b 3) (countsIn b .k) (countsIn b .c) ≡ true) × (sound (indexIn b) ≡ true)
   unfolding contentsSound
-  tests = both _ _ (opened-contents b marks e)
+  tests = both _ _ (opened-contents T b marks work e)
 
   -- it holds the names, group list, levels, children and labels of some graph under some orders
   pub opened-made : Made (indexIn b)
@@ -61,20 +62,20 @@ module _ (b : List ℕ) (marks : ℕ) {a : Counts} (e : answered a ≡ openAnswe
   opened-counts : countsOf (indexOf (opened-made .graph) (opened-made .orders)) ≡ countsIn b
   opened-counts = ap countsOf (opened-made .yields) ∙ counts-are (F .width) b (tests .0)
 
-  opened-yields : Bytes b → Yields form1 b
+  opened-yields : Bytes b → Yields F b
   opened-yields small =
       let M : Made (indexIn b) = opened-made in
-      let laid = header-laid b (right-passes b (opened-right b marks e)) in
+      let laid = header-laid b T (right-passes T b (opened-right T b marks work e)) in
       record {
         graph = M .graph;
         ends = M .ends;
         orders = M .orders;
         permuted = M .permuted;
-        bytes = ap₂ encode (sym (form-is (headerAt b 0))) (M .yields) ∙ encode-decode laid small (tests .0);
+        bytes = ap (encode F) (M .yields) ∙ encode-decode laid small (tests .0);
       }
 
 -- What is yielded.
-module _ {b : List ℕ} (Y : Yields form1 b) where
+module _ {F : Form} {b : List ℕ} (Y : Yields F b) where
   abbrev I : Index
   I = indexOf (Y .graph) (Y .orders)
 
@@ -86,66 +87,82 @@ module _ {b : List ℕ} (Y : Yields form1 b) where
   unfolding indexOf indexBy
   labellings = length-map (Y .orders) (labelling (I .groups) (I .children))
 
-  yields-open : countsFit form1 (countsOf I) ≡ true → (marks : ℕ) → countsIn b .n ≤ marks → answered (countsIn b) ≡ openAnswer b marks
-  yields-open bounds marks room =
-      let E : Fits form1 I = yielded-fits form1-wide (Y .graph) (Y .ends) (Y .orders) (Y .permuted) bounds in
-      let n : countsIn b .n ≡ length (I .names) = ap (λ (z : List ℕ). countsIn z .n) (sym (Y .bytes)) ∙ ap (λ (z : Counts). z .n) (counts-read E) in
-      ap (λ (z : List ℕ). answered (countsIn z)) (sym (Y .bytes))
-      ∙ ap answered (counts-read E)
-      ∙ fits-opens E passes marks (omega arith)
-      ∙ ap (λ (z : List ℕ). openAnswer z marks) (Y .bytes)
+  yields-open : Wide F → countsFit F (countsOf I) ≡ true → (T : FormsTaken) (marks work : ℕ)
+      → takes T (headerAt b 0) ≡ true
+      → countsIn b .n ≤ marks
+      → wordsIn b ≤ work
+      → answered (countsIn b) ≡ openAnswer T b marks work
+  yields-open W bounds T marks work =
+      subst (λ (z : List ℕ). takes T (headerAt z 0) ≡ true → countsIn z .n ≤ marks → wordsIn z ≤ work → answered (countsIn z) ≡ openAnswer T z marks work) (Y .bytes)
+      (encoded-opens (yielded-fits W (Y .graph) (Y .ends) (Y .orders) (Y .permuted) bounds) passes T marks work)
+
+-- Any forms, and bytes with the form that they name.
+module _ (T : FormsTaken) (b : List ℕ) where
+  abbrev own : Form
+  own = formOf (headerAt b 0)
 
   -- the header's counts are the index's
-  counts-right : HeaderRight b → length (Y .orders) ≡ countsIn b .d → countsFit form1 (countsOf I) ≡ true
-  counts-right R d =
-      let L = header-laid b (right-passes b R) in
-      let short : length (encode form1 I) < 2 ^ 31 = subst (λ (z : List ℕ). length z < 2 ^ 31) (sym (Y .bytes)) (laid-short L) in
-      let counts = counts-bounded (made-sound (Y .graph) (Y .ends) (Y .orders) (Y .permuted)) short (omega (arith, labellings, L .most)) in
-      ap (countsFit form1) (sym counts ∙ ap countsIn (Y .bytes)) ∙ R .counts
+  counts-right : (Y : Yields own b) → HeaderRight T b → length (Y .orders) ≡ countsIn b .d
+      → countsFit own (countsOf (indexOf (Y .graph) (Y .orders))) ≡ true
+  counts-right Y R d =
+      let L = header-laid b T (right-passes T b R) in
+      let short : length (encode own (indexOf (Y .graph) (Y .orders))) < 2 ^ 31 = subst (λ (z : List ℕ). length z < 2 ^ 31) (sym (Y .bytes)) (laid-short L) in
+      let S = made-sound (Y .graph) (Y .ends) (Y .orders) (Y .permuted) in
+      let counts = counts-bounded own S (form-within (headerAt b 0)) short (omega (arith, labellings Y, L .most)) in
+      ap (countsFit own) (sym counts ∙ ap countsIn (Y .bytes)) ∙ R .counts
 
--- bytes open exactly where their header is right for form 1 and some edge list, of any length, and d orders yield exactly these bytes
-pub opens-exactly : (b : List ℕ) (marks : ℕ) → Bytes b → countsIn b .n ≤ marks
-    → (openAnswer b marks ≡ answered (countsIn b)) ↔ (HeaderRight b × ((Y : Yields form1 b) × (length (Y .orders) ≡ countsIn b .d)))
-unfolding opened-yields
-opens-exactly b marks small room = (
-  (λ e.
-      (opened-right b marks (sym e), (opened-yields b marks (sym e) small, sym (labellings (opened-yields b marks (sym e) small)) ∙ ap (λ (a : Counts). a .d) (opened-counts b marks (sym e))))),
-  λ (R, (Y, d)). sym (yields-open Y (counts-right Y R d) marks room),
-)
+  -- with marks and words that suffice
+  module _ (marks work : ℕ) (small : Bytes b) (room : countsIn b .n ≤ marks) (words : wordsIn b ≤ work) where
+    -- bytes open exactly where their header is right for a form that is taken and some edge list, of any length, and d orders yield exactly these bytes
+    pub opens-exactly :
+        (openAnswer T b marks work ≡ answered (countsIn b)) ↔ (HeaderRight T b × ((Y : Yields own b) × (length (Y .orders) ≡ countsIn b .d)))
+    unfolding opened-yields
+    opens-exactly = (
+      (λ e.
+          let Y = opened-yields T b marks work (sym e) small in
+          (opened-right T b marks work (sym e), (Y, sym (labellings Y) ∙ ap (λ (a : Counts). a .d) (opened-counts T b marks work (sym e))))),
+      λ (R, (Y, d)). sym (yields-open Y (form-wide (headerAt b 0)) (counts-right Y R d) T marks work (R .taken) room words),
+    )
 
--- the same by the counts of what is yielded: n, c and d are within form 1's bounds
-pub opens-within : (b : List ℕ) (marks : ℕ) → Bytes b → countsIn b .n ≤ marks
-    → (openAnswer b marks ≡ answered (countsIn b)) ↔ ((Y : Yields form1 b) × (countsFit form1 (countsOf (indexOf (Y .graph) (Y .orders))) ≡ true))
-unfolding opened-yields
-opens-within b marks small room = (
-  (λ e. (opened-yields b marks (sym e) small, ap (countsFit form1) (opened-counts b marks (sym e)) ∙ opened-right b marks (sym e) .counts)),
-  λ (Y, bounds). sym (yields-open Y bounds marks room),
-)
+    -- the same by the counts of what is yielded: n, c and d are within the form's bounds
+    pub opens-within :
+        (openAnswer T b marks work ≡ answered (countsIn b))
+        ↔ ((takes T (headerAt b 0) ≡ true) × ((Y : Yields own b) × (countsFit own (countsOf (indexOf (Y .graph) (Y .orders))) ≡ true)))
+    unfolding opened-yields
+    opens-within = (
+      (λ e.
+          let R = opened-right T b marks work (sym e) in
+          (R .taken, (opened-yields T b marks work (sym e) small, ap (countsFit own) (opened-counts T b marks work (sym e)) ∙ R .counts))),
+      λ (taken, (Y, bounds)). sym (yields-open Y (form-wide (headerAt b 0)) bounds T marks work taken room words),
+    )
 
--- and so of the code: whatever answer its contract allows
-pub accepts-exactly : (b : List ℕ) (marks : ℕ) → Bytes b → countsIn b .n ≤ marks → (r : Opened) → openedOf r ≡ openAnswer b marks
-    → (openedOf r ≡ answered (countsIn b)) ↔ (HeaderRight b × ((Y : Yields form1 b) × (length (Y .orders) ≡ countsIn b .d)))
-accepts-exactly b marks small room r e = rw e (opens-exactly b marks small room)
+    -- and so of the code: whatever answer its contract allows
+    pub accepts-exactly : (r : Opened) → openedOf r ≡ openAnswer T b marks work
+        → (openedOf r ≡ answered (countsIn b)) ↔ (HeaderRight T b × ((Y : Yields own b) × (length (Y .orders) ≡ countsIn b .d)))
+    accepts-exactly r e = rw e opens-exactly
 
--- what a build of accepted input stores opens
-pub built-opens : (G : Graph) → Ends G → (orders : List (List ℕ)) → Every (Order (G .n)) orders
-    → G .n ≤ 4096
-    → length (G .sources) ≤ 16384
+-- what a build of accepted input stores at any form of the table opens, where that form is taken
+pub built-opens : {F : Form} → Wide F → (G : Graph) → Ends G → (orders : List (List ℕ)) → Every (Order (G .n)) orders
+    → G .n ≤ F .vertices
+    → length (G .sources) ≤ F .edges
     → 1 ≤ length orders
     → length orders ≤ mostLabellings
-    → (marks : ℕ)
+    → (T : FormsTaken) (marks work : ℕ)
+    → takes T (F .number) ≡ true
     → G .n ≤ marks
-    → openAnswer (encode form1 (indexOf G orders)) marks ≡ answered (countsOf (indexOf G orders))
-built-opens G ends orders permuted vertices edges least most marks room =
-    let bounds = bounds-kept form1 G ends orders permuted vertices edges least most in
+    → wordsFor (F .width) (countsOf (indexOf G orders)) ≤ work
+    → openAnswer T (encode F (indexOf G orders)) marks work ≡ answered (countsOf (indexOf G orders))
+built-opens W G ends orders permuted vertices edges least most T marks work taken room words =
+    let bounds = bounds-kept W G ends orders permuted vertices edges least most in
     let passes = sound-decides (indexOf G orders) .1 (made-sound G ends orders permuted) in
     let n = made-long (record { graph = G; ends = ends; orders = orders; permuted = permuted; yields = refl }) in
-    sym (fits-opens (yielded-fits form1-wide G ends orders permuted bounds) passes marks (omega arith))
+    sym (fits-opens (yielded-fits W G ends orders permuted bounds) passes T marks work taken (omega arith) words)
 
--- What `open` may answer and leave, by its contract: two results are equal.
-pub record Allowed (b marks : List ℕ) (r : Opened) (m : List ℕ) : Type 0 where
-  pub answers : openedOf r ≡ openAnswer b (length marks)
-  pub leaves : m ≡ openMarks b marks
+-- What opening may answer and leave, by its contract: two results are equal.
+pub record Allowed (T : FormsTaken) (b marks work : List ℕ) (r : Opened) (m w : List ℕ) : Type 0 where
+  pub answers : openedOf r ≡ openAnswer T b (length marks) (length work)
+  pub leaves : m ≡ openMarks T b marks (length work)
+  pub clears : w ≡ openWork T b (length marks) work
 
 opened-one : (r r' : Opened) → openedOf r ≡ openedOf r' → r ≡ r'
 opened-one (IndexOf n k c d) (IndexOf n' k' c' d') e =
@@ -159,5 +176,8 @@ opened-one (IndexOf n k c d) (Refused number extra) e = cc
 opened-one (Refused number extra) (IndexOf n k c d) e = cc
 opened-one (Refused number extra) (Refused number' extra') e = cc
 
-pub opened-once : {b marks : List ℕ} {r r' : Opened} {m m' : List ℕ} → Allowed b marks r m → Allowed b marks r' m' → (r ≡ r') × (m ≡ m')
-opened-once A B = (opened-one _ _ (A .answers ∙ sym (B .answers)), A .leaves ∙ sym (B .leaves))
+pub opened-once : {T : FormsTaken} {b marks work : List ℕ} {r r' : Opened} {m m' w w' : List ℕ}
+    → Allowed T b marks work r m w
+    → Allowed T b marks work r' m' w'
+    → (r ≡ r') × ((m ≡ m') × (w ≡ w'))
+opened-once A B = (opened-one _ _ (A .answers ∙ sym (B .answers)), (A .leaves ∙ sym (B .leaves), A .clears ∙ sym (B .clears)))

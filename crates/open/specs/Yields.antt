@@ -8,7 +8,8 @@ use Rattle.lineage.specs.Lists.{Every}
 use Rattle.lineage.specs.Graph.{Graph, Ends}
 use Rattle.lineage.specs.Labels.{Order}
 use Rattle.lineage.specs.Index.{indexOf}
-use Rattle.lineage.specs.Stored.{Form, form1, headerLength, countsFit, offsetsFit, encode, headerAt, countsIn}
+use Rattle.lineage.specs.Stored.{Form, formOf, headerLength, countsFit, offsetsFit, encode, headerAt, countsIn}
+use Rattle.lineage.specs.Calls.{FormsTaken, takes}
 
 -- some edge list, of any length, and some orders yield exactly these bytes of a form
 pub record Yields (F : Form) (b : List ℕ) : Type 0 where
@@ -18,9 +19,9 @@ pub record Yields (F : Form) (b : List ℕ) : Type 0 where
   pub permuted : Every (Order (graph .n)) orders
   pub bytes : encode F (indexOf graph orders) ≡ b
 
--- the header is right for form 1: none of 10, 11 and 12 applies
-pub record HeaderRight (b : List ℕ) : Type 0 where
+-- the header is right for its form, which is taken: none of 10, 11 and 12 applies
+pub record HeaderRight (T : FormsTaken) (b : List ℕ) : Type 0 where
   pub long : headerLength ≤ length b
-  pub form : headerAt b 0 ≡ 1
-  pub counts : countsFit form1 (countsIn b) ≡ true
-  pub offsets : offsetsFit form1 (countsIn b) b ≡ true
+  pub taken : takes T (headerAt b 0) ≡ true
+  pub counts : countsFit (formOf (headerAt b 0)) (countsIn b) ≡ true
+  pub offsets : offsetsFit (formOf (headerAt b 0)) (countsIn b) b ≡ true

@@ -6,17 +6,19 @@ ghost use lib.ListN.{length};
 ghost use Rattle.lineage.specs.Lists.{cleared};
 ghost use Rattle.lineage.specs.Numbers.{numbers};
 ghost use Rattle.lineage.specs.Sound.{startsPass, sound, contentsSound};
-ghost use Rattle.lineage.specs.Calls.{openAnswer, openMarks};
+ghost use Rattle.lineage.specs.Calls.{formsTaken, host, ordinary, openAnswer, openMarks, openWork};
 ghost use Rattle.stored_header.specs.Header.{Laid};
 ghost use Rattle.stored.specs.Sections.{indexFrom};
 ghost use Rattle.open.specs.Parts.{Parts};
 ghost use Rattle.open.specs.Opened.{openedOf};
 use numbers::clear_marks;
+use numbers::clear_words;
 use refusals::NOT_SOUND;
 use sound_groups::groups_pass;
 use sound_labels::labels_sound;
 use stored_header::Header;
 use stored_header::Layout;
+use stored_header::words_needed;
 
 // An index's counts, or a refusal with its number and its extra number.
 pub enum Opened {
@@ -76,16 +78,24 @@ pub fn contents_sound(index: &[u8], l: Layout, marks: &mut [u8]) -> bool
     )
 }
 
-// Opens a stored index: refusals 10, 11, 12, 13 and 15 in order, or its counts. Marks below n are 0 after 15 and after success; the refusals before leave them
-// as they were.
-pub fn open(index: &[u8], marks: &mut [u8]) -> Opened
-    ensures { λ r. ⌜ openedOf r ≡ openAnswer (now (index .entry)) (length (now (marks .entry))) ⌝ }
-    ensures { λ _. ⌜ now (marks .exit) ≡ openMarks (now (index .entry)) (now (marks .entry)) ⌝ }
+// Opens a stored index of a form from `least` to `most`: refusals 10, 11, 12, 13, 6 and 15 in order, or its counts. Marks below n and the needed words are 0 after
+// 15 and after success; the refusals before leave them as they were.
+pub fn open_taking(
+    least: usize,
+    most: usize,
+    index: &[u8],
+    marks: &mut [u8],
+    work: &mut [u32],
+) -> Opened
+    ensures { λ r. ⌜ openedOf r ≡ openAnswer (formsTaken least most) (now (index .entry)) (length (now (marks .entry))) (length (now (work .entry))) ⌝ }
+    ensures { λ _. ⌜ now (marks .exit) ≡ openMarks (formsTaken least most) (now (index .entry)) (now (marks .entry)) (length (now (work .entry))) ⌝ }
+    ensures { λ _. ⌜ now (work .exit) ≡ openWork (formsTaken least most) (now (index .entry)) (length (now (marks .entry))) (now (work .entry)) ⌝ }
 {
-    let l = match stored_header::admit(index, marks.len()) {
+    let l = match stored_header::admit(least, most, index, marks.len(), work.len()) {
         Header::Refused { number, extra } => return Opened::Refused { number, extra },
         Header::Passed(l) => l,
     };
+    clear_words(work, words_needed(l));
     if !contents_sound(index, l, marks) {
         return Opened::Refused {
             number: NOT_SOUND,
@@ -98,4 +108,22 @@ pub fn open(index: &[u8], marks: &mut [u8]) -> Opened
         c: l.c as u32,
         d: l.d as u32,
     }
+}
+
+// Opens a stored index of form 1 or 2.
+pub fn open(index: &[u8], marks: &mut [u8], work: &mut [u32]) -> Opened
+    ensures { λ r. ⌜ openedOf r ≡ openAnswer ordinary (now (index .entry)) (length (now (marks .entry))) (length (now (work .entry))) ⌝ }
+    ensures { λ _. ⌜ now (marks .exit) ≡ openMarks ordinary (now (index .entry)) (now (marks .entry)) (length (now (work .entry))) ⌝ }
+    ensures { λ _. ⌜ now (work .exit) ≡ openWork ordinary (now (index .entry)) (length (now (marks .entry))) (now (work .entry)) ⌝ }
+{
+    open_taking(1, 2, index, marks, work)
+}
+
+// Opens a stored index of form 1, which needs no words.
+pub fn open_form1(index: &[u8], marks: &mut [u8]) -> Opened
+    ensures { λ r. ⌜ openedOf r ≡ openAnswer host (now (index .entry)) (length (now (marks .entry))) 0 ⌝ }
+    ensures { λ _. ⌜ now (marks .exit) ≡ openMarks host (now (index .entry)) (now (marks .entry)) 0 ⌝ }
+{
+    let mut none = [0u32; 0];
+    open_taking(1, 1, index, marks, &mut none)
 }

@@ -12,7 +12,7 @@ use Rattle.lineage.specs.Numbers.{numbers, written}
 use Rattle.lineage.specs.Labels.{Labelling}
 use Rattle.lineage.specs.Index.{Index}
 use Rattle.lineage.specs.Stored.{Form, Counts, sizes, offsets, offsetsFrom, totalLength, sections, startsFrom, countsOf, header, encode, headerAt, countsIn, formOf, isForm, countsFit, offsetsFit, stretch, section, rowAt, labellingAt, decode}
-use Rattle.lineage.specs.Calls.{indexIn}
+use Rattle.lineage.specs.Calls.{FormsTaken, takes, indexIn}
 use Rattle.laws.proofs.Lists.{getD-mapped, same-self}
 use Rattle.laws.proofs.Every.{every-at}
 use Rattle.laws.proofs.Starts.{starts-long, rows-read}
@@ -23,7 +23,7 @@ use Rattle.stored_header.specs.Header.{layoutIn, offsetsIn, headerChecks, Laid}
 use Rattle.stored.specs.Fits.{Fits}
 use Rattle.stored_header.proofs.Forms.{Within, form-within}
 use Rattle.stored_header.proofs.Checked.{all-right}
-use Rattle.stored_header.proofs.Laid.{Bounded, fit-bounds, header-laid}
+use Rattle.stored_header.proofs.Laid.{Bounded, fit-bounds, right-laid}
 use Rattle.stored.proofs.LabelNumbers.{labels-long, labels-read}
 use Rattle.stored.proofs.Offsets.{lengths, offsets-part, offsets-last}
 
@@ -155,16 +155,22 @@ module _ {F : Form} {I : Index} (E : Fits F I) where
       (ap (λ (z : List ℕ). sameList z o) offsets-read ∙ same-self o)
       (eq-eqb (length (encode F I)) (totalLength (F .width) (a .n) (a .k) (a .c) (a .d)) encode-long)
 
-  pub encode-passes : Pass (headerChecks (encode F I))
-  encode-passes =
-      all-right (encode F I)
-      (omega (arith, encode-long))
-      (ap isForm (header-read 0 (omega arith)) ∙ eq-eqb (formOf (F .number) .number) (F .number) (ap (λ (G : Form). G .number) (E .known)))
-      (ap₂ countsFit form-read counts-read ∙ E .counts)
-      (ap₂ (λ (G : Form) (z : Counts). offsetsFit G z (encode F I)) form-read counts-read ∙ offsets-fit)
+  known-read : isForm (headerAt (encode F I) 0) ≡ true
+  known-read = ap isForm (header-read 0 (omega arith)) ∙ eq-eqb (formOf (F .number) .number) (F .number) (ap (λ (G : Form). G .number) (E .known))
+
+  counts-fit : countsFit (formOf (headerAt (encode F I) 0)) (countsIn (encode F I)) ≡ true
+  counts-fit = ap₂ countsFit form-read counts-read ∙ E .counts
+
+  offsets-right : offsetsFit (formOf (headerAt (encode F I) 0)) (countsIn (encode F I)) (encode F I) ≡ true
+  offsets-right = ap₂ (λ (G : Form) (z : Counts). offsetsFit G z (encode F I)) form-read counts-read ∙ offsets-fit
+
+  -- in a call that takes the form
+  pub encode-passes : (T : FormsTaken) → takes T (F .number) ≡ true → Pass (headerChecks T (encode F I))
+  encode-passes T taken =
+      all-right T (encode F I) (omega (arith, encode-long)) (ap (takes T) (header-read 0 (omega arith)) ∙ taken) counts-fit offsets-right
 
   pub encode-laid : Laid (encode F I) (layoutIn (encode F I))
-  encode-laid = header-laid (encode F I) encode-passes
+  encode-laid = right-laid (encode F I) known-read counts-fit offsets-right
 
   -- the bytes hold the index
   pub index-encode : indexIn (encode F I) ≡ I

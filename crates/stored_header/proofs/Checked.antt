@@ -1,6 +1,6 @@
--- Which of the checks 10 to 13 decides, of a header as code reads it.
+-- Which of the checks 10 to 13 and 6 decides, of a header as code reads it.
 use mathlib.Core.Bool.{Bool, true, false, not, _||_, _&&_, and-true}
-use mathlib.Core.Path.{_≡_, sym, ap, ap₂, subst⁻¹, _∙_}
+use mathlib.Core.Path.{_≡_, sym, ap, ap₂, subst, subst⁻¹, _∙_}
 use mathlib.Core.List.{List}
 use Prim.Native.Nat.{ℕ, _+_, _*_, _≤_, _<_}
 use native.Mathlib.Omega.{arith}
@@ -8,13 +8,13 @@ use lib.Dec.{eqb, leb, ltb}
 use lib.ListN.{length}
 use borrow.Author.Tests.{lt-ltb, le-ltb}
 use Rattle.lineage.specs.Numbers.{Width}
-use Rattle.lineage.specs.Stored.{Form, Counts, headerAt, countsIn, formOf, isForm, countsFit, offsetsFit}
-use Rattle.lineage.specs.Calls.{Check, refused, answered, outcome, formChecks}
+use Rattle.lineage.specs.Stored.{Form, Counts, headerAt, countsIn, formOf, countsFit, offsetsFit}
+use Rattle.lineage.specs.Calls.{Check, refused, answered, outcome, FormsTaken, takes, wordsFor, wordsIn, formChecks}
 use Rattle.laws.proofs.Tests.{or-left, or-right}
 use Rattle.stored_header.specs.declared.Row.{Row}
 use Rattle.stored_header.specs.declared.Layout.{Layout}
 use Rattle.laws.specs.Checks.{Pass}
-use Rattle.stored_header.specs.Header.{rowOf, counts, layoutBy, layoutIn, offsetsAgree, headerChecks}
+use Rattle.stored_header.specs.Header.{rowOf, counts, layoutBy, layoutIn, wordsOf, offsetsAgree, headerChecks}
 use Rattle.laws.proofs.Checks.{stops-outcome}
 
 -- the tests of the counts at a form's row
@@ -73,25 +73,27 @@ pub record Read (b : List ℕ) (form : ℕ) (row : Row) (n k c d : ℕ) : Type 0
 pub width-in : {b : List ℕ} {form : ℕ} {row : Row} {n k c d : ℕ} → Read b form row n k c d → Width (formOf form .width) → Width (row .width)
 width-in R h = subst⁻¹ (λ (r : Row). Width (r .width)) (R .row-is) h
 
-module _ (b : List ℕ) (marks : ℕ) where
+module _ (T : FormsTaken) (b : List ℕ) (marks words : ℕ) where
   abbrev checks : List Check
-  checks = formChecks b marks
+  checks = formChecks T b marks words
 
   pub header-short : length b < 48 → refused 10 0 ≡ outcome checks (layoutIn b)
   header-short h = sym (stops-outcome (layoutIn b) checks 0 (lt-ltb (length b) 48 h))
 
-  module _ {form : ℕ} {row : Row} {n k c d : ℕ} (R : Read b form row n k c d) where
+  module _ {form : ℕ} (long : 48 ≤ length b) (form-is : form ≡ headerAt b 0) where
+    pub header-untaken : takes T form ≡ false → refused 11 form ≡ outcome checks (layoutIn b)
+    header-untaken h =
+        ap (refused 11) form-is ∙ sym (stops-outcome (layoutIn b) checks 1 (le-ltb (length b) 48 long, ap not (sym (ap (takes T) form-is) ∙ h)))
+
+  module _ {form : ℕ} {row : Row} {n k c d : ℕ} (R : Read b form row n k c d) (taken : takes T form ≡ true) where
     abbrev F : Form
     F = formOf (headerAt b 0)
 
     long : ltb (length b) 48 ≡ false
     long = le-ltb (length b) 48 (R .long)
 
-    known-in : isForm (headerAt b 0) ≡ row .known
-    known-in = sym (ap (λ (r : Row). r .known) (R .row-is) ∙ ap isForm (R .form-is))
-
-    pub header-unknown : row .known ≡ false → refused 11 form ≡ outcome checks (layoutIn b)
-    header-unknown h = ap (refused 11) (R .form-is) ∙ sym (stops-outcome (layoutIn b) checks 1 (long, ap not (known-in ∙ h)))
+    formed : not (takes T (headerAt b 0)) ≡ false
+    formed = ap not (sym (ap (takes T) (R .form-is)) ∙ taken)
 
     counts-in : counts n k c d ≡ countsIn b
     counts-in = rw (R .n-is, R .k-is, R .c-is, R .d-is)
@@ -99,44 +101,52 @@ module _ (b : List ℕ) (marks : ℕ) where
     fit-in : countsFit F (countsIn b) ≡ countsFit (formOf form) (counts n k c d)
     fit-in = sym (ap₂ (λ (f : ℕ) (a : Counts). countsFit (formOf f) a) (R .form-is) counts-in)
 
-    module _ (known : row .known ≡ true) where
-      formed : not (isForm (headerAt b 0)) ≡ false
-      formed = ap not (known-in ∙ known)
+    pub header-counts : countsFit (formOf form) (counts n k c d) ≡ false → refused 12 0 ≡ outcome checks (layoutIn b)
+    header-counts h = sym (stops-outcome (layoutIn b) checks 2 (long, (formed, or-left _ (ap not (fit-in ∙ h)))))
 
-      pub header-counts : countsFit (formOf form) (counts n k c d) ≡ false → refused 12 0 ≡ outcome checks (layoutIn b)
-      header-counts h = sym (stops-outcome (layoutIn b) checks 2 (long, (formed, or-left _ (ap not (fit-in ∙ h)))))
+    module _ (fit : countsFit (formOf form) (counts n k c d) ≡ true) {l : Layout} (l-is : l ≡ layoutBy (row .width) (counts n k c d)) where
+      layout-in : l ≡ layoutIn b
+      layout-in =
+          l-is
+          ∙ ap (λ (r : Row). layoutBy (r .width) (counts n k c d)) (R .row-is)
+          ∙ ap₂ (λ (f : ℕ) (a : Counts). layoutBy (formOf f .width) a) (R .form-is) counts-in
 
-      module _ (fit : countsFit (formOf form) (counts n k c d) ≡ true) {l : Layout} (l-is : l ≡ layoutBy (row .width) (counts n k c d)) where
-        layout-in : l ≡ layoutIn b
-        layout-in =
-            l-is
-            ∙ ap (λ (r : Row). layoutBy (r .width) (counts n k c d)) (R .row-is)
-            ∙ ap₂ (λ (f : ℕ) (a : Counts). layoutBy (formOf f .width) a) (R .form-is) counts-in
+      agree-in : offsetsFit F (countsIn b) b ≡ offsetsAgree b l
+      agree-in = sym (ap (offsetsAgree b) layout-in)
 
-        agree-in : offsetsFit F (countsIn b) b ≡ offsetsAgree b l
-        agree-in = sym (ap (offsetsAgree b) layout-in)
+      pub header-offsets : offsetsAgree b l ≡ false → refused 12 0 ≡ outcome checks (layoutIn b)
+      header-offsets h = sym (stops-outcome (layoutIn b) checks 2 (long, (formed, or-right (not (countsFit F (countsIn b))) (ap not (agree-in ∙ h)))))
 
-        pub header-offsets : offsetsAgree b l ≡ false → refused 12 0 ≡ outcome checks (layoutIn b)
-        header-offsets h = sym (stops-outcome (layoutIn b) checks 2 (long, (formed, or-right (not (countsFit F (countsIn b))) (ap not (agree-in ∙ h)))))
+      module _ (agree : offsetsAgree b l ≡ true) where
+        right : (not (countsFit F (countsIn b)) || not (offsetsFit F (countsIn b) b)) ≡ false
+        right = rw (fit-in ∙ fit, agree-in ∙ agree)
 
-        module _ (agree : offsetsAgree b l ≡ true) where
-          right : (not (countsFit F (countsIn b)) || not (offsetsFit F (countsIn b) b)) ≡ false
-          right = rw (fit-in ∙ fit, agree-in ∙ agree)
+        pub marks-short : marks < n → refused 13 n ≡ outcome checks (layoutIn b)
+        marks-short h =
+            ap (refused 13) (R .n-is)
+            ∙ sym (stops-outcome (layoutIn b) checks 3 (long, (formed, (right, lt-ltb marks (countsIn b .n) (omega (arith, R .n-is))))))
 
-          pub marks-short : marks < n → refused 13 n ≡ outcome checks (layoutIn b)
-          marks-short h =
-              ap (refused 13) (R .n-is)
-              ∙ sym (stops-outcome (layoutIn b) checks 3 (long, (formed, (right, lt-ltb marks (countsIn b .n) (omega (arith, R .n-is))))))
+        module _ {needed : ℕ} (needed-is : needed ≡ wordsOf l) (room : n ≤ marks) where
+          marked : ltb marks (countsIn b .n) ≡ false
+          marked = le-ltb marks (countsIn b .n) (omega (arith, R .n-is))
 
-          pub header-passes : n ≤ marks → answered l ≡ outcome checks (layoutIn b)
+          words-in : needed ≡ wordsIn b
+          words-in = needed-is ∙ ap wordsOf layout-in
+
+          pub words-short : words < needed → refused 6 needed ≡ outcome checks (layoutIn b)
+          words-short h =
+              ap (refused 6) words-in
+              ∙ sym (stops-outcome (layoutIn b) checks 4 (long, (formed, (right, (marked, lt-ltb words (wordsIn b) (subst (λ (x : ℕ). words < x) words-in h))))))
+
+          pub header-passes : needed ≤ words → answered l ≡ outcome checks (layoutIn b)
           header-passes h =
               ap answered layout-in
-              ∙ sym (stops-outcome (layoutIn b) checks 4 (long, (formed, (right, (le-ltb marks (countsIn b .n) (omega (arith, R .n-is)), tt)))))
+              ∙ sym (stops-outcome (layoutIn b) checks 5 (long, (formed, (right, (marked, (le-ltb words (wordsIn b) (subst (λ (x : ℕ). x ≤ words) words-in h), tt))))))
 
 -- a header that is right passes
-pub all-right : (b : List ℕ) → 48 ≤ length b
-    → isForm (headerAt b 0) ≡ true
+pub all-right : (T : FormsTaken) (b : List ℕ) → 48 ≤ length b
+    → takes T (headerAt b 0) ≡ true
     → countsFit (formOf (headerAt b 0)) (countsIn b) ≡ true
     → offsetsFit (formOf (headerAt b 0)) (countsIn b) b ≡ true
-    → Pass (headerChecks b)
-all-right b long e f g = (le-ltb (length b) 48 long, (ap not e, (rw (f, g), tt)))
+    → Pass (headerChecks T b)
+all-right T b long e f g = (le-ltb (length b) 48 long, (ap not e, (rw (f, g), tt)))

@@ -1,5 +1,5 @@
 -- What bytes have whose header passes: a known form, counts within the bounds of every form, and sections one after the other that fill the bytes.
-use mathlib.Core.Bool.{true, false}
+use mathlib.Core.Bool.{true, false, _&&_}
 use mathlib.Core.Path.{_≡_, refl, ap, subst⁻¹, _∙_}
 use mathlib.Core.List.{List}
 use Prim.Native.Nat.{ℕ, _≤_, _<_}
@@ -10,12 +10,13 @@ use borrow.Author.Tests.{leb-true, eqb-true, not-false, le-leb, lt-leb}
 use Rattle.lineage.specs.Lists.{sameList, cleared}
 use Rattle.lineage.specs.Numbers.{Width}
 use Rattle.lineage.specs.Stored.{Form, Counts, headerAt, countsIn, formOf, isForm, countsFit, offsetsFit, mostLabellings}
+use Rattle.lineage.specs.Calls.{FormsTaken, takes, wordsIn}
 use Rattle.laws.specs.Checks.{Pass}
 use Rattle.laws.proofs.Tests.{neither, both}
 use Rattle.laws.proofs.Lists.{same-list}
 use Rattle.numbers.specs.Bounds.{vertexBound, entryBound}
 use Rattle.stored_header.specs.declared.Layout.{Layout}
-use Rattle.stored_header.specs.Header.{layoutBy, layoutIn, offsetsIn, offsetsOf, offsetsAgree, headerChecks, Sited, Laid}
+use Rattle.stored_header.specs.Header.{layoutBy, layoutIn, wordsOf, offsetsIn, offsetsOf, offsetsAgree, headerChecks, Sited, Laid}
 use Rattle.stored_header.proofs.Forms.{Within, form-within}
 
 -- counts that fit a form
@@ -44,6 +45,11 @@ fit-bounds form a fit =
       most = leb-true (a .d) mostLabellings (d .1);
     }
 
+-- the bounds of a layout that such counts give
+pub laid-bounds : {F : Form} {a : Counts} {l : Layout} {w : ℕ} → Bounded F a → l ≡ layoutBy w a
+    → (l .n ≤ vertexBound) × ((l .k ≤ l .n) × (l .c ≤ entryBound))
+laid-bounds B e = subst⁻¹ (λ (l : Layout). (l .n ≤ vertexBound) × ((l .k ≤ l .n) × (l .c ≤ entryBound))) e (B .vertices, (B .groups, B .entries))
+
 -- a layout that a width and counts give
 pub sited-by : (l : Layout) (w : ℕ) (a : Counts) → l ≡ layoutBy w a → Sited l
 sited-by l w a e =
@@ -57,12 +63,17 @@ sited-by l w a e =
       total-at = refl;
     })
 
+-- a form that a call takes is one of the table
+pub taken-form : (T : FormsTaken) (number : ℕ) → takes T number ≡ true → isForm number ≡ true
+taken-form T number h = both (leb (T .least) number && leb number (T .most)) (isForm number) h .1
+
 module _ (b : List ℕ) where
-  laid : isForm (headerAt b 0) ≡ true
+  -- bytes whose header is right are laid out as it says
+  pub right-laid : isForm (headerAt b 0) ≡ true
       → countsFit (formOf (headerAt b 0)) (countsIn b) ≡ true
       → offsetsAgree b (layoutIn b) ≡ true
       → Laid b (layoutIn b)
-  laid known fit agree =
+  right-laid known fit agree =
       let o = both (sameList (offsetsIn b) (offsetsOf (layoutIn b))) (eqb (length b) (layoutIn b .total)) agree in
       let B : Bounded (formOf (headerAt b 0)) (countsIn b) = fit-bounds (headerAt b 0) (countsIn b) fit in
       record {
@@ -79,12 +90,12 @@ module _ (b : List ℕ) where
         long = eqb-true (length b) (layoutIn b .total) (o .1);
       }
 
-  -- bytes whose header passes are laid out as it says
-  pub header-laid : Pass (headerChecks b) → Laid b (layoutIn b)
-  header-laid p =
+  -- so are those whose header passes
+  pub header-laid : (T : FormsTaken) → Pass (headerChecks T b) → Laid b (layoutIn b)
+  header-laid T p =
       let F : Form = formOf (headerAt b 0) in
       let w = neither (countsFit F (countsIn b)) (offsetsFit F (countsIn b) b) (p .1 .1 .0) in
-      laid (not-false (isForm (headerAt b 0)) (p .1 .0)) (w .0) (w .1)
+      right-laid (taken-form T (headerAt b 0) (not-false (takes T (headerAt b 0)) (p .1 .0))) (w .0) (w .1)
 
 -- the numbers of a layout are those of the bytes
 module _ {b : List ℕ} {l : Layout} (L : Laid b l) where
@@ -102,6 +113,9 @@ module _ {b : List ℕ} {l : Layout} (L : Laid b l) where
 
   pub d-is : l .d ≡ countsIn b .d
   d-is = ap (λ (z : Layout). z .d) (L .is)
+
+  pub words-are : wordsOf l ≡ wordsIn b
+  words-are = ap wordsOf (L .is)
 
   -- so are marks that are cleared below n, and the tests of a vertex (14)
   pub cleared-in : (marks : List ℕ) {m : List ℕ} → m ≡ cleared (l .n) marks → m ≡ cleared (countsIn b .n) marks

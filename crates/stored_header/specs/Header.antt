@@ -8,7 +8,7 @@ use lib.ListN.{length, getD, take}
 use Rattle.lineage.specs.Lists.{upto, sameList}
 use Rattle.lineage.specs.Numbers.{Width}
 use Rattle.lineage.specs.Stored.{Counts, offsets, headerAt, countsIn, formOf, isForm, mostLabellings}
-use Rattle.lineage.specs.Calls.{Check, Outcome, refused, answered, formChecks}
+use Rattle.lineage.specs.Calls.{Check, Outcome, refused, answered, FormsTaken, wordsFor, formChecks}
 use Rattle.numbers.specs.Bounds.{vertexBound, entryBound}
 use Rattle.stored_header.specs.declared.Row.{Row}
 use Rattle.stored_header.specs.declared.Layout.{Layout}
@@ -67,9 +67,13 @@ headerOf form l = form ∷ l .n ∷ l .k ∷ l .c ∷ l .d ∷ offsetsOf l
 abbrev pub offsetsAgree : List ℕ → Layout → Bool
 offsetsAgree b l = sameList (offsetsIn b) (offsetsOf l) && eqb (length b) (l .total)
 
--- those of the checks 10 to 13 that the header alone decides
-abbrev pub headerChecks : List ℕ → List Check
-headerChecks b = take 3 (formChecks b 0)
+-- the words that a call is lent beside bytes of a layout
+abbrev pub wordsOf : Layout → ℕ
+wordsOf l = wordsFor (l .width) (counts (l .n) (l .k) (l .c) (l .d))
+
+-- those of the checks 10 to 13 and 6 that the header alone decides
+abbrev pub headerChecks : FormsTaken → List ℕ → List Check
+headerChecks T b = take 3 (formChecks T b 0 0)
 
 -- what a header says, as an outcome
 abbrev pub headerOutcome : Header → Outcome Layout

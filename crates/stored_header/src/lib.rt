@@ -1,19 +1,21 @@
-// The header: twelve 32-bit numbers, checked in the document's order and read, with the marks that every call on stored bytes is lent (10 to 13); and written.
+// The header: twelve 32-bit numbers, checked in the document's order and read, with the marks and the words that every call on stored bytes is lent (10 to 13, then
+// 6); and written.
 ghost use mathlib.Core.Path.{_≡_};
-ghost use Prim.Native.Nat.{_*_, _^_, _≤_, _<_};
+ghost use Prim.Native.Nat.{_+_, _*_, _^_, _≤_, _<_};
 ghost use lib.Dec.{eqb};
 ghost use lib.ListN.{length};
 ghost use Rattle.lineage.specs.Lists.{Every};
 ghost use Rattle.lineage.specs.Numbers.{Width, written};
 ghost use Rattle.lineage.specs.Stored.{headerAt, formOf, countsFit, mostLabellings};
-ghost use Rattle.lineage.specs.Calls.{outcome, formChecks};
+ghost use Rattle.lineage.specs.Calls.{outcome, formsTaken, takes, formChecks};
 ghost use Rattle.numbers.specs.Bounds.{vertexBound, entryBound};
 ghost use Rattle.numbers.specs.Put.{put};
-ghost use Rattle.stored_header.specs.Header.{rowOf, counts, layoutBy, layoutIn, offsetsAgree, headerOf, headerOutcome};
+ghost use Rattle.stored_header.specs.Header.{rowOf, counts, layoutBy, layoutIn, wordsOf, offsetsAgree, headerOf, headerOutcome};
 use refusals::BAD_HEADER;
 use refusals::BYTES_SHORT;
 use refusals::MARKS_SHORT;
 use refusals::OTHER_FORM;
+use refusals::WORK_SHORT;
 
 const HEADER_LENGTH: usize = 48;
 
@@ -54,6 +56,15 @@ pub enum Header {
 pub fn form_row(number: usize) -> Row
     ensures { λ r. ⌜ r ≡ rowOf number ⌝ }
 {
+    if number == 2 {
+        return Row {
+            known: true,
+            width: 4,
+            vertices: 200000,
+            edges: 1000000,
+            entries: 1000000,
+        };
+    }
     Row {
         known: 1 == number,
         width: 2,
@@ -61,6 +72,14 @@ pub fn form_row(number: usize) -> Row
         edges: 16384,
         entries: 16384,
     }
+}
+
+// Whether a call that takes the forms from `least` to `most` takes the one with this number.
+pub fn takes(least: usize, most: usize, number: usize) -> bool
+    ensures { λ r. ⌜ r ≡ takes (formsTaken least most) number ⌝ }
+{
+    let row = form_row(number);
+    ((least <= number) & (number <= most)) & row.known
 }
 
 // Every count is within the form's bounds, and k is not over n.
@@ -130,9 +149,21 @@ fn offsets_fit(index: &[u8], l: Layout) -> bool
     sections & (index.len() == l.total)
 }
 
-// The checks 10 to 13, which every call on stored bytes makes before its own, for so many marks: the first that applies, or the layout.
-pub fn admit(index: &[u8], marks: usize) -> Header
-    ensures { λ r. ⌜ headerOutcome r ≡ outcome (formChecks (now (index .entry)) marks) (layoutIn (now (index .entry))) ⌝ }
+// The words that a call is lent beside bytes of this layout: none where the numbers are of 16 bits.
+pub fn words_needed(l: Layout) -> usize
+    requires { ⌜ (l .n ≤ vertexBound) × ((l .k ≤ l .n) × (l .c ≤ entryBound)) ⌝ }
+    ensures { λ r. ⌜ (r ≡ wordsOf l) × (r ≤ 16 * vertexBound + 4 * entryBound + 64) ⌝ }
+{
+    if l.width == 2 {
+        return 0;
+    }
+    16 * l.n + 4 * l.c + 64
+}
+
+// The checks 10 to 13 and 6, which every call on stored bytes makes before its own, for the forms from `least` to `most` and so many marks and words: the first
+// that applies, or the layout.
+pub fn admit(least: usize, most: usize, index: &[u8], marks: usize, words: usize) -> Header
+    ensures { λ r. ⌜ headerOutcome r ≡ outcome (formChecks (formsTaken least most) (now (index .entry)) marks words) (layoutIn (now (index .entry))) ⌝ }
 {
     if index.len() < HEADER_LENGTH {
         return Header::Refused {
@@ -145,13 +176,13 @@ pub fn admit(index: &[u8], marks: usize) -> Header
     let k = numbers::num(index, 4, 2);
     let c = numbers::num(index, 4, 3);
     let d = numbers::num(index, 4, 4);
-    let row = form_row(form);
-    if !row.known {
+    if !takes(least, most, form) {
         return Header::Refused {
             number: OTHER_FORM,
             extra: form as u32,
         };
     }
+    let row = form_row(form);
     if !counts_fit(form, n, k, c, d) {
         return Header::Refused {
             number: BAD_HEADER,
@@ -169,6 +200,13 @@ pub fn admit(index: &[u8], marks: usize) -> Header
         return Header::Refused {
             number: MARKS_SHORT,
             extra: n as u32,
+        };
+    }
+    let needed = words_needed(l);
+    if words < needed {
+        return Header::Refused {
+            number: WORK_SHORT,
+            extra: needed as u32,
         };
     }
     Header::Passed(l)
