@@ -3,7 +3,7 @@
 use mathlib.Core.Bool.{Bool, true, false}
 use mathlib.Core.Path.{_≡_, refl, sym, ap, _∙_}
 use mathlib.Core.List.{List, [], _∷_}
-use Prim.Native.Nat.{ℕ, suc, _+_, _-_, _≤_, _<_}
+use Prim.Native.Nat.{ℕ, zero, suc, _+_, _-_, _≤_, _<_}
 use native.Mathlib.Omega.{arith}
 use lib.Dec.{eqb}
 use lib.ListN.{length, getD, set, length-set}
@@ -42,6 +42,16 @@ module _ (names : List ℕ) (next : ℕ → ℕ) (t : ℕ) where
 
   pub rest-next : (f g p : ℕ) {q : ℕ} → (p ≡ t → ⊥) → q ≡ next p → f ≡ suc g → rest f p ≡ steps (suc g) q
   rest-next f g p ne chosen e = rw (ne-eqb p t ne, e, chosen) refl
+
+  -- no more names than are allowed
+  pub steps-most : (f p : ℕ) → length (steps f p) ≤ f
+  unfolding stepsBy
+  steps-most zero p = omega arith
+  steps-most (suc f) p = at (eqb p t) (steps-most f (next p))
+    where
+      at : (b : Bool) → length (steps f (next p)) ≤ f → suc (length (onward b (stepsBy names next t f) (next p))) ≤ suc f
+      at true h = omega arith
+      at false h = omega arith
 
   -- there is room for one name
   pub room-one : (f p at l : ℕ) → at + length (steps (suc f) p) ≤ l → at < l

@@ -1,6 +1,6 @@
 // The steps of the chain, where exactly the groups that reach the target are marked: each step goes to the lowest marked child.
 ghost use mathlib.Core.Path.{_≡_};
-ghost use Prim.Native.Nat.{suc, _+_, _≤_, _<_};
+ghost use Prim.Native.Nat.{suc, _+_, _≤_};
 ghost use lib.ListN.{length};
 ghost use Rattle.numbers.specs.Bounds.{vertexBound};
 ghost use Rattle.numbers.specs.Put.{put};
@@ -145,7 +145,7 @@ pub fn count_steps(
 ) -> usize
     requires { ⌜ Spots w k c (now groups) (now starts) (now children) (length (now marks)) ⌝ }
     requires { ⌜ TrailIn w k c (now groups) (now starts) (now children) (now marks) t x lev ⌝ }
-    requires { ⌜ lev < vertexBound ⌝ }
+    requires { ⌜ lev ≤ vertexBound ⌝ }
     ensures { λ r. ⌜ r ≡ length (stepsIn w k c (now (groups .entry)) (now (starts .entry)) (now (children .entry)) (now (marks .entry)) t (suc lev) x) ⌝ }
 {
     let mut place = x;

@@ -1,0 +1,5 @@
+-- What is marked, and the steps down it, over an index; and the sections of sound bytes, which are fit for it.
+pub mod Marked
+pub mod Traced
+pub mod Fitted
+pub mod Shown
