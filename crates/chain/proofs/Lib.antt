@@ -3,3 +3,5 @@ pub mod Marked
 pub mod Traced
 pub mod Fitted
 pub mod Shown
+-- The stored bytes: their refusals.
+pub mod Refusals

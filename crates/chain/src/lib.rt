@@ -5,21 +5,28 @@ ghost use Prim.Native.Nat.{suc, _≤_, _<_};
 ghost use lib.ListN.{length};
 ghost use Rattle.lineage.specs.Lists.{cleared};
 ghost use Rattle.lineage.specs.Question.{placeIn};
-ghost use Rattle.lineage.specs.Calls.{indexIn};
+ghost use Rattle.lineage.specs.Calls.{formsTaken, ordinary, indexIn};
 ghost use Rattle.numbers.specs.Bounds.{vertexBound};
 ghost use Rattle.sound_places.specs.Lent.{SoundBytes};
 ghost use Rattle.reach_sweep.specs.Fit.{Spots};
 ghost use Rattle.chain_steps.specs.Steps.{TrailIn, stepsIn};
 ghost use Rattle.chain.specs.Marks.{climbedIn, Exact};
-ghost use Rattle.chain.specs.Chained.{Fills, Shows};
+ghost use Rattle.chain.specs.Traced.{chainAnswer, chainMarks, chainWork, chainOutput};
+ghost use Rattle.chain.specs.Chained.{chainedOf, Fills, Shows};
 use chain_steps::count_steps;
 use chain_steps::write_chain;
 use numbers::clear_marks;
+use numbers::clear_words;
 use numbers::num;
+use open::contents_sound;
+use refusals::BAD_VERTEX;
 use refusals::LIST_SHORT;
+use refusals::NOT_SOUND;
 use sound_places::place_of;
 use stored::parts;
+use stored_header::Header;
 use stored_header::Layout;
+use stored_header::words_needed;
 
 // How many steps were written, a no, or a refusal with its number and its extra number.
 pub enum Chained {
@@ -122,4 +129,68 @@ fn chain_sound(
     let r = trace(index, l, u, v, marks, steps);
     clear_marks(marks, l.n);
     r
+}
+
+// The chain from source to target in a stored index of a form from `least` to `most`: the group names, from the source's group to the target's, written to the front
+// of the list, with their number; a no, which writes nothing; or the first of the refusals 10, 11, 12, 13, 6, 14, 15 and 16 that applies. The list past the last step
+// is untouched, and all of it by every refusal. Marks below n and the needed words are 0 after a chain, a no, 15 and 16; the refusals before leave them as they were.
+pub fn chain_taking(
+    least: usize,
+    most: usize,
+    index: &[u8],
+    source: u32,
+    target: u32,
+    marks: &mut [u8],
+    work: &mut [u32],
+    steps: &mut [u32],
+) -> Chained
+    ensures { λ r. ⌜ chainedOf r ≡ chainAnswer (formsTaken least most) (now (index .entry)) source target (length (now (marks .entry))) (length (now (work .entry))) (length (now (steps .entry))) ⌝ }
+    ensures { λ _. ⌜ now (marks .exit) ≡ chainMarks (formsTaken least most) (now (index .entry)) source target (now (marks .entry)) (length (now (work .entry))) ⌝ }
+    ensures { λ _. ⌜ now (work .exit) ≡ chainWork (formsTaken least most) (now (index .entry)) source target (length (now (marks .entry))) (now (work .entry)) ⌝ }
+    ensures { λ _. ⌜ now (steps .exit) ≡ chainOutput (formsTaken least most) (now (index .entry)) source target (length (now (marks .entry))) (length (now (work .entry))) (now (steps .entry)) ⌝ }
+{
+    let l = match stored_header::admit(least, most, index, marks.len(), work.len()) {
+        Header::Refused { number, extra } => return Chained::Refused { number, extra },
+        Header::Passed(l) => l,
+    };
+    let n = l.n;
+    let u = source as usize;
+    let v = target as usize;
+    if n <= u {
+        return Chained::Refused {
+            number: BAD_VERTEX,
+            extra: 0,
+        };
+    }
+    if n <= v {
+        return Chained::Refused {
+            number: BAD_VERTEX,
+            extra: 1,
+        };
+    }
+    clear_words(work, words_needed(l));
+    if !contents_sound(index, l, marks) {
+        return Chained::Refused {
+            number: NOT_SOUND,
+            extra: 0,
+        };
+    }
+    chain_sound(index, l, u, v, marks, steps)
+}
+
+// The chain in a stored index of form 1 or 2.
+pub fn chain(
+    index: &[u8],
+    source: u32,
+    target: u32,
+    marks: &mut [u8],
+    work: &mut [u32],
+    steps: &mut [u32],
+) -> Chained
+    ensures { λ r. ⌜ chainedOf r ≡ chainAnswer ordinary (now (index .entry)) source target (length (now (marks .entry))) (length (now (work .entry))) (length (now (steps .entry))) ⌝ }
+    ensures { λ _. ⌜ now (marks .exit) ≡ chainMarks ordinary (now (index .entry)) source target (now (marks .entry)) (length (now (work .entry))) ⌝ }
+    ensures { λ _. ⌜ now (work .exit) ≡ chainWork ordinary (now (index .entry)) source target (length (now (marks .entry))) (now (work .entry)) ⌝ }
+    ensures { λ _. ⌜ now (steps .exit) ≡ chainOutput ordinary (now (index .entry)) source target (length (now (marks .entry))) (length (now (work .entry))) (now (steps .entry)) ⌝ }
+{
+    chain_taking(1, 2, index, source, target, marks, work, steps)
 }
