@@ -5,3 +5,5 @@ pub mod Fitted
 pub mod Shown
 -- The stored bytes: their refusals.
 pub mod Refusals
+-- The chain in every graph that yields the bytes.
+pub mod Right

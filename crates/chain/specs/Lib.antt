@@ -2,3 +2,4 @@
 pub mod Marks
 pub mod Traced
 pub mod Chained
+pub mod Right
