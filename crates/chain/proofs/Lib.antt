@@ -7,3 +7,5 @@ pub mod Shown
 pub mod Refusals
 -- The chain in every graph that yields the bytes.
 pub mod Right
+pub mod Only
+pub mod Theorems

@@ -76,12 +76,9 @@ module _ {I : Index} (M : Made I) where
     place-paths : (p : ℕ) → p < length (I .children) → Reaches G (name p) v ↔ Down (I .children) p t
     place-paths p h = subst (λ (x : ℕ). Reaches G (name p) v ↔ Down (I .children) x t) (named-place p h) (paths (name p) (name-low p h))
 
-    -- it is v's own group exactly at the target
-    own-group : (p : ℕ) → p < length (I .children) → (p ≡ t) ↔ OneGroup G (name p) v
-    own-group p h = (
-      (λ e. made-groups M (name p) v (name-low p h) hv .0 (group-name S p h .1 ∙ ap name e ∙ name-of-place S v hv)),
-      λ g. sym (named-place p h) ∙ ap (placeOf (I .groups)) (made-groups M (name p) v (name-low p h) hv .1 g),
-    )
+    -- the target is v's own group
+    own-group : (p : ℕ) → p < length (I .children) → p ≡ t → OneGroup G (name p) v
+    own-group p h e = made-groups M (name p) v (name-low p h) hv .0 (group-name S p h .1 ∙ ap name e ∙ name-of-place S v hv)
 
     -- a child group of p's, by any of its vertices
     module _ (p : ℕ) (h : p < length (I .children)) (c : ℕ) (C : ChildGroup G (name p) c) where
@@ -154,12 +151,12 @@ module _ {I : Index} (M : Made I) where
             → (lowestTo I t p < length (I .children) → Down (I .children) (lowestTo I t p) t → getD (I .levels) (lowestTo I t p) 0 < f
             → Chain G v (name (lowestTo I t p)) (chainFrom I t f (lowestTo I t p)))
             → Chain G v (name p) (chainFrom I t (suc f) p)
-        at (yes e) ih = rw (eq-eqb p t e) (arrived (own-group p h .0 e))
+        at (yes e) ih = rw (eq-eqb p t e) (arrived (own-group p h e))
         at (no ne) ih =
             let q : ℕ = lowestTo I t p in
             let (i, e) = lowest-child p h ne d in
             rw (ne-eqb p t ne)
-            (onward (λ g. ne (own-group p h .1 g)) (next p h q i e (λ r j k. lowest-one p h r j k .2)) (ih (child-in S p q h i) e (omega (arith, levels-fall S p q h i))))
+            (onward (next p h q i e (λ r j k. lowest-one p h r j k .2)) (ih (child-in S p q h i) e (omega (arith, levels-fall S p q h i))))
 
     -- so from the name of a vertex that reaches v
     module _ (u : ℕ) (hu : u < length (I .names)) where

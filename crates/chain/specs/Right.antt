@@ -14,4 +14,4 @@ pub record Next (G : Graph) (v a b : ℕ) : Type 0 where
 -- the chain from the group named a to v's group: for v's own group that one name, otherwise the name followed by the chain from the next
 pub data Chain (G : Graph) (v : ℕ) : ℕ → List ℕ → Type 0 where
   arrived : {a : ℕ} → OneGroup G a v → Chain G v a (a ∷ [])
-  onward : {a b : ℕ} {rest : List ℕ} → (OneGroup G a v → ⊥) → Next G v a b → Chain G v b rest → Chain G v a (a ∷ rest)
+  onward : {a b : ℕ} {rest : List ℕ} → Next G v a b → Chain G v b rest → Chain G v a (a ∷ rest)
