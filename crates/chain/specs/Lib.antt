@@ -3,3 +3,4 @@ pub mod Marks
 pub mod Traced
 pub mod Chained
 pub mod Right
+pub mod Examples
