@@ -1,5 +1,5 @@
 -- What the sections of sound contents give the climb and the steps: they are fit for them, and what is read of them is what the index has.
-use mathlib.Core.Bool.{Bool, true}
+use mathlib.Core.Bool.{true}
 use mathlib.Core.Path.{_≡_, refl, sym, ap, subst, _∙_}
 use mathlib.Core.List.{List}
 use Prim.Native.Nat.{ℕ, suc, _+_, _*_, _≤_, _<_}
@@ -26,11 +26,10 @@ use Rattle.stored.proofs.Contents.{stretchOf, names-only}
 use Rattle.sound_places.specs.Lent.{SoundBytes, Lent}
 use Rattle.sound_places.proofs.Lent.{lent}
 use Rattle.sound_places.proofs.Vertices.{lent-sound, list-rises, list-low, name-listed, vertex-low, vertex-placed}
-use Rattle.reach_sweep.specs.Sweep.{marked}
 use Rattle.reach_climb.specs.Climb.{climbed}
 use Rattle.reach.specs.Marks.{markIn}
 use Rattle.reach.proofs.Fitted.{index-sound, labels-some, names-count, index-is, names-are, places-are}
-use Rattle.chain_steps.specs.Chain.{stepsBy, chainOf}
+use Rattle.chain_steps.specs.Chain.{chainOf}
 use Rattle.chain_steps.specs.Steps.{nextIn, TrailIn, stepsIn}
 use Rattle.chain.specs.Marks.{climbedIn, Exact}
 use Rattle.chain.proofs.Marked.{climb-exactly, climb-long, climb-cleared}

@@ -1,14 +1,14 @@
 -- Of chains in a graph: from one name to one vertex there is only one, since the lowest child group that reaches the target is one; neighbours come next one after the
 -- other, so a path of edges leads from each to the next; and the last is the name of the target's group.
 use mathlib.Core.Path.{_≡_, refl, sym, ap, subst⁻¹, _∙_}
-use mathlib.Core.List.{List, [], _∷_}
+use mathlib.Core.List.{List, _∷_}
 use Prim.Native.Nat.{ℕ, zero, suc, _≤_, _<_}
 use native.Mathlib.Omega.{arith}
 use lib.ListN.{length, getD}
 use Rattle.lineage.specs.Graph.{Graph, Ends, Reaches, stay, step, nameOf}
 use Rattle.laws.specs.Leads.{OneGroup}
 use Rattle.laws.proofs.Reaches.{reaches-on}
-use Rattle.laws.proofs.Names.{group-on, group-turn, name-smallest, name-low, name-group, name-one}
+use Rattle.laws.proofs.Names.{group-on, group-turn, name-smallest, name-group, name-one}
 use Rattle.laws_answers.proofs.Built.{reached-low}
 use Rattle.laws_same.specs.Same.{ChildGroup}
 use Rattle.chain.specs.Right.{Next, Chain, arrived, onward}

@@ -1,6 +1,6 @@
 -- What may be answered behind 15, and what the list may hold: on a no nothing is written; on a yes the list is too short for the steps, or they stand at its front.
 use mathlib.Core.Bool.{true, false}
-use mathlib.Core.Path.{_≡_, sym, ap, _∙_}
+use mathlib.Core.Path.{_≡_, _∙_}
 use mathlib.Core.List.{List}
 use Prim.Native.Nat.{ℕ, _≤_, _<_}
 use native.Mathlib.Omega.{arith}

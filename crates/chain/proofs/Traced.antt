@@ -15,22 +15,17 @@ use Rattle.lineage.specs.Index.{Index}
 use Rattle.lineage.specs.Question.{placeIn, answer}
 use Rattle.laws.specs.Leads.{stay, step, Down}
 use Rattle.laws.specs.Sound.{SoundGroups, Sound}
-use Rattle.laws.proofs.Tests.{clash, is-false}
 use Rattle.laws.proofs.Lists.{here, there, table-at}
 use Rattle.laws.proofs.Rising.{first-of}
 use Rattle.laws.proofs.Levels.{level-most}
 use Rattle.laws.proofs.GraphFound.{condense-made}
 use Rattle.laws.proofs.Grouped.{child-in, children-rise, levels-fall, leads-exactly, place-low, name-of-place}
 use Rattle.laws_answers.proofs.Demands.{answer-down}
+use Rattle.laws_same.proofs.Lineage.{tests-same}
 use Rattle.reach_sweep.specs.Sweep.{marked}
 use Rattle.chain_steps.specs.Chain.{onward, leadsTo, lowestTo, stepsBy, chainFrom}
 use Rattle.chain_steps.specs.Steps.{Trail}
 use Rattle.chain.specs.Marks.{Exact}
-
--- two tests that hold of the same are one
-pub same-test : (a b : Bool) → (a ≡ true) ↔ (b ≡ true) → a ≡ b
-same-test a true h = h .1 refl
-same-test a false h = is-false a (λ t. clash (h .0 t) refl)
 
 -- tests that agree on a row find the same first of it
 first-same : (p q : ℕ → Bool) (xs : List ℕ) (other : ℕ) → ((x : ℕ) → among x xs ≡ true → p x ≡ q x) → firstOf p xs other ≡ firstOf q xs other
@@ -64,7 +59,7 @@ module _
     -- marked are those that `leads` finds
     marked-leads : (q : ℕ) → q < length (I .children) → marked (I .groups) marks q ≡ leadsTo I t q
     unfolding leadsTo
-    marked-leads q h = same-test _ _ (Iff·trans (E .exactly q h) (Iff·symm (leads-exactly S q t h)))
+    marked-leads q h = tests-same _ _ (Iff·trans (E .exactly q h) (Iff·symm (leads-exactly S q t h)))
 
     next-lowest : (p : ℕ) → next p ≡ lowestTo I t p
     unfolding lowestTo
@@ -123,7 +118,7 @@ pub marked-says :
     {I : Index} (S : Sound I) → 0 < length (I .labels) → {u v : ℕ} → u < length (I .names) → v < length (I .names) → {marks : List ℕ} → Exact I (placeIn I v) marks
     → eqb (getD marks (getD (I .names) u 0) 0) 1 ≡ answer I u v .says
 marked-says {I} S some {u} {v} hu hv {marks} E =
-    same-test _ _
+    tests-same _ _
     (Iff·trans
     (subst (λ (name : ℕ). (eqb (getD marks name 0) 1 ≡ true) ↔ Down (I .children) (placeIn I u) (placeIn I v)) (name-of-place (S .condensed) u hu)
     (E .exactly (placeIn I u) (place-low (S .condensed) u hu))) (Iff·symm (answer-down I S some u v hu hv)))

@@ -20,7 +20,7 @@ use Rattle.laws_same.specs.Same.{ChildGroup, SameLineage}
 use Rattle.laws_same.proofs.Names.{names-by-groups}
 
 -- two tests of which each holds where the other does
-tests-same : (a b : Bool) → (a ≡ true) ↔ (b ≡ true) → a ≡ b
+pub tests-same : (a b : Bool) → (a ≡ true) ↔ (b ≡ true) → a ≡ b
 tests-same true b h = sym (h .0 refl)
 tests-same false true h = h .1 refl
 tests-same false false h = refl
