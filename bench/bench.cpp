@@ -1,83 +1,28 @@
 // Measures the library beside its peers (peers.hpp) on the same graphs, orders and pairs, and compares all that they answer: the first difference ends it with an error.
+// This is stored form 1, through the C host's calls; region.cpp is form 2.
 //
 //     bench all | build | monday | quick
 //
-// prints a line for each figure: measure, kind of graph, n, d, kind of pairs, who, and nanoseconds of processor time for one build, one opening or one question. A
-// figure is the least of several repetitions, in which those that are compared take turns. `build` measures the build alone, on random acyclic graphs, `monday` the call
-// for all pairs of two lists alone; `quick` is one
-// small size with few repetitions, and serves to see that all agree.
-#include "graphs.hpp"
+// prints the figures (measure.hpp) of one build, one opening or one question. `build` measures the build alone, on random acyclic graphs, `monday` the call for all pairs
+// of two lists alone; `quick` is one small size with few repetitions, and serves to see that all agree.
+#include "measure.hpp"
 #include "peers.hpp"
-#include <cstdio>
-#include <cstdlib>
-#include <ctime>
 #include <drobisten.h>
-#include <functional>
 #include <map>
 
 extern "C" {
 struct counted {
     uint32_t refusal, extra, count;
 };
-__attribute__((weak)) counted trial_build(const uint32_t *sources, size_t sources_len, const uint32_t *targets, size_t targets_len, const uint32_t *orders, size_t orders_len, uint32_t *work,
-                    size_t work_len, uint8_t *out, size_t out_len, uint32_t n, uint32_t d);
+__attribute__((weak)) counted trial_build(const uint32_t *sources, size_t sources_len, const uint32_t *targets, size_t targets_len, const uint32_t *orders, size_t orders_len,
+                                          uint32_t *work, size_t work_len, uint8_t *out, size_t out_len, uint32_t form, uint32_t n, uint32_t d);
 // the library's own drobisten_ask_all and drobisten_ask, in a copy whose check of the contents says yes and does nothing (bench/run makes it)
 drobisten_asked_all unchecked_ask_all(const uint8_t *index, size_t index_len, uint8_t *marks, size_t marks_len, const uint32_t *sources, size_t sources_len,
                                       const uint32_t *targets, size_t targets_len, uint32_t *answers, size_t answers_len);
 drobisten_asked unchecked_ask(const uint8_t *index, size_t index_len, uint8_t *marks, size_t marks_len, uint32_t source, uint32_t target);
 }
 
-using Bytes = std::vector<uint8_t>;
 using Pairs = std::vector<std::pair<uint32_t, uint32_t>>;
-
-static void must(bool holds, const char *what) {
-    if (holds) return;
-    fprintf(stderr, "bench: %s\n", what);
-    exit(1);
-}
-
-// ---------------------------------------------------------------- measuring
-
-static bool quick;
-static volatile uint32_t sink; // takes the answers, so that they are worked out
-
-struct Where {
-    const char *measure, *kind;
-    uint32_t n;
-    int d;
-    const char *pairs;
-};
-
-struct Job {
-    const char *who;
-    std::function<void()> run;
-};
-
-static double now() {
-    timespec t;
-    clock_gettime(CLOCK_PROCESS_CPUTIME_ID, &t);
-    return t.tv_sec + t.tv_nsec * 1e-9;
-}
-
-static double once(const Job &job, int times) {
-    double begun = now();
-    for (int i = 0; i < times; i++) job.run();
-    return (now() - begun) / times;
-}
-
-// One run of a job does `count` of what is measured. A repetition takes some milliseconds.
-static void measure(const Where &w, double count, const std::vector<Job> &jobs) {
-    int rounds = quick ? 2 : 15;
-    double span = quick ? 0.0002 : 0.004;
-    std::vector<int> times;
-    std::vector<double> least(jobs.size(), 1e9);
-    for (const Job &job : jobs) once(job, 1), times.push_back(1 + span / (once(job, 1) + 1e-9));
-    for (int r = 0; r < rounds; r++)
-        for (size_t i = 0; i < jobs.size(); i++) least[i] = std::min(least[i], once(jobs[i], times[i]));
-    for (size_t i = 0; i < jobs.size(); i++)
-        printf("%s\t%s\t%u\t%d\t%s\t%s\t%.2f\n", w.measure, w.kind, w.n, w.d, w.pairs, jobs[i].who, least[i] * 1e9 / count);
-    fflush(stdout);
-}
 
 // A graph with all that is made of it.
 struct Case {
@@ -100,33 +45,6 @@ template <class F> static std::function<void()> each(Cases &cases, F one) {
 
 // ---------------------------------------------------------------- build and open
 
-static void put(Bytes &to, uint32_t x, int width) {
-    for (int i = 0; i < width; i++) to.push_back(x >> 8 * i);
-}
-
-// The stored form of what the peer has built, to compare with the library's.
-static Bytes stored_form(const Grail &a) {
-    const Groups &g = a.groups;
-    uint32_t n = g.place.size(), k = g.k, c = g.children.item.size(), d = a.d, at = 48;
-    Bytes bytes;
-    for (uint32_t x : {1u, n, k, c, d}) put(bytes, x, 4);
-    for (uint32_t size : {n, k, k, k + 1, c, 4 * d * k}) put(bytes, at, 4), at += 2 * size;
-    put(bytes, at, 4);
-    for (int p : g.place) put(bytes, g.list[p], 2);
-    for (const Ints *section : {&g.list, &g.level, &g.children.start, &g.children.item})
-        for (int x : *section) put(bytes, x, 2);
-    for (uint32_t j = 0; j < d; j++) {
-        Ints ranked(k);
-        for (uint32_t p = 0; p < k; p++) {
-            const Label &l = a.labels[p * d + j];
-            for (int x : {l.s, l.m, l.e}) put(bytes, x, 2);
-            ranked[l.e - 1] = p;
-        }
-        for (int p : ranked) put(bytes, p, 2);
-    }
-    return bytes;
-}
-
 static void build(Where w, Cases &cases, const Numbers &orders) {
     const uint32_t n = w.n, most_edges = 16384;
     Numbers work(16 * n + 4 * most_edges + 64);
@@ -135,7 +53,7 @@ static void build(Where w, Cases &cases, const Numbers &orders) {
     auto ours = [&](const Case &c) {
         const Numbers &from = c.graph.from, &to = c.graph.to;
         size_t needed = 16 * n + 4 * from.size() + 64;
-        counted r = trial_build(from.data(), from.size(), to.data(), to.size(), orders.data(), orders.size(), work.data(), needed, out.data(), out.size(), n, w.d);
+        counted r = trial_build(from.data(), from.size(), to.data(), to.size(), orders.data(), orders.size(), work.data(), needed, out.data(), out.size(), 1, n, w.d);
         must(r.refusal == 0, "a build is refused");
         return r.count;
     };
@@ -145,7 +63,7 @@ static void build(Where w, Cases &cases, const Numbers &orders) {
                               {"closure", each(cases, [&](Case &c) { closure.build(c.graph); })}});
     for (Case &c : cases) {
         c.index.assign(out.begin(), out.begin() + ours(c));
-        must(c.index == stored_form(c.grail), "the peer builds another index");
+        must(c.index == stored_form(c.grail, 1), "the peer builds another index");
     }
 }
 
@@ -153,8 +71,8 @@ static void open(Where w, Cases &cases) {
     Bytes marks(w.n), scratch;
     Grail loaded;
     auto ours = [&](const Case &c) { must(drobisten_open(c.index.data(), c.index.size(), marks.data(), w.n).refusal == 0, "an index is refused"); };
-    auto check = [&](const Case &c) { must(Stored(c.index.data()).sound(scratch), "the peer refuses an index"); };
-    auto load = [&](const Case &c) { Stored(c.index.data()).load(loaded); };
+    auto check = [&](const Case &c) { must(Stored<uint16_t>(c.index.data()).sound(scratch), "the peer refuses an index"); };
+    auto load = [&](const Case &c) { Stored<uint16_t>(c.index.data()).load(loaded); };
     auto pass = [&](const Case &c) {
         const uint16_t *numbers = (const uint16_t *)c.index.data();
         uint32_t sum = 0;
@@ -165,7 +83,7 @@ static void open(Where w, Cases &cases) {
     measure(w, cases.size(), {{"ours", each(cases, ours)}, {"check", each(cases, check)}, {"load", each(cases, load)}, {"pass", each(cases, pass)}});
     for (const Case &c : cases) {
         load(c);
-        must(stored_form(loaded) == c.index, "the peer loads another index");
+        must(stored_form(loaded, 1) == c.index, "the peer loads another index");
     }
 }
 
@@ -177,7 +95,7 @@ static void damage(const Bytes &index, Chance &chance) {
         uint16_t *field = (uint16_t *)&bad[48 + 2 * chance.below((index.size() - 48) / 2)];
         *field = chance.below(2) ? chance.below(4096) : *field + 1 - 2 * chance.below(2);
         uint32_t refusal = drobisten_open(bad.data(), bad.size(), marks.data(), marks.size()).refusal;
-        must(refusal == (Stored(bad.data()).sound(scratch) ? 0 : 15), "the peer judges damaged contents otherwise");
+        must(refusal == (Stored<uint16_t>(bad.data()).sound(scratch) ? 0 : 15), "the peer judges damaged contents otherwise");
     }
 }
 
@@ -223,7 +141,7 @@ static void asks(Where w, Cases &cases) {
     };
     auto check = [&](Case &c) {
         auto [u, v] = pair(c);
-        sink = Stored(c.index.data()).sound(scratch) && c.grail.reaches(u, v);
+        sink = Stored<uint16_t>(c.index.data()).sound(scratch) && c.grail.reaches(u, v);
     };
     w.measure = "ask";
     measure(w, cases.size(), {{"ours", each(cases, ours)}, {"check", each(cases, check)}});
@@ -272,7 +190,8 @@ static void questions(Where w, Case &c) {
         must(i >= few || search(u, v) == yes, "breadth-first search answers otherwise");
         opened += r.opened;
     }
-    printf("opened\t%s\t%u\t%d\t%s\tours\t%.2f\n", w.kind, w.n, w.d, w.pairs, opened / pairs.size());
+    w.measure = "opened";
+    figure(w, "ours", opened / pairs.size());
 }
 
 // All pairs of one graph in one call, the check cut; the whole call on no pairs is what the check and the rest of a call cost.
@@ -322,7 +241,7 @@ int main(int words, char **word) {
             Chance chance(n);
             Cases cases(what == "monday" ? 1 : quick ? 2 : 8192 / n);
             for (Case &c : cases) {
-                c.graph = graph(kind, n, chance);
+                c.graph = graph(kind, n, 4, chance);
                 c.search.build(c.graph), c.closure.build(c.graph);
                 for (const char *which : {"reachable", "unreachable", "mixed"}) c.pairs[which] = choose(which, c.closure, n, &c == &cases[0] && !quick ? 20000 : 100, chance);
             }
@@ -335,7 +254,7 @@ int main(int words, char **word) {
                 }
                 if (what == "monday") {
                     cases[0].grail.build(cases[0].graph, orders, d);
-                    cases[0].index = stored_form(cases[0].grail);
+                    cases[0].index = stored_form(cases[0].grail, 1);
                 } else {
                     build(w, cases, orders);
                     if (what == "build") continue;

@@ -1,47 +1,10 @@
-# The tables of docs/FIGURES.md and its plot, from the figures that bench prints: measure, graph, n, d, pairs, who, nanoseconds.
-# awk -v svg=FILE -f bench/page.awk FIGURES: the tables go to the output, the plot to FILE. Without FILE: the table of builds alone, of the graphs that were built.
+# The tables of docs/FIGURES.md and its plot, from the figures that bench prints.
+# awk -v svg=FILE -f bench/tables.awk -f bench/page.awk FIGURES: the tables go to the output, the plot to FILE. Without FILE: the table of builds alone, of the graphs that
+# were built.
 BEGIN {
-    FS = "\t"
     sizes = split("500 1000 2000 4096", N, " ")
-    split("1 2 5", D, " ")
-    split("dag loops tree layers line", KIND, " ")
     split("reachable unreachable mixed", PAIRS, " ")
-    title["dag"] = "random acyclic"; title["loops"] = "with loops"; title["tree"] = "tree-like"; title["layers"] = "layers"; title["line"] = "line"
     most = N[sizes]
-}
-{ T[$1, $2, $3, $4, $5, $6] = $7 }
-
-function time(measure, kind, n, d, pairs, who) { return T[measure, kind, n, d, pairs, who] }
-
-# a time in words: three digits and a unit
-function told(ns) {
-    if (ns < 1000) return sprintf("%.3g ns", ns)
-    if (ns < 999500) return sprintf("%.3g µs", ns / 1000)
-    return sprintf("%.3g ms", ns / 1000000)
-}
-
-function ratio(a, b) { return sprintf(a / b < 9.995 ? "%.2f" : "%.0f", a / b) }
-
-# ours to a peer's, at every size
-function ratios(measure, kind, d, pairs, peer,    i, line) {
-    for (i = 1; i <= sizes; i++) line = line " | " ratio(time(measure, kind, N[i], d, pairs, "ours"), time(measure, kind, N[i], d, pairs, peer))
-    return line
-}
-
-# the slope of log time over log n, by least squares
-function slope(measure, kind, d, pairs, who,    i, x, y, sx, sy, sxx, sxy) {
-    for (i = 1; i <= sizes; i++) {
-        x = log(N[i]); y = log(time(measure, kind, N[i], d, pairs, who))
-        sx += x; sy += y; sxx += x * x; sxy += x * y
-    }
-    return sprintf("%.2f", (sizes * sxy - sx * sy) / (sizes * sxx - sx * sx))
-}
-
-function heading(words, columns,    line, i) {
-    print words
-    line = "|---|---"
-    for (i = 3; i <= columns; i++) line = line "|---:"
-    print line "|"
 }
 
 function builds(    a, j, kind, d) {

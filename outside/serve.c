@@ -10,21 +10,30 @@
 #include <sys/mman.h>
 #include <unistd.h>
 
-/* list, build and the text program's run are exported for these tests alone (crate trial); where one is not linked, a request for it ends this process */
+/* the calls that take stored forms 1 and 2, list, build and the text program's run are exported for these tests alone (crate trial); where one is not linked, a request
+ * for it ends this process */
 typedef struct { uint32_t refusal, extra, count; } counted;
 
-__attribute__((weak)) counted trial_list(const uint8_t *index, size_t index_len, uint8_t *marks, size_t marks_len, uint32_t *out, size_t out_len,
-                                         uint32_t vertex);
+__attribute__((weak)) drobisten_opened trial_open(const uint8_t *index, size_t index_len, uint8_t *marks, size_t marks_len, uint32_t *work, size_t work_len);
+__attribute__((weak)) drobisten_asked trial_ask(const uint8_t *index, size_t index_len, uint8_t *marks, size_t marks_len, uint32_t *work, size_t work_len,
+                                                uint32_t source, uint32_t target);
+__attribute__((weak)) drobisten_asked_all trial_ask_all(const uint8_t *index, size_t index_len, uint8_t *marks, size_t marks_len, uint32_t *work, size_t work_len,
+                                                        const uint32_t *sources, size_t sources_len, const uint32_t *targets, size_t targets_len,
+                                                        uint32_t *answers, size_t answers_len);
+__attribute__((weak)) counted trial_list(const uint8_t *index, size_t index_len, uint8_t *marks, size_t marks_len, uint32_t *work, size_t work_len, uint32_t *out,
+                                         size_t out_len, uint32_t vertex);
 __attribute__((weak)) counted trial_build(const uint32_t *sources, size_t sources_len, const uint32_t *targets, size_t targets_len,
                                           const uint32_t *orders, size_t orders_len, uint32_t *work, size_t work_len, uint8_t *out, size_t out_len,
-                                          uint32_t n, uint32_t d);
+                                          uint32_t form, uint32_t n, uint32_t d);
 __attribute__((weak)) size_t trial_run(const uint8_t *text, size_t text_len, uint8_t *out);
 
 /* the layout that the header states */
 _Static_assert(sizeof(drobisten_opened) == 24, "drobisten_opened is 24 bytes");
 _Static_assert(sizeof(drobisten_asked) == 24 && offsetof(drobisten_asked, labelling) == 20, "drobisten_asked is 24 bytes, labelling its last four");
 
-enum { OPEN = 1, ASK = 2, LIST = 3, BUILD = 4, ASK_ALL = 5, RUN = 6, BATCH = 20, BUILD_SMALL = 26, ASK_SMALL = 27 };
+/* what a request asks for, and of whom: the calls that Rattle code makes, or the C host's, which are lent no words */
+enum { OPEN = 1, ASK = 2, LIST = 3, BUILD = 4, ASK_MANY = 5, RUN = 6, ASK_ALL = 7 };
+enum { ORDINARY = 0, HOST = 1 };
 
 /* the bytes that a run is lent for its output, and what they hold before it */
 enum { MOST_OUTPUT = 338582, PATTERN = 0xa5 };
@@ -64,6 +73,8 @@ static lent buffer(size_t element) {
     return b;
 }
 
+static uint32_t *words(lent b) { return (uint32_t *)b.at; }
+
 static void done(lent b) { munmap(b.room, b.whole); }
 
 static void give_back(lent b) {
@@ -71,106 +82,160 @@ static void give_back(lent b) {
     done(b);
 }
 
-/* does a job on a thread whose stack is 16 KB, the least that pthreads allow, and lies above a page that nothing may touch: a job that takes more ends this process */
-enum { SMALL_STACK = 16384 };
-
-static void on_small_stack(void *(*work)(void *), void *job) {
+/* does a job on a thread whose stack has so many bytes, 16 KB being the least that pthreads allow, and lies above a page that nothing may touch: a job that takes more
+ * ends this process; 0 asks for this process's own stack */
+static void on_stack(uint32_t bytes, void *(*work)(void *), void *job) {
+    if (!bytes) {
+        work(job);
+        return;
+    }
     size_t page = (size_t)sysconf(_SC_PAGESIZE);
-    uint8_t *room = mmap(NULL, page + SMALL_STACK, PROT_READ | PROT_WRITE, MAP_PRIVATE | MAP_ANONYMOUS, -1, 0);
+    uint8_t *room = mmap(NULL, page + bytes, PROT_READ | PROT_WRITE, MAP_PRIVATE | MAP_ANONYMOUS, -1, 0);
     pthread_attr_t small;
     pthread_t thread;
     if (room == MAP_FAILED || mprotect(room, page, PROT_NONE)) exit(3);
-    if (pthread_attr_init(&small) || pthread_attr_setstack(&small, room + page, SMALL_STACK)) exit(3);
+    if (pthread_attr_init(&small) || pthread_attr_setstack(&small, room + page, bytes)) exit(3);
     if (pthread_create(&thread, &small, work, job) || pthread_join(thread, NULL)) exit(3);
-    munmap(room, page + SMALL_STACK);
+    munmap(room, page + bytes);
 }
 
-static void on_own_stack(void *(*work)(void *), void *job) { work(job); }
+/* a call on stored bytes: what it is lent, and what it returned */
+typedef struct {
+    uint32_t face, source, target;
+    lent index, marks, work, sources, targets, out;
+    union { drobisten_opened opened; drobisten_asked asked; drobisten_asked_all all; counted listed; } r;
+} asking;
 
-/* where a call is made */
-typedef void place(void *(*work)(void *), void *job);
-
-static void serve_open(void) {
-    lent index = buffer(1), marks = buffer(1);
-    drobisten_opened r = drobisten_open(index.at, index.length, marks.at, marks.length);
-    give(&r, sizeof r);
-    done(index);
-    give_back(marks);
+static void *open_index(void *job) {
+    asking *a = job;
+    a->r.opened = a->face == HOST ? drobisten_open(a->index.at, a->index.length, a->marks.at, a->marks.length)
+                                  : trial_open(a->index.at, a->index.length, a->marks.at, a->marks.length, words(a->work), a->work.length);
+    return NULL;
 }
-
-typedef struct { uint32_t source, target; lent index, marks; drobisten_asked r; } asking;
 
 static void *ask(void *job) {
     asking *a = job;
-    a->r = drobisten_ask(a->index.at, a->index.length, a->marks.at, a->marks.length, a->source, a->target);
+    a->r.asked = a->face == HOST ? drobisten_ask(a->index.at, a->index.length, a->marks.at, a->marks.length, a->source, a->target)
+                                 : trial_ask(a->index.at, a->index.length, a->marks.at, a->marks.length, words(a->work), a->work.length, a->source, a->target);
     return NULL;
 }
 
-static void serve_ask(place where) {
-    asking a;
-    a.source = number();
-    a.target = number();
-    a.index = buffer(1);
-    a.marks = buffer(1);
-    where(ask, &a);
-    give(&a.r, sizeof a.r);
-    done(a.index);
-    give_back(a.marks);
+static void *ask_all(void *job) {
+    asking *a = job;
+    a->r.all = a->face == HOST ? drobisten_ask_all(a->index.at, a->index.length, a->marks.at, a->marks.length, words(a->sources), a->sources.length,
+                                                   words(a->targets), a->targets.length, words(a->out), a->out.length)
+                               : trial_ask_all(a->index.at, a->index.length, a->marks.at, a->marks.length, words(a->work), a->work.length, words(a->sources),
+                                               a->sources.length, words(a->targets), a->targets.length, words(a->out), a->out.length);
+    return NULL;
 }
 
-/* one index, many questions, the same marks before each: answers, then each question's marks */
-static void serve_ask_all(void) {
-    lent index = buffer(1), marks = buffer(1), pairs = buffer(4);
-    uint8_t *before = malloc(marks.size + 1);
-    const uint32_t *pair = (const uint32_t *)pairs.at;
-    memcpy(before, marks.at, marks.size);
+static void *list(void *job) {
+    asking *a = job;
+    a->r.listed = trial_list(a->index.at, a->index.length, a->marks.at, a->marks.length, words(a->work), a->work.length, words(a->out), a->out.length, a->source);
+    return NULL;
+}
+
+/* what every call on stored bytes is lent */
+static void take_index(asking *a) {
+    a->index = buffer(1);
+    a->marks = buffer(1);
+    a->work = buffer(4);
+}
+
+static void give_marks(asking *a) {
+    done(a->index);
+    give_back(a->marks);
+    give_back(a->work);
+}
+
+static void serve_open(uint32_t face, uint32_t stack) {
+    asking a = {.face = face};
+    take_index(&a);
+    on_stack(stack, open_index, &a);
+    give(&a.r.opened, sizeof a.r.opened);
+    give_marks(&a);
+}
+
+static void serve_ask(uint32_t face, uint32_t stack) {
+    asking a = {.face = face};
+    a.source = number();
+    a.target = number();
+    take_index(&a);
+    on_stack(stack, ask, &a);
+    give(&a.r.asked, sizeof a.r.asked);
+    give_marks(&a);
+}
+
+/* One index, many questions, the same marks and words before each. Of each question its answer, the marks, how many words at the front are 0, and how many behind them are
+ * not as they were. */
+static void serve_ask_many(uint32_t face) {
+    asking a = {.face = face};
+    take_index(&a);
+    lent pairs = buffer(4);
+    uint8_t *marks = malloc(a.marks.size + 1), *work = malloc(a.work.size + 1);
+    if (!marks || !work) exit(3);
+    memcpy(marks, a.marks.at, a.marks.size);
+    memcpy(work, a.work.at, a.work.size);
     for (size_t i = 0; i + 1 < pairs.length; i += 2) {
-        memcpy(marks.at, before, marks.size);
-        drobisten_asked r = drobisten_ask(index.at, index.length, marks.at, marks.length, pair[i], pair[i + 1]);
-        give(&r, sizeof r);
-        give(marks.at, marks.size);
+        memcpy(a.marks.at, marks, a.marks.size);
+        memcpy(a.work.at, work, a.work.size);
+        a.source = words(pairs)[i];
+        a.target = words(pairs)[i + 1];
+        ask(&a);
+        uint32_t left[2] = {0, 0};
+        while (left[0] < a.work.length && words(a.work)[left[0]] == 0) left[0]++;
+        for (size_t w = left[0]; w < a.work.length; w++) left[1] += words(a.work)[w] != ((uint32_t *)work)[w];
+        give(&a.r.asked, sizeof a.r.asked);
+        give(a.marks.at, a.marks.size);
+        give(left, sizeof left);
     }
-    free(before);
-    done(index);
+    free(marks);
+    free(work);
+    done(a.index);
+    done(a.marks);
+    done(a.work);
     done(pairs);
-    done(marks);
 }
 
 /* all pairs in one call */
-static void serve_batch(void) {
-    lent index = buffer(1), marks = buffer(1), sources = buffer(4), targets = buffer(4), answers = buffer(4);
-    drobisten_asked_all r = drobisten_ask_all(index.at, index.length, marks.at, marks.length, (uint32_t *)sources.at, sources.length, (uint32_t *)targets.at,
-                                              targets.length, (uint32_t *)answers.at, answers.length);
-    uint32_t numbers[3] = {r.refusal, (uint32_t)r.extra, (uint32_t)r.count};
+static void serve_ask_all(uint32_t face, uint32_t stack) {
+    asking a = {.face = face};
+    take_index(&a);
+    a.sources = buffer(4);
+    a.targets = buffer(4);
+    a.out = buffer(4);
+    on_stack(stack, ask_all, &a);
+    uint32_t numbers[3] = {a.r.all.refusal, (uint32_t)a.r.all.extra, (uint32_t)a.r.all.count};
     give(numbers, sizeof numbers);
-    done(index);
-    done(sources);
-    done(targets);
-    give_back(marks);
-    give_back(answers);
+    done(a.sources);
+    done(a.targets);
+    give_marks(&a);
+    give_back(a.out);
 }
 
-static void serve_list(void) {
-    uint32_t vertex = number();
-    lent index = buffer(1), marks = buffer(1), out = buffer(4);
-    counted r = trial_list(index.at, index.length, marks.at, marks.length, (uint32_t *)out.at, out.length, vertex);
-    give(&r, sizeof r);
-    done(index);
-    give_back(marks);
-    give_back(out);
+static void serve_list(uint32_t stack) {
+    asking a = {.face = ORDINARY};
+    a.source = number();
+    take_index(&a);
+    a.out = buffer(4);
+    on_stack(stack, list, &a);
+    give(&a.r.listed, sizeof a.r.listed);
+    give_marks(&a);
+    give_back(a.out);
 }
 
-typedef struct { uint32_t n, d; lent sources, targets, orders, work, out; counted r; } building;
+typedef struct { uint32_t form, n, d; lent sources, targets, orders, work, out; counted r; } building;
 
 static void *build(void *job) {
     building *b = job;
-    b->r = trial_build((uint32_t *)b->sources.at, b->sources.length, (uint32_t *)b->targets.at, b->targets.length, (uint32_t *)b->orders.at, b->orders.length,
-                       (uint32_t *)b->work.at, b->work.length, b->out.at, b->out.length, b->n, b->d);
+    b->r = trial_build(words(b->sources), b->sources.length, words(b->targets), b->targets.length, words(b->orders), b->orders.length, words(b->work), b->work.length,
+                       b->out.at, b->out.length, b->form, b->n, b->d);
     return NULL;
 }
 
-static void serve_build(place where) {
+static void serve_build(uint32_t stack) {
     building b;
+    b.form = number();
     b.n = number();
     b.d = number();
     b.sources = buffer(4);
@@ -178,7 +243,7 @@ static void serve_build(place where) {
     b.orders = buffer(4);
     b.work = buffer(4);
     b.out = buffer(1);
-    where(build, &b);
+    on_stack(stack, build, &b);
     give(&b.r, sizeof b.r);
     done(b.sources);
     done(b.targets);
@@ -202,16 +267,15 @@ static void serve_run(void) {
 int main(void) {
     uint32_t call;
     while (fread(&call, 4, 1, stdin) == 1) {
+        uint32_t face = number(), stack = number();
         switch (call) {
-        case OPEN: serve_open(); break;
-        case ASK: serve_ask(on_own_stack); break;
-        case LIST: if (!trial_list) return 5; serve_list(); break;
-        case BUILD: if (!trial_build) return 5; serve_build(on_own_stack); break;
-        case ASK_ALL: serve_ask_all(); break;
-        case BATCH: serve_batch(); break;
+        case OPEN: if (face != HOST && !trial_open) return 5; serve_open(face, stack); break;
+        case ASK: if (face != HOST && !trial_ask) return 5; serve_ask(face, stack); break;
+        case ASK_MANY: if (face != HOST && !trial_ask) return 5; serve_ask_many(face); break;
+        case ASK_ALL: if (face != HOST && !trial_ask_all) return 5; serve_ask_all(face, stack); break;
+        case LIST: if (!trial_list) return 5; serve_list(stack); break;
+        case BUILD: if (!trial_build) return 5; serve_build(stack); break;
         case RUN: if (!trial_run) return 5; serve_run(); break;
-        case BUILD_SMALL: if (!trial_build) return 5; serve_build(on_small_stack); break;
-        case ASK_SMALL: serve_ask(on_small_stack); break;
         default: return 4;
         }
         if (fflush(stdout)) return 2;

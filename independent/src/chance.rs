@@ -1,9 +1,10 @@
 //! Chance with a fixed seed: numbers, orders, graphs of several kinds, and damage to stored bytes. The same seed gives
 //! the same things on every machine, so a failure that is reported with its seed can be seen again.
 
-use crate::bounds::{HEADER_BYTES, MOST_EDGES, MOST_LABELLINGS, MOST_VERTICES};
+use crate::bounds::{HEADER_BYTES, MOST_LABELLINGS};
+use crate::form::{Form, FORM_1, ORDINARY};
 use crate::graph::Graph;
-use crate::stored::{decode, encode, Counts};
+use crate::stored::{decode, encode, little_endian, Counts};
 
 /// A source of numbers (splitmix64).
 #[derive(Clone, Debug)]
@@ -64,13 +65,13 @@ impl Kind {
 /// The kinds of damage to stored bytes. Any of them may by chance leave the bytes as they were, or sound.
 #[derive(Clone, Copy, Debug, PartialEq, Eq)]
 pub enum Damage {
-    /// One 16-bit field behind the header to any small or great number.
+    /// One field behind the header to any small or great number.
     Field,
-    /// One 16-bit field behind the header up or down by one or two.
+    /// One field behind the header up or down by one or two.
     NearField,
-    /// Two 16-bit fields behind the header exchanged.
+    /// Two fields behind the header exchanged.
     SwapFields,
-    /// Two neighbouring 16-bit fields behind the header exchanged.
+    /// Two neighbouring fields behind the header exchanged.
     SwapNeighbours,
     /// The triples and ranks of two places exchanged throughout one labelling.
     SwapRanks,
@@ -160,17 +161,22 @@ impl Chance {
         (0..d).map(|_| self.order(n)).collect()
     }
 
-    /// A graph of this kind on n vertices, with at most as many edges as a build takes. In one half of the cases the
-    /// vertices are numbered at random, in the other as the kind suggests.
+    /// A graph of this kind on n vertices, with at most as many edges as a build of form 1 takes. In one half of the cases
+    /// the vertices are numbered at random, in the other as the kind suggests.
     pub fn graph(&mut self, kind: Kind, n: usize) -> Graph {
+        self.graph_of(kind, n, FORM_1.most_edges)
+    }
+
+    /// The same with at most so many edges.
+    pub fn graph_of(&mut self, kind: Kind, n: usize, most: usize) -> Graph {
         let numbering = if self.coin() { self.order(n) } else { (0..n).collect() };
-        let mut edges = self.edges(kind, n);
+        let mut edges = self.edges(kind, n, most);
         for (u, v) in &mut edges {
             *u = numbering[*u];
             *v = numbering[*v];
         }
         self.shuffle(&mut edges);
-        edges.truncate(MOST_EDGES);
+        edges.truncate(most);
         Graph { n, edges }
     }
 
@@ -180,7 +186,7 @@ impl Chance {
         self.graph(kind, n)
     }
 
-    fn edges(&mut self, kind: Kind, n: usize) -> Vec<(usize, usize)> {
+    fn edges(&mut self, kind: Kind, n: usize, most: usize) -> Vec<(usize, usize)> {
         if n == 0 {
             return Vec::new();
         }
@@ -190,7 +196,7 @@ impl Chance {
                 let count = self.between(n / 2, n + n / 2);
                 self.pairs(n, count)
             }
-            Kind::Dense => self.pairs(n, (n * n / 3).min(MOST_EDGES)),
+            Kind::Dense => self.pairs(n, (n * n / 3).min(most)),
             Kind::Dag => {
                 let count = self.between(n, 4 * n);
                 let rising = |(u, v): (usize, usize)| (u.min(v), u.max(v));
@@ -259,8 +265,8 @@ impl Chance {
                 edges
             }
             Kind::CompleteBipartite => {
-                let side = self.between(1, n).min(MOST_EDGES);
-                let other = (n - side).min(MOST_EDGES / side);
+                let side = self.between(1, n).min(most);
+                let other = (n - side).min(most / side);
                 let pairs = (0..side).flat_map(|u| (0..other).map(move |v| (u, side + v)));
                 pairs.collect()
             }
@@ -275,24 +281,22 @@ impl Chance {
     /// The bytes of a stored index, damaged in this way.
     pub fn damage(&mut self, kind: Damage, image: &[u8]) -> Vec<u8> {
         let mut bytes = image.to_vec();
-        let fields = image.len().saturating_sub(HEADER_BYTES) / 2;
+        let mut fields = Fields::of(&mut bytes);
         match kind {
-            Damage::Field if fields > 0 => {
-                let value = self.field_value(fields);
-                set_field(&mut bytes, self.below(fields), value);
+            Damage::Field if fields.count > 0 => {
+                let value = self.field_value(fields.count);
+                fields.set(self.below(fields.count), value);
             }
-            Damage::NearField if fields > 0 => {
-                let field = self.below(fields);
-                let step = self.one_of(&[1, 2, 0xffff, 0xfffe]);
-                let value = get_field(&bytes, field).wrapping_add(step);
-                set_field(&mut bytes, field, value);
+            Damage::NearField if fields.count > 0 => {
+                let field = self.below(fields.count);
+                let step = self.one_of(&[1, 2, usize::MAX, usize::MAX - 1]);
+                let value = fields.get(field).wrapping_add(step);
+                fields.set(field, value);
             }
-            Damage::SwapFields if fields > 0 => {
-                swap_fields(&mut bytes, self.below(fields), self.below(fields));
-            }
-            Damage::SwapNeighbours if fields > 1 => {
-                let field = self.below(fields - 1);
-                swap_fields(&mut bytes, field, field + 1);
+            Damage::SwapFields if fields.count > 0 => fields.swap(self.below(fields.count), self.below(fields.count)),
+            Damage::SwapNeighbours if fields.count > 1 => {
+                let field = self.below(fields.count - 1);
+                fields.swap(field, field + 1);
             }
             Damage::SwapRanks => self.swap_ranks(&mut bytes),
             Damage::Cut => bytes.truncate(self.below(image.len() + 1)),
@@ -327,51 +331,65 @@ impl Chance {
     }
 
     /// A number for a field: most often one that could stand there.
-    fn field_value(&mut self, fields: usize) -> u16 {
+    fn field_value(&mut self, fields: usize) -> usize {
         match self.below(8) {
-            0 => self.number() as u16,
-            1 => self.one_of(&[0xffff, 0xfffe, 0x8000, 0x7fff, 0x1000, 0x0fff]),
-            _ => self.below(fields) as u16,
+            0 => self.number() as usize,
+            1 => self.one_of(&[
+                u32::MAX as usize,
+                0x8000_0000,
+                0x1_0000,
+                0xffff,
+                0xfffe,
+                0x8000,
+                0x7fff,
+                0x1000,
+                0x0fff,
+            ]),
+            _ => self.below(fields),
         }
     }
 
     fn header_field(&mut self, bytes: &mut [u8]) {
         let at = 4 * self.below(HEADER_BYTES / 4);
-        let old = u32::from_le_bytes([bytes[at], bytes[at + 1], bytes[at + 2], bytes[at + 3]]);
-        let new = match self.below(4) {
+        let old = little_endian(&bytes[at..at + 4]) as u32;
+        let bounds = ORDINARY.map(|form| [form.most_vertices, form.most_edges].map(|most| most as u32));
+        let new = match self.below(5) {
             0 => self.number() as u32,
             1 => self.below(8) as u32,
-            2 => self.one_of(&[u32::MAX, 1 << 31, 1 << 16, 4_096, 4_097, 16_384, 16_385]),
+            2 => self.one_of(&[u32::MAX, 1 << 31, 1 << 16]),
+            3 => self.one_of(&bounds.concat()) + self.below(2) as u32,
             _ => old.wrapping_add(self.one_of(&[1, 2, u32::MAX, u32::MAX - 1])),
         };
         bytes[at..at + 4].copy_from_slice(&new.to_le_bytes());
     }
 
     fn swap_ranks(&mut self, bytes: &mut [u8]) {
-        let Ok(counts) = Counts::read(bytes) else {
+        let Ok((_, counts)) = Counts::read(bytes, &ORDINARY) else {
             return;
         };
         if counts.k == 0 {
             return;
         }
+        let mut fields = Fields::of(bytes);
         let labels = counts.sections()[..5].iter().sum::<usize>();
         let first = labels + 4 * counts.k * self.below(counts.d);
         let (a, b) = (self.below(counts.k), self.below(counts.k));
         for part in 0..3 {
-            swap_fields(bytes, first + 3 * a + part, first + 3 * b + part);
+            fields.swap(first + 3 * a + part, first + 3 * b + part);
         }
         for rank in first + 3 * counts.k..first + 4 * counts.k {
-            let place = get_field(bytes, rank) as usize;
+            let place = fields.get(rank);
             if place == a {
-                set_field(bytes, rank, b as u16);
+                fields.set(rank, b);
             } else if place == b {
-                set_field(bytes, rank, a as u16);
+                fields.set(rank, a);
             }
         }
     }
 
     fn random_fields(&mut self, image: &[u8]) -> Vec<u8> {
-        let most = (image.len() / 16).min(MOST_VERTICES);
+        let form = form_of(image);
+        let most = (image.len() / (8 * form.width)).min(form.most_vertices);
         let n = self.between(0, most);
         let counts = Counts {
             n,
@@ -380,18 +398,20 @@ impl Chance {
             d: self.between(1, MOST_LABELLINGS),
         };
         let mut bytes: Vec<u8> = Vec::new();
-        for number in counts.header() {
+        for number in counts.header(&form) {
             bytes.extend(number.to_le_bytes());
         }
         for _ in 0..counts.sections().iter().sum::<usize>() {
-            bytes.extend((self.between(0, n + 1) as u16).to_le_bytes());
+            bytes.extend(&self.between(0, n + 1).to_le_bytes()[..form.width]);
         }
         bytes
     }
 
     fn other_child(&mut self, image: &[u8], added: bool) -> Vec<u8> {
-        let read = Counts::read(image).ok();
-        let Some(mut index) = read.and_then(|counts| decode(image, &counts)) else {
+        let Ok((form, counts)) = Counts::read(image, &ORDINARY) else {
+            return image.to_vec();
+        };
+        let Some(mut index) = decode(image, &form, &counts) else {
             return image.to_vec();
         };
         let k = index.groups.list.len();
@@ -406,23 +426,44 @@ impl Chance {
             let at = self.below(children[parent].len());
             children[parent].remove(at);
         }
-        encode(&index)
+        encode(&form, &index)
     }
 }
 
-/// The 16-bit field with this number behind the header.
-fn get_field(bytes: &[u8], field: usize) -> u16 {
-    let at = HEADER_BYTES + 2 * field;
-    u16::from_le_bytes([bytes[at], bytes[at + 1]])
+/// The form that bytes say they are of; form 1 if there is none such.
+fn form_of(bytes: &[u8]) -> Form {
+    let number = bytes.get(..4).map_or(0, little_endian);
+    Form::among(&ORDINARY, number as u32).unwrap_or(FORM_1)
 }
 
-fn set_field(bytes: &mut [u8], field: usize, value: u16) {
-    let at = HEADER_BYTES + 2 * field;
-    bytes[at..at + 2].copy_from_slice(&value.to_le_bytes());
+/// The numbers behind the header, by their position, each of the width that the bytes' form has.
+pub struct Fields<'a> {
+    behind: &'a mut [u8],
+    width: usize,
+    pub count: usize,
 }
 
-fn swap_fields(bytes: &mut [u8], a: usize, b: usize) {
-    let (in_a, in_b) = (get_field(bytes, a), get_field(bytes, b));
-    set_field(bytes, a, in_b);
-    set_field(bytes, b, in_a);
+impl Fields<'_> {
+    pub fn of(bytes: &mut [u8]) -> Fields<'_> {
+        let width = form_of(bytes).width;
+        let behind = bytes.get_mut(HEADER_BYTES..).unwrap_or_default();
+        let count = behind.len() / width;
+        Fields { behind, width, count }
+    }
+
+    fn get(&self, field: usize) -> usize {
+        little_endian(&self.behind[self.width * field..self.width * (field + 1)])
+    }
+
+    /// Of a number too large the low bytes.
+    pub fn set(&mut self, field: usize, value: usize) {
+        let bytes = &value.to_le_bytes()[..self.width];
+        self.behind[self.width * field..self.width * (field + 1)].copy_from_slice(bytes);
+    }
+
+    pub fn swap(&mut self, a: usize, b: usize) {
+        let (in_a, in_b) = (self.get(a), self.get(b));
+        self.set(a, in_b);
+        self.set(b, in_a);
+    }
 }

@@ -1,4 +1,5 @@
-//! Plain reachability: one search from each vertex. Every yes and no of an index must agree with it.
+//! Plain reachability: one search from each vertex. Every yes and no of an index must agree with it. For graphs too large
+//! for that, [`Search`] is one search at a time.
 
 use crate::graph::Graph;
 
@@ -9,10 +10,7 @@ pub struct Closure {
 
 impl Closure {
     pub fn of(graph: &Graph) -> Closure {
-        let mut next = vec![Vec::new(); graph.n];
-        for &(u, v) in &graph.edges {
-            next[u].push(v);
-        }
+        let next = next(graph);
         Closure {
             rows: (0..graph.n).map(|u| reached(&next, u)).collect(),
         }
@@ -34,6 +32,44 @@ impl Closure {
             .filter(|&v| self.reaches(u, v) && (v != u || comes_back))
             .collect()
     }
+}
+
+/// One search at a time, along the edges and against them.
+pub struct Search {
+    next: Vec<Vec<usize>>,
+    before: Vec<Vec<usize>>,
+}
+
+impl Search {
+    pub fn of(graph: &Graph) -> Search {
+        Search {
+            next: next(graph),
+            before: next(&graph.turned()),
+        }
+    }
+
+    /// Which vertices u reaches.
+    pub fn from(&self, u: usize) -> Vec<bool> {
+        reached(&self.next, u)
+    }
+
+    /// The downstream list, rising, as [`Closure::downstream`] has it.
+    pub fn downstream(&self, u: usize) -> Vec<usize> {
+        let (found, finds) = (self.from(u), reached(&self.before, u));
+        let comes_back = (0..found.len()).any(|v| v != u && found[v] && finds[v]);
+        (0..found.len())
+            .filter(|&v| found[v] && (v != u || comes_back))
+            .collect()
+    }
+}
+
+/// By vertex: where its edges lead.
+pub fn next(graph: &Graph) -> Vec<Vec<usize>> {
+    let mut next = vec![Vec::new(); graph.n];
+    for &(u, v) in &graph.edges {
+        next[u].push(v);
+    }
+    next
 }
 
 /// What a search from one point finds, the point included; `next` says where the edges of each point lead.

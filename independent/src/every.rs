@@ -1,6 +1,7 @@
 //! The second judge of soundness, for a handful of vertices: all images there are, found by trying every set of edges
 //! and every choice of orders.
 
+use crate::form::Form;
 use crate::graph::Graph;
 use crate::groups::Groups;
 use crate::index::Index;
@@ -8,19 +9,20 @@ use crate::labels::Labelling;
 use crate::stored::encode;
 use std::collections::BTreeSet;
 
-/// The images of all graphs on n vertices under all choices of d orders. Repeated edges and self-loops change neither
+/// The images, in a form, of all graphs on n vertices under all choices of d orders. Repeated edges and self-loops change neither
 /// what reaches what nor which groups are children, so sets of edges between different vertices give all images.
-pub fn every_image(n: usize, d: usize) -> BTreeSet<Vec<u8>> {
+pub fn every_image(form: &Form, n: usize, d: usize) -> BTreeSet<Vec<u8>> {
     let orders = every_order(n);
     let mut images = BTreeSet::new();
     for graph in every_graph(n) {
         let groups = Groups::of(&graph);
         let labellings: Vec<Labelling> = orders.iter().map(|order| Labelling::of(&groups, order)).collect();
         for choice in every_choice(&labellings, d) {
-            images.insert(encode(&Index {
+            let index = Index {
                 groups: groups.clone(),
                 labellings: choice,
-            }));
+            };
+            images.insert(encode(form, &index));
         }
     }
     images

@@ -24,6 +24,14 @@ impl Graph {
         }
     }
 
+    /// Each edge the other way round.
+    pub fn turned(&self) -> Graph {
+        Graph {
+            n: self.n,
+            edges: self.edges.iter().map(|&(u, v)| (v, u)).collect(),
+        }
+    }
+
     pub fn sources(&self) -> Vec<u32> {
         self.edges.iter().map(|&(u, _)| u as u32).collect()
     }

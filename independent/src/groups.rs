@@ -1,6 +1,6 @@
 //! Groups of vertices that reach each other: their names, places, children and levels.
 
-use crate::closure::Closure;
+use crate::closure::next;
 use crate::graph::Graph;
 use std::collections::BTreeSet;
 
@@ -18,7 +18,7 @@ pub struct Groups {
 
 impl Groups {
     pub fn of(graph: &Graph) -> Groups {
-        let names = names(&Closure::of(graph));
+        let names = names(graph);
         let list: Vec<usize> = (0..graph.n).filter(|&v| names[v] == v).collect();
         let children = children(graph, &names, &list);
         let levels = levels(&children);
@@ -51,11 +51,52 @@ impl Groups {
     }
 }
 
-/// A group's name is its smallest vertex: the smallest u that v reaches and that reaches v.
-fn names(closure: &Closure) -> Vec<usize> {
-    let mutual = |u, v| closure.reaches(v, u) && closure.reaches(u, v);
-    (0..closure.size())
-        .map(|v| (0..v).find(|&u| mutual(u, v)).unwrap_or(v))
+/// A group's name is its smallest vertex. A search goes down a path and keeps the vertices that it has come to and that are
+/// in no group yet, in a row. An edge that leads back into the row closes a cycle, so all that stands from there on is in one
+/// group, with `firsts` telling where the parts of the row begin that are not yet known to be one. Where the search leaves
+/// the first vertex of the last part, nothing below leads further back: that part is a group.
+fn names(graph: &Graph) -> Vec<usize> {
+    let next = next(graph);
+    let mut names = vec![None; graph.n];
+    let mut position = vec![None; graph.n];
+    let (mut row, mut firsts) = (Vec::new(), Vec::new());
+    for start in 0..graph.n {
+        let mut coming_to = position[start].is_none().then_some(start);
+        // Each vertex on the way to where the search stands, with the number of its edges tried.
+        let mut path: Vec<(usize, usize)> = Vec::new();
+        loop {
+            if let Some(vertex) = coming_to.take() {
+                position[vertex] = Some(row.len());
+                firsts.push(row.len());
+                row.push(vertex);
+                path.push((vertex, 0));
+            }
+            let Some((vertex, tried)) = path.last_mut() else {
+                break;
+            };
+            let vertex = *vertex;
+            if let Some(&other) = next[vertex].get(*tried) {
+                *tried += 1;
+                match position[other] {
+                    None => coming_to = Some(other),
+                    Some(back) if names[other].is_none() => {
+                        firsts.truncate(firsts.partition_point(|&first| first <= back))
+                    }
+                    Some(_) => {}
+                }
+            } else {
+                path.pop();
+                if firsts.last().copied() == position[vertex] {
+                    let group = row.split_off(firsts.pop().unwrap());
+                    let name = group.iter().min().copied();
+                    group.into_iter().for_each(|member| names[member] = name);
+                }
+            }
+        }
+    }
+    names
+        .into_iter()
+        .map(|name| name.expect("every vertex is in a group"))
         .collect()
 }
 
@@ -75,18 +116,24 @@ fn children(graph: &Graph, names: &[usize], list: &[usize]) -> Vec<Vec<usize>> {
     sets.into_iter().map(|set| set.into_iter().collect()).collect()
 }
 
-/// 0 without children, otherwise one more than the greatest level among the children: corrected until it holds
-/// everywhere, which it does in the end because no group is below itself.
+/// 0 without children, otherwise one more than the greatest level among the children: settled for a group once it is for
+/// all its children, which it is in the end because no group is below itself.
 fn levels(children: &[Vec<usize>]) -> Vec<usize> {
+    let mut parents = vec![Vec::new(); children.len()];
+    for (place, below) in children.iter().enumerate() {
+        below.iter().for_each(|&child| parents[child].push(place));
+    }
     let mut levels = vec![0; children.len()];
-    loop {
-        let before = levels.clone();
-        for place in 0..children.len() {
-            let below = children[place].iter().map(|&child| levels[child] + 1);
-            levels[place] = below.max().unwrap_or(0);
-        }
-        if levels == before {
-            return levels;
+    let mut unsettled: Vec<usize> = children.iter().map(Vec::len).collect();
+    let mut settled: Vec<usize> = (0..children.len()).filter(|&place| unsettled[place] == 0).collect();
+    while let Some(child) = settled.pop() {
+        for &place in &parents[child] {
+            levels[place] = levels[place].max(levels[child] + 1);
+            unsettled[place] -= 1;
+            if unsettled[place] == 0 {
+                settled.push(place);
+            }
         }
     }
+    levels
 }

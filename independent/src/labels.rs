@@ -40,13 +40,12 @@ impl Labelling {
             }
         }
 
-        // Each group's rank is a rank in its own subtree and in that of every group above it.
+        // A subtree is finished before its group, so by rising rank the least rank in each is known before the group above
+        // takes it over.
         let mut m = e.clone();
-        for place in 0..k {
-            let mut over = above[place];
-            while let Some(group) = over {
-                m[group] = m[group].min(e[place]);
-                over = above[group];
+        for &place in &by_rank {
+            if let Some(group) = above[place] {
+                m[group] = m[group].min(m[place]);
             }
         }
 

@@ -4,9 +4,9 @@
 //! reads wrongly, in its definitions too, shows as a difference here. Yes and no come from plain search; labels and
 //! stored bytes follow the words; soundness is decided by making the index again and comparing bytes.
 //!
-//! The data's way is the reading order: [`graph`], [`closure`], [`groups`], [`labels`], [`index`], [`stored`],
-//! [`sound`] with [`every`] beside it, [`question`], [`calls`], [`batch`], [`text`]. [`chance`] makes graphs, orders and damage
-//! for comparisons.
+//! The data's way is the reading order: [`graph`], [`closure`], [`groups`], [`labels`], [`index`], [`form`], [`stored`],
+//! [`sound`] with [`every`] beside it, [`question`], [`calls`], [`batch`], [`host`], [`text`]. [`chance`] makes graphs,
+//! orders and damage for comparisons.
 
 pub mod batch;
 pub mod bounds;
@@ -14,8 +14,10 @@ pub mod calls;
 pub mod chance;
 pub mod closure;
 pub mod every;
+pub mod form;
 pub mod graph;
 pub mod groups;
+pub mod host;
 pub mod index;
 pub mod labels;
 pub mod question;
@@ -26,6 +28,7 @@ pub mod text;
 
 pub use batch::ask_all;
 pub use calls::{ask, build, list, open};
+pub use form::{Form, FORM_1, FORM_2, ORDINARY};
 pub use graph::Graph;
 pub use index::Index;
 pub use question::Answer;

@@ -20,15 +20,16 @@
 //!   the children too; and if no child is left unvisited, both finish the group. So the two traversals are the
 //!   same, and with them ranks and intervals. Where the other vertices stand in the order plays no part.
 
+use crate::form::Form;
 use crate::graph::{is_permutation, Graph};
 use crate::groups::Groups;
 use crate::index::Index;
 use crate::labels::Labelling;
 use crate::stored::{decode, encode, Counts};
 
-/// The index that these bytes hold, if their contents are sound. The counts are those that the bytes' header gives.
-pub fn sound_index(bytes: &[u8], counts: &Counts) -> Option<Index> {
-    let told = decode(bytes, counts)?;
+/// The index that these bytes hold, if their contents are sound. Form and counts are those that the bytes' header gives.
+pub fn sound_index(bytes: &[u8], form: &Form, counts: &Counts) -> Option<Index> {
+    let told = decode(bytes, form, counts)?;
     let graph = graph_told(&told.groups, counts)?;
     let orders = told
         .labellings
@@ -36,7 +37,7 @@ pub fn sound_index(bytes: &[u8], counts: &Counts) -> Option<Index> {
         .map(|labelling| order_told(&told.groups, labelling))
         .collect::<Option<Vec<_>>>()?;
     let made = Index::of(&graph, &orders);
-    (encode(&made) == bytes).then_some(made)
+    (encode(form, &made) == bytes).then_some(made)
 }
 
 /// The graph read off from names and children; none if they speak of vertices or places that there are not.
@@ -86,20 +87,16 @@ impl Forest {
         }
         let owners = owners.into_iter().collect::<Option<Vec<usize>>>()?;
 
-        let mut forest = Forest {
-            roots: Vec::new(),
-            below: vec![Vec::new(); k],
-        };
-        for (before, &place) in owners.iter().enumerate() {
-            let rank = before + 1;
-            // Of nested intervals around a rank, the smallest is the one that ends first.
-            let around = owners[rank..].iter().find(|&&o| labelling.m[o] <= rank);
-            match around {
-                Some(&owner) => forest.below[owner].push(place),
-                None => forest.roots.push(place),
-            }
+        // Of nested intervals around a rank, the smallest is the one that ends first: by rising rank each group takes those
+        // that its interval holds and that no group has taken.
+        let mut below = vec![Vec::new(); k];
+        let mut roots: Vec<usize> = Vec::new();
+        for &place in &owners {
+            let taken = roots.partition_point(|&root| labelling.e[root] < labelling.m[place]);
+            below[place] = roots.split_off(taken);
+            roots.push(place);
         }
-        Some(forest)
+        Some(Forest { roots, below })
     }
 
     fn preorder(&self) -> Vec<usize> {

@@ -1,6 +1,7 @@
-//! Stored form 1: an index written to bytes, its header checked, and its bytes taken apart.
+//! The stored bytes, in either form: an index written to them, their header checked, and they taken apart.
 
-use crate::bounds::{total_length, FORM, HEADER_BYTES, MOST_CHILD_ENTRIES, MOST_LABELLINGS, MOST_VERTICES};
+use crate::bounds::{HEADER_BYTES, MOST_LABELLINGS};
+use crate::form::Form;
 use crate::graph::Graph;
 use crate::groups::Groups;
 use crate::index::Index;
@@ -26,54 +27,47 @@ impl Counts {
         }
     }
 
-    /// The lengths of the six sections, in 16-bit numbers.
+    /// How many numbers each of the six sections holds.
     pub fn sections(&self) -> [usize; 6] {
         let Counts { n, k, c, d } = *self;
         [n, k, k, k + 1, c, 4 * d * k]
     }
 
-    pub fn total(&self) -> usize {
-        total_length(self.n, self.k, self.c, self.d)
-    }
-
-    /// The twelve numbers of the header that these counts give.
-    pub fn header(&self) -> [u32; 12] {
-        let mut numbers = vec![FORM as usize, self.n, self.k, self.c, self.d];
+    /// The twelve numbers of the header that these counts give in a form.
+    pub fn header(&self, form: &Form) -> [u32; 12] {
+        let mut numbers = vec![form.number as usize, self.n, self.k, self.c, self.d];
         let mut offset = HEADER_BYTES;
         for section in self.sections() {
             numbers.push(offset);
-            offset += 2 * section;
+            offset += form.width * section;
         }
-        numbers.push(self.total());
+        numbers.push(form.total_length(self));
         std::array::from_fn(|i| numbers[i] as u32)
     }
 
-    /// The counts of these bytes, or refusal 10, 11 or 12.
-    pub fn read(bytes: &[u8]) -> Result<Counts, Refusal> {
+    /// The form and the counts of these bytes, or refusal 10, 11 for a form that is not taken, or 12 by the form's bounds.
+    pub fn read(bytes: &[u8], taken: &[Form]) -> Result<(Form, Counts), Refusal> {
         if bytes.len() < HEADER_BYTES {
             return refuse(10, 0);
         }
-        let number = |i: usize| {
-            let four = &bytes[4 * i..4 * i + 4];
-            u32::from_le_bytes([four[0], four[1], four[2], four[3]])
+        let header: [u32; 12] = std::array::from_fn(|i| little_endian(&bytes[4 * i..4 * i + 4]) as u32);
+        let [number, n, k, c, d, ..] = header.map(|number| number as usize);
+        let Some(form) = Form::among(taken, header[0]) else {
+            return refuse(11, number);
         };
-        let header: [u32; 12] = std::array::from_fn(number);
-        let [form, n, k, c, d, ..] = header.map(|number| number as usize);
-        if header[0] != FORM {
-            return refuse(11, form);
-        }
-        let in_bounds = n <= MOST_VERTICES && k <= n && c <= MOST_CHILD_ENTRIES && (1..=MOST_LABELLINGS).contains(&d);
+        let in_bounds =
+            n <= form.most_vertices && k <= n && c <= form.most_child_entries && (1..=MOST_LABELLINGS).contains(&d);
         let counts = Counts { n, k, c, d };
-        if in_bounds && header == counts.header() && bytes.len() == counts.total() {
-            Ok(counts)
+        if in_bounds && header == counts.header(&form) && bytes.len() == form.total_length(&counts) {
+            Ok((form, counts))
         } else {
             refuse(12, 0)
         }
     }
 }
 
-/// The stored bytes of an index.
-pub fn encode(index: &Index) -> Vec<u8> {
+/// The stored bytes of an index in a form. A number too large for the form's width keeps its low bytes.
+pub fn encode(form: &Form, index: &Index) -> Vec<u8> {
     let groups = &index.groups;
     let mut starts = vec![0];
     for children in &groups.children {
@@ -93,26 +87,29 @@ pub fn encode(index: &Index) -> Vec<u8> {
     }
 
     let mut bytes = Vec::new();
-    for number in Counts::of(index).header() {
+    for number in Counts::of(index).header(form) {
         bytes.extend(number.to_le_bytes());
     }
     for number in numbers {
-        bytes.extend((number as u16).to_le_bytes());
+        bytes.extend(&number.to_le_bytes()[..form.width]);
     }
     bytes
 }
 
-/// The stored bytes of a graph's index under these orders.
-pub fn image(graph: &Graph, orders: &[Vec<usize>]) -> Vec<u8> {
-    encode(&Index::of(graph, orders))
+/// The stored bytes of a graph's index under these orders, in a form.
+pub fn image(form: &Form, graph: &Graph, orders: &[Vec<usize>]) -> Vec<u8> {
+    encode(form, &Index::of(graph, orders))
+}
+
+/// The number that these bytes hold, the lowest byte first.
+pub fn little_endian(bytes: &[u8]) -> usize {
+    bytes.iter().rev().fold(0, |number, &byte| number << 8 | byte as usize)
 }
 
 /// The bytes taken apart into the six sections, whatever numbers these hold. None if the child starts do not cut
 /// the children into one stretch for each group: not rising, or reaching beyond c.
-pub fn decode(bytes: &[u8], counts: &Counts) -> Option<Index> {
-    let mut numbers = bytes[HEADER_BYTES..]
-        .chunks_exact(2)
-        .map(|two| u16::from_le_bytes([two[0], two[1]]) as usize);
+pub fn decode(bytes: &[u8], form: &Form, counts: &Counts) -> Option<Index> {
+    let mut numbers = bytes[HEADER_BYTES..].chunks_exact(form.width).map(little_endian);
     let [names, list, levels, starts, children, labels] = counts
         .sections()
         .map(|section| numbers.by_ref().take(section).collect::<Vec<usize>>());

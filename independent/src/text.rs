@@ -1,7 +1,8 @@
 //! The text program: a graph, orders and questions as lines of text, answered line by line.
 
-use crate::bounds::{total_length, work_words, TEXT_MOST_BYTES, TEXT_MOST_EDGES, TEXT_MOST_ORDERS, TEXT_MOST_VERTICES};
+use crate::bounds::{work_words, TEXT_MOST_BYTES, TEXT_MOST_EDGES, TEXT_MOST_ORDERS, TEXT_MOST_VERTICES};
 use crate::calls::{build, vertices_in_range};
+use crate::form::{Form, FORM_1, HOST};
 use crate::graph::{flat, Graph};
 use crate::index::Index;
 use crate::question::Answer;
@@ -37,9 +38,9 @@ pub fn run_text(input: &[u8]) -> Vec<u8> {
 
 /// One line for each question, or the refusal of the build.
 fn answers(text: &Text) -> Result<String, Refusal> {
-    let bytes = text_index(text)?;
-    let counts = Counts::read(&bytes)?;
-    let Some(index) = sound_index(&bytes, &counts) else {
+    let bytes = text_index(&FORM_1, text)?;
+    let (form, counts) = Counts::read(&bytes, &HOST)?;
+    let Some(index) = sound_index(&bytes, &form, &counts) else {
         return refuse(15, 0);
     };
     let line = |&(source, target): &(u32, u32)| {
@@ -58,12 +59,13 @@ fn answer(index: &Index, source: u32, target: u32) -> Result<Answer, Refusal> {
     Ok(index.question(source, target).answer)
 }
 
-/// The stored index that the text asks for, or the refusal of its build.
-pub fn text_index(text: &Text) -> Result<Vec<u8>, Refusal> {
-    let (n, edges, d) = (text.graph.n, text.graph.edges.len(), text.orders.len());
-    let mut work = vec![0; work_words(n, edges)];
-    let mut out = vec![0; total_length(n, n, edges, d)];
+/// The stored index that the text asks for, in this form, or the refusal of its build. The text program builds form 1.
+pub fn text_index(form: &Form, text: &Text) -> Result<Vec<u8>, Refusal> {
+    let (n, c, d) = (text.graph.n, text.graph.edges.len(), text.orders.len());
+    let mut work = vec![0; work_words(n, c)];
+    let mut out = vec![0; form.total_length(&Counts { n, k: n, c, d })];
     let total = build(
+        form.number,
         n as u32,
         &text.graph.sources(),
         &text.graph.targets(),

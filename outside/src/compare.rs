@@ -1,139 +1,259 @@
 //! One call made twice, of the library and of the independent program, on the same input and equal buffers: outcomes and buffers must be equal. Buffers
-//! are lent with a pattern in them and a few elements behind what the call may touch.
+//! are lent with a pattern in them and a few elements behind what the call may touch. Calls that the C host has too are made of both faces.
 
-use crate::{Library, Outcome};
+use crate::{Face, Library, Outcome, FACES};
+use independent::batch::{six, NUMBERS};
+use independent::bounds::work_words;
+use independent::calls::vertices_in_range;
 use independent::chance::Chance;
+use independent::closure::Closure;
 use independent::graph::flat;
-use independent::{Answer, Graph, Index};
+use independent::stored::{encode, little_endian};
+use independent::{Answer, Counts, Form, Graph, Index, FORM_1, ORDINARY};
 
-/// What buffers hold before a call.
+/// What bytes, the words lent with an index, and lists hold before a call.
 const PATTERN: u8 = 0xa5;
+const WORD: u32 = 7;
+const BLANK: u32 = 0xdead_beef;
 
-/// The header's n, kept to a size that marks can be lent for; a header too short for one says 0.
-fn marks_for(index: &[u8]) -> usize {
-    if index.len() < 8 {
-        return 0;
+/// How many marks and words a call on stored bytes is lent.
+#[derive(Clone, Copy, Debug)]
+pub struct Lent {
+    pub marks: usize,
+    pub words: usize,
+}
+
+impl Lent {
+    /// As many as this index needs. Where the header is refused no number is too small; marks are then as many as it says, if so many can be lent.
+    pub fn needed(index: &[u8]) -> Lent {
+        let says = index.get(4..8).map_or(0, little_endian);
+        match Counts::read(index, &ORDINARY) {
+            Ok((form, counts)) => Lent { marks: counts.n, words: form.words_needed(&counts) },
+            Err(_) => Lent { marks: if says <= 300_000 { says } else { 5_000 }, words: 3 },
+        }
     }
-    (u32::from_le_bytes(index[4..8].try_into().unwrap()) as usize).min(5_000)
+
+    pub fn more(self, marks: usize, words: usize) -> Lent {
+        Lent { marks: self.marks + marks, words: self.words + words }
+    }
+
+    /// Exact, one element less of either, and more of both.
+    pub fn around(index: &[u8]) -> [Lent; 4] {
+        let needed = Lent::needed(index);
+        let Lent { marks, words } = needed;
+        [needed, Lent { marks: marks.saturating_sub(1), words }, Lent { marks: marks + 3, words: words.saturating_sub(1) }, needed.more(3, 1)]
+    }
+
+    fn buffers(self, face: Face) -> Buffers {
+        Buffers { marks: vec![PATTERN; self.marks], words: vec![WORD; if face == Face::Host { 0 } else { self.words }] }
+    }
+}
+
+/// The marks and words of a call, before or after it.
+#[derive(PartialEq)]
+struct Buffers {
+    marks: Vec<u8>,
+    words: Vec<u32>,
+}
+
+impl Buffers {
+    /// The same as those of the other program's call.
+    fn agree(&self, theirs: &Buffers, what: &str) {
+        assert!(self.marks == theirs.marks, "marks after {what}: first difference at {:?}", first_difference(&self.marks, &theirs.marks));
+        assert!(self.words == theirs.words, "words after {what}: first difference at {:?}", first_difference(&self.words, &theirs.words));
+    }
+}
+
+fn first_difference<T: PartialEq>(ours: &[T], theirs: &[T]) -> Option<usize> {
+    ours.iter().zip(theirs).position(|(one, other)| one != other)
 }
 
 /// The number of the refusal, 0 where there is none.
-pub fn open(library: &mut Library, index: &[u8], marks: usize) -> u32 {
-    let (mut ours, mut theirs) = (vec![PATTERN; marks], vec![PATTERN; marks]);
-    let got = library.open(index, &mut ours);
-    let expected = independent::open(index, &mut theirs);
-    assert_eq!(got, expected, "open of {} bytes with {marks} marks", index.len());
-    assert_eq!(ours, theirs, "marks after open: {expected:?}");
-    got.map_or_else(|refusal| refusal.number, |_| 0)
+fn number<T>(outcome: Outcome<T>) -> u32 {
+    outcome.map_or_else(|refusal| refusal.number, |_| 0)
 }
 
-/// Open with marks as long as the header asks, and one shorter and longer.
+/// The number of the ordinary call's refusal, 0 where there is none.
+pub fn open(library: &mut Library, index: &[u8], lent: Lent) -> u32 {
+    let refusals = FACES.map(|face| {
+        let (mut ours, mut theirs) = (lent.buffers(face), lent.buffers(face));
+        let got = library.open(face, index, &mut ours.marks, &mut ours.words);
+        let expected = face.open(index, &mut theirs.marks, &mut theirs.words);
+        let what = format!("open by {face:?} of {} bytes with {lent:?}: {expected:?}", index.len());
+        assert_eq!(got, expected, "{what}");
+        ours.agree(&theirs, &what);
+        number(got)
+    });
+    refusals[0]
+}
+
+/// Open with marks and words as many as the header asks for, fewer and more.
 pub fn open_around(library: &mut Library, index: &[u8]) {
-    let n = marks_for(index);
-    for marks in [n.saturating_sub(1), n, n + 3] {
-        open(library, index, marks);
+    for lent in Lent::around(index) {
+        open(library, index, lent);
     }
 }
 
-/// One question with so many marks: the number of the refusal, 0 where there is none.
-pub fn ask(library: &mut Library, index: &[u8], source: u32, target: u32, marks: usize) -> u32 {
-    let (mut ours, mut theirs) = (vec![PATTERN; marks], vec![PATTERN; marks]);
-    let got = library.ask(index, source, target, &mut ours);
-    let expected = independent::ask(index, source, target, &mut theirs);
-    assert_eq!(got, expected, "{source} to {target} of {} bytes with {marks} marks", index.len());
-    assert_eq!(ours, theirs, "marks after {source} to {target}: {expected:?}");
-    got.map_or_else(|refusal| refusal.number, |_| 0)
+/// One question: the number of the ordinary call's refusal, 0 where there is none.
+pub fn ask(library: &mut Library, index: &[u8], source: u32, target: u32, lent: Lent) -> u32 {
+    let refusals = FACES.map(|face| {
+        let (mut ours, mut theirs) = (lent.buffers(face), lent.buffers(face));
+        let got = library.ask(face, index, source, target, &mut ours.marks, &mut ours.words);
+        let expected = face.ask(index, source, target, &mut theirs.marks, &mut theirs.words);
+        let what = format!("{source} to {target} by {face:?} of {} bytes with {lent:?}: {expected:?}", index.len());
+        assert_eq!(got, expected, "{what}");
+        ours.agree(&theirs, &what);
+        number(got)
+    });
+    refusals[0]
 }
 
 /// Every question of `pairs`, of bytes that open and of bytes that do not.
 pub fn ask_pairs(library: &mut Library, index: &[u8], pairs: &[(u32, u32)]) {
     for &(u, v) in pairs {
-        ask(library, index, u, v, marks_for(index) + 3);
+        ask(library, index, u, v, Lent::needed(index).more(3, 2));
     }
 }
 
-/// Questions of an index that the independent program has made and need not judge each time; answers by its own walk, yes and no by plain closure.
-pub fn ask_made(library: &mut Library, graph: &Graph, index: &Index, image: &[u8], pairs: &[(u32, u32)]) -> Vec<Answer> {
-    let closure = independent::closure::Closure::of(graph);
+/// The forms that an index can be stored in, with its bytes, and who takes them.
+pub fn stored(index: &Index) -> Vec<(Vec<u8>, Face)> {
+    let counts = Counts::of(index);
+    let fits = |form: &&Form| counts.n <= form.most_vertices && counts.c <= form.most_child_entries;
+    let faces = |form: &Form| if *form == FORM_1 { &FACES[..] } else { &FACES[..1] };
+    ORDINARY.iter().filter(fits).flat_map(|form| faces(form).iter().map(|&face| (encode(form, index), face))).collect()
+}
+
+/// Questions of an index that the independent program has made and need not judge each time, in both forms and by each face: answers by its own walk, yes and no by plain
+/// closure, the same in all.
+pub fn ask_made(library: &mut Library, graph: &Graph, index: &Index, pairs: &[(u32, u32)]) -> Vec<Answer> {
+    let closure = Closure::of(graph);
+    let asked: Vec<_> = pairs.iter().map(|&(u, v)| index.question(u as usize, v as usize)).collect();
+    for (&(u, v), asked) in pairs.iter().zip(&asked) {
+        assert_eq!(asked.answer.yes, closure.reaches(u as usize, v as usize), "{u} to {v}: yes exactly when a path exists");
+    }
     let n = graph.n;
-    let before = vec![PATTERN; n + 3];
-    let replies = library.ask_all(image, &before, pairs);
-    let compared = pairs.iter().zip(replies).map(|(&(u, v), (got, marks))| {
-        let asked = index.question(u as usize, v as usize);
-        let got = got.expect("a question in range of a sound index is answered");
-        assert_eq!(got, asked.answer, "{u} to {v}");
-        assert_eq!(got.yes, closure.reaches(u as usize, v as usize), "{u} to {v}: yes exactly when a path exists");
-        let mut expected = before.clone();
-        expected[..n].fill(0);
-        asked.opened.iter().for_each(|&name| expected[name] = 1);
-        assert_eq!(marks, expected, "marks after {u} to {v}");
-        got
+    for (image, face) in stored(index) {
+        let needed = Lent::needed(&image);
+        let before = needed.more(3, 2).buffers(face);
+        let replies = library.ask_many(face, &image, &before.marks, &before.words, pairs);
+        for ((&(u, v), asked), got) in pairs.iter().zip(&asked).zip(replies) {
+            let what = format!("{u} to {v} by {face:?} of {} bytes", image.len());
+            assert_eq!(got.said.expect("a question in range of a sound index is answered"), asked.answer, "{what}");
+            let mut marks = before.marks.clone();
+            marks[..n].fill(0);
+            asked.opened.iter().for_each(|&name| marks[name] = 1);
+            assert_eq!(got.marks, marks, "marks after {what}");
+            assert_eq!((got.cleared, got.altered), (needed.words, 0), "words after {what}: those needed are 0, the others as they were");
+        }
+    }
+    asked.into_iter().map(|asked| asked.answer).collect()
+}
+
+/// The downstream list into a list of this size: the number of the refusal, 0 where there is none.
+pub fn list(library: &mut Library, index: &[u8], vertex: u32, lent: Lent, size: usize) -> u32 {
+    let (mut ours, mut theirs) = (lent.buffers(Face::Ordinary), lent.buffers(Face::Ordinary));
+    let (mut got, mut expected) = (vec![BLANK; size], vec![BLANK; size]);
+    let result = library.list(index, vertex, &mut ours.marks, &mut ours.words, &mut got);
+    let right = independent::list(index, vertex, &mut theirs.marks, &mut theirs.words, &mut expected);
+    let what = format!("the list of {vertex} of {} bytes with {lent:?} into {size}: {right:?}", index.len());
+    assert_eq!(result, right, "{what}");
+    assert!(got == expected, "{what}: first difference at {:?}", first_difference(&got, &expected));
+    ours.agree(&theirs, &what);
+    number(result)
+}
+
+/// All pairs of two lists in one call, with an answer list of this size: the number of the ordinary call's refusal, 0 where there is none.
+pub fn ask_all(library: &mut Library, index: &[u8], sources: &[u32], targets: &[u32], lent: Lent, answers: usize) -> u32 {
+    let refusals = FACES.map(|face| {
+        let (mut ours, mut theirs) = (lent.buffers(face), lent.buffers(face));
+        let (mut got, mut expected) = (vec![BLANK; answers], vec![BLANK; answers]);
+        let result = library.ask_all(face, index, sources, targets, &mut ours.marks, &mut ours.words, &mut got);
+        let right = face.ask_all(index, sources, targets, &mut theirs.marks, &mut theirs.words, &mut expected);
+        let what = format!("{} sources and {} targets by {face:?} with {lent:?} and {answers} numbers of answers: {right:?}", sources.len(), targets.len());
+        assert_eq!(result, right, "{what}");
+        assert!(got == expected, "{what}: first difference at {:?}", first_difference(&got, &expected));
+        ours.agree(&theirs, &what);
+        number(result)
     });
-    compared.collect()
+    refusals[0]
 }
 
-/// The downstream list with so many marks into a list of this size: the number of the refusal, 0 where there is none.
-pub fn list(library: &mut Library, index: &[u8], vertex: u32, marks: usize, size: usize) -> u32 {
-    let (mut ours, mut theirs) = (vec![PATTERN; marks], vec![PATTERN; marks]);
-    let (mut got, mut expected) = (vec![0xdead_beef; size], vec![0xdead_beef; size]);
-    let result = library.list(index, vertex, &mut ours, &mut got);
-    let right = independent::list(index, vertex, &mut theirs, &mut expected);
-    assert_eq!(result, right, "list of {vertex} with {marks} marks into {size}");
-    assert_eq!(got, expected, "the list of {vertex}");
-    assert_eq!(ours, theirs, "marks after the list of {vertex}");
-    result.map_or_else(|refusal| refusal.number, |_| 0)
-}
-
-/// All pairs of two lists in one call, with marks and answers of these sizes.
-pub fn batch(library: &mut Library, index: &[u8], sources: &[u32], targets: &[u32], marks: usize, answers: usize) {
-    let (mut ours, mut theirs) = (vec![PATTERN; marks], vec![PATTERN; marks]);
-    let (mut got, mut expected) = (vec![0xdead_beef; answers], vec![0xdead_beef; answers]);
-    let result = library.batch(index, sources, targets, &mut ours, &mut got);
-    let right = independent::ask_all(index, sources, targets, &mut theirs, &mut expected);
-    assert_eq!(result, right, "{} sources, {} targets, {marks} marks, {answers} numbers of answers", sources.len(), targets.len());
-    assert!(got == expected, "the answers to {} pairs: {right:?}", sources.len());
-    assert_eq!(ours, theirs, "marks after {} pairs: {right:?}", sources.len());
-}
-
-/// The pairs in one call beside the same pairs asked one by one.
-pub fn batch_made(library: &mut Library, index: &[u8], n: usize, pairs: &[(u32, u32)]) {
+/// All pairs in one call, of an index that the independent program has made and need not judge, by a face that takes these bytes of it: what it writes.
+fn ask_all_stored(library: &mut Library, index: &Index, image: &[u8], face: Face, pairs: &[(u32, u32)]) -> (Vec<u32>, Vec<u8>) {
     let (sources, targets): (Vec<u32>, Vec<u32>) = pairs.iter().copied().unzip();
-    let before = vec![PATTERN; n + 3];
-    let (mut marks, mut answers) = (before.clone(), vec![0xdead_beef; 6 * pairs.len() + 2]);
-    assert_eq!(library.batch(index, &sources, &targets, &mut marks, &mut answers), Ok(pairs.len() as u32));
-    let mut last = before.clone();
-    last[..n].fill(0);
-    for (six, (asked, after)) in answers.chunks(6).zip(library.ask_all(index, &before, pairs)) {
-        let expected = match asked {
-            Err(refusal) => [refusal.number, refusal.extra, 0, 0, 0, 0],
-            Ok(said) => {
-                last = after;
-                [0, 0, said.yes as u32, said.reason, said.opened, said.labelling]
+    let needed = Lent::needed(image);
+    let (mut after, mut answers) = (needed.more(3, 2).buffers(face), vec![BLANK; NUMBERS * pairs.len() + 2]);
+    assert_eq!(library.ask_all(face, image, &sources, &targets, &mut after.marks, &mut after.words, &mut answers), Ok(pairs.len() as u32));
+    assert_eq!(answers.split_off(NUMBERS * pairs.len()), [BLANK; 2], "the answer list behind the last pair");
+    assert_eq!(after.marks.split_off(index.n()), [PATTERN; 3], "the marks from n on");
+    let mut words = needed.more(3, 2).buffers(face).words;
+    words[..needed.words].fill(0);
+    assert!(after.words == words, "the words needed are 0, the others as they were");
+    (answers, after.marks)
+}
+
+/// The pairs in one call, in both forms and by each face: answers and marks by the independent program's own walk.
+pub fn ask_all_made(library: &mut Library, index: &Index, pairs: &[(u32, u32)]) {
+    let mut opened = Vec::new();
+    let mut told = Vec::new();
+    for &(u, v) in pairs {
+        let said = vertices_in_range(index.n(), u, v).map(|(u, v)| {
+            let asked = index.question(u, v);
+            opened = asked.opened;
+            asked.answer
+        });
+        told.extend(six(said));
+    }
+    let mut last = vec![0; index.n()];
+    opened.into_iter().for_each(|name| last[name] = 1);
+    for (image, face) in stored(index) {
+        let (answers, marks) = ask_all_stored(library, index, &image, face, pairs);
+        assert!(answers == told, "the answers by {face:?} of {} bytes: first difference at {:?}", image.len(), first_difference(&answers, &told));
+        assert!(marks == last, "the marks of the last pair that was not refused, by {face:?} of {} bytes", image.len());
+    }
+}
+
+/// The pairs in one call beside the same pairs asked of the library one by one, in both forms and by each face.
+pub fn one_by_one(library: &mut Library, index: &Index, pairs: &[(u32, u32)]) {
+    for (image, face) in stored(index) {
+        let (answers, marks) = ask_all_stored(library, index, &image, face, pairs);
+        let before = Lent::needed(&image).more(3, 2).buffers(face);
+        let mut last = vec![0; index.n()];
+        for (numbers, asked) in answers.chunks(NUMBERS).zip(library.ask_many(face, &image, &before.marks, &before.words, pairs)) {
+            if asked.said.is_ok() {
+                last = asked.marks[..index.n()].to_vec();
             }
-        };
-        assert_eq!(six, expected, "a pair in the call and by itself");
+            assert_eq!(numbers, six(asked.said), "a pair in the call and by itself");
+        }
+        assert_eq!(marks, last, "the marks of the last pair that was not refused");
     }
-    assert_eq!(answers[6 * pairs.len()..], [0xdead_beef; 2], "the answer list behind the last pair");
-    assert_eq!(marks, last, "the marks of the last pair that was not refused");
 }
 
-/// The downstream list into a list that is longer than needed, exact, and one too short.
+/// The downstream list into a list that is longer than needed, exact, and one too short; with marks and words that are longer than needed, and exact.
 pub fn list_around(library: &mut Library, index: &[u8], vertex: u32) {
-    let marks = marks_for(index) + 3;
-    let needed = independent::list(index, vertex, &mut vec![0; marks], &mut vec![0; 5_000]).unwrap_or(0) as usize;
-    for size in [needed + 2, needed, needed.saturating_sub(1)] {
-        list(library, index, vertex, marks, size);
+    let lent = Lent::needed(index);
+    let room = lent.more(3, 1).buffers(Face::Ordinary);
+    let (mut marks, mut words, mut out) = (room.marks, room.words, vec![0; lent.marks]);
+    let needed = independent::list(index, vertex, &mut marks, &mut words, &mut out).unwrap_or(0) as usize;
+    for (lent, size) in [(lent.more(3, 1), needed + 2), (lent, needed), (lent.more(3, 2), needed.saturating_sub(1))] {
+        list(library, index, vertex, lent, size);
     }
 }
 
-/// Open, a question and a list of the same bytes with so many marks; the question's target and the list's vertex may be out of range. The number of each refusal.
-pub fn calls(library: &mut Library, index: &[u8], vertex: u32, marks: usize) -> [u32; 3] {
-    [open(library, index, marks), ask(library, index, 0, vertex, marks), list(library, index, vertex, marks, 5)]
+/// Open, a question, a list and two pairs of the same bytes; the question's target and the list's vertex may be out of range. The number of each refusal.
+pub fn calls(library: &mut Library, index: &[u8], vertex: u32, lent: Lent) -> [u32; 4] {
+    [
+        open(library, index, lent),
+        ask(library, index, 0, vertex, lent),
+        list(library, index, vertex, lent, 5),
+        ask_all(library, index, &[0, vertex], &[vertex, 0], lent, 2 * NUMBERS),
+    ]
 }
 
 /// What a build is lent, but for its memory.
 #[derive(Clone, Debug)]
 pub struct Input {
+    pub form: u32,
     pub n: u32,
     pub sources: Vec<u32>,
     pub targets: Vec<u32>,
@@ -142,39 +262,43 @@ pub struct Input {
 }
 
 impl Input {
-    pub fn of(graph: &Graph, orders: &[Vec<usize>]) -> Input {
+    pub fn of(form: &Form, graph: &Graph, orders: &[Vec<usize>]) -> Input {
         let d = orders.len() as u32;
-        Input { n: graph.n as u32, sources: graph.sources(), targets: graph.targets(), orders: flat(orders), d }
+        Input { form: form.number, n: graph.n as u32, sources: graph.sources(), targets: graph.targets(), orders: flat(orders), d }
     }
 
     pub fn work_needed(&self) -> usize {
-        16 * self.n as usize + 4 * self.sources.len() + 64
+        work_words(self.n as usize, self.sources.len())
+    }
+
+    /// An output as large as any that a build of these can need.
+    pub fn room(&self) -> usize {
+        let (n, c, d) = (self.n as usize, self.sources.len(), self.d.min(5) as usize);
+        let form = Form::among(&ORDINARY, self.form).unwrap_or(FORM_1);
+        form.total_length(&Counts { n, k: n, c, d })
     }
 }
 
-/// A build into memory of these sizes.
-pub fn build(library: &mut Library, input: &Input, work: usize, out: usize) {
-    build_by(Library::build, library, input, work, out);
-}
-
-/// The same by a call of the library that builds in some way of its own.
-pub fn build_by(call: fn(&mut Library, &Input, &mut [u32], &mut [u8]) -> Outcome<u32>, library: &mut Library, input: &Input, work: usize, out: usize) {
-    let (mut our_work, mut their_work) = (vec![0x5a5a_5a5a; work], vec![0x5a5a_5a5a; work]);
+/// A build into memory of these sizes: the number of its refusal, 0 where there is none.
+pub fn build(library: &mut Library, input: &Input, work: usize, out: usize) -> u32 {
+    let (mut our_work, mut their_work) = (vec![WORD; work], vec![WORD; work]);
     let (mut our_out, mut their_out) = (vec![PATTERN; out], vec![PATTERN; out]);
-    let Input { n, sources, targets, orders, d } = input;
-    let got = call(library, input, &mut our_work, &mut our_out);
-    let expected = independent::build(*n, sources, targets, orders, *d, &mut their_work, &mut their_out);
-    assert_eq!(got, expected, "build of {n} vertices, {} edges, d = {d}, work {work}, out {out}", sources.len());
-    assert!(our_out == their_out, "the output of a build of {n} vertices, {} edges, d = {d}: {expected:?}", sources.len());
-    assert!(our_work == their_work, "the work memory after a build of {n} vertices, {} edges, d = {d}: {expected:?}", sources.len());
+    let Input { form, n, sources, targets, orders, d } = input;
+    let got = library.build(input, &mut our_work, &mut our_out);
+    let expected = independent::build(*form, *n, sources, targets, orders, *d, &mut their_work, &mut their_out);
+    let what = format!("build in form {form} of {n} vertices, {} edges, d = {d}, work {work}, out {out}: {expected:?}", sources.len());
+    assert_eq!(got, expected, "{what}");
+    assert!(our_out == their_out, "the output of {what}: first difference at {:?}", first_difference(&our_out, &their_out));
+    assert!(our_work == their_work, "the work memory after {what}: first difference at {:?}", first_difference(&our_work, &their_work));
+    number(got)
 }
 
 /// A build into exact memory, into more, and into one element less of either.
 pub fn build_around(library: &mut Library, input: &Input) {
     let work = input.work_needed();
-    let mut room = vec![0; 400_000];
-    let Input { n, sources, targets, orders, d } = input;
-    let total = independent::build(*n, sources, targets, orders, *d, &mut vec![0; work], &mut room).unwrap_or(0) as usize;
+    let mut room = vec![0; input.room()];
+    let Input { form, n, sources, targets, orders, d } = input;
+    let total = independent::build(*form, *n, sources, targets, orders, *d, &mut vec![0; work], &mut room).unwrap_or(0) as usize;
     for (work, out) in [(work, total), (work + 5, total + 5), (work - 1, total), (work, total.saturating_sub(1))] {
         build(library, input, work, out);
     }

@@ -5,7 +5,7 @@ pub mod compare;
 pub mod texts;
 
 use compare::Input;
-use independent::{Answer, Counts, Refusal};
+use independent::{host, Answer, Counts, Refusal};
 use std::io::{BufReader, BufWriter, Read, Write};
 use std::os::unix::process::ExitStatusExt;
 use std::process::{Child, ChildStdin, ChildStdout, Command, Stdio};
@@ -15,20 +15,61 @@ pub struct Library {
     child: Child,
     to: BufWriter<ChildStdin>,
     from: BufReader<ChildStdout>,
+    /// The bytes of stack that a call is made on, over a page that nothing may touch; 0 is the process's own.
+    pub stack: u32,
 }
 
 /// What a call returned: the numbers of its answer, or its refusal.
 pub type Outcome<T> = Result<T, Refusal>;
 
+/// Who a call on stored bytes is made of: the calls that Rattle code makes, which take forms 1 and 2, or the C host's, which take form 1 and are lent no words.
+#[derive(Clone, Copy, Debug, PartialEq, Eq)]
+pub enum Face {
+    Ordinary,
+    Host,
+}
+
+pub const FACES: [Face; 2] = [Face::Ordinary, Face::Host];
+
+/// What the independent program does in its place.
+impl Face {
+    pub fn open(self, index: &[u8], marks: &mut [u8], words: &mut [u32]) -> Outcome<Counts> {
+        match self {
+            Face::Ordinary => independent::open(index, marks, words),
+            Face::Host => host::open(index, marks),
+        }
+    }
+
+    pub fn ask(self, index: &[u8], source: u32, target: u32, marks: &mut [u8], words: &mut [u32]) -> Outcome<Answer> {
+        match self {
+            Face::Ordinary => independent::ask(index, source, target, marks, words),
+            Face::Host => host::ask(index, source, target, marks),
+        }
+    }
+
+    pub fn ask_all(self, index: &[u8], sources: &[u32], targets: &[u32], marks: &mut [u8], words: &mut [u32], answers: &mut [u32]) -> Outcome<u32> {
+        match self {
+            Face::Ordinary => independent::ask_all(index, sources, targets, marks, words, answers),
+            Face::Host => host::ask_all(index, sources, targets, marks, answers),
+        }
+    }
+}
+
+/// An answer with the marks after it, how many words at the front are 0 then, and how many behind them are not as they were.
+pub struct Reply {
+    pub said: Outcome<Answer>,
+    pub marks: Vec<u8>,
+    pub cleared: usize,
+    pub altered: usize,
+}
+
 const OPEN: u32 = 1;
 const ASK: u32 = 2;
 const LIST: u32 = 3;
 const BUILD: u32 = 4;
-const ASK_ALL: u32 = 5;
+const ASK_MANY: u32 = 5;
 const RUN: u32 = 6;
-const BATCH: u32 = 20;
-const BUILD_SMALL: u32 = 26;
-const ASK_SMALL: u32 = 27;
+const ASK_ALL: u32 = 7;
 
 /// The signal of a touch that is forbidden.
 const SIGSEGV: i32 = 11;
@@ -50,7 +91,14 @@ impl Library {
             .expect("the server starts: run outside/make first");
         let to = BufWriter::with_capacity(1 << 20, child.stdin.take().unwrap());
         let from = BufReader::with_capacity(1 << 20, child.stdout.take().unwrap());
-        Library { child, to, from }
+        Library { child, to, from, stack: 0 }
+    }
+
+    /// Begins a request.
+    fn call(&mut self, call: u32, face: Face) {
+        for x in [call, face as u32, self.stack] {
+            self.number(x);
+        }
     }
 
     fn number(&mut self, x: u32) {
@@ -94,12 +142,23 @@ impl Library {
         }
     }
 
-    pub fn open(&mut self, index: &[u8], marks: &mut [u8]) -> Outcome<Counts> {
-        self.number(OPEN);
+    /// What every call on stored bytes is lent.
+    fn index(&mut self, index: &[u8], marks: &[u8], words: &[u32]) {
         self.bytes(index);
         self.bytes(marks);
-        let [refusal, extra, n, k, c, d] = self.reply();
+        self.words(words);
+    }
+
+    fn marks_back(&mut self, marks: &mut [u8], words: &mut [u32]) {
         self.bytes_back(marks);
+        self.words_back(words);
+    }
+
+    pub fn open(&mut self, face: Face, index: &[u8], marks: &mut [u8], words: &mut [u32]) -> Outcome<Counts> {
+        self.call(OPEN, face);
+        self.index(index, marks, words);
+        let [refusal, extra, n, k, c, d] = self.reply();
+        self.marks_back(marks, words);
         let counts = Counts { n: n as usize, k: k as usize, c: c as usize, d: d as usize };
         outcome(refusal, extra, [n, k, c, d].iter().all(|&x| x == 0), counts)
     }
@@ -110,84 +169,68 @@ impl Library {
         outcome(refusal, extra, nothing, Answer { yes: yes == 1, reason, opened, labelling })
     }
 
-    pub fn ask(&mut self, index: &[u8], source: u32, target: u32, marks: &mut [u8]) -> Outcome<Answer> {
-        self.ask_by(ASK, index, source, target, marks).expect(UNANSWERED)
+    pub fn ask(&mut self, face: Face, index: &[u8], source: u32, target: u32, marks: &mut [u8], words: &mut [u32]) -> Outcome<Answer> {
+        self.ask_if_it_ends(face, index, source, target, marks, words).expect(UNANSWERED)
     }
 
-    /// The same on a thread with a stack of 16 KB; none where the question has touched the forbidden page below it, which ends the server.
-    pub fn ask_small(&mut self, index: &[u8], source: u32, target: u32, marks: &mut [u8]) -> Option<Outcome<Answer>> {
-        let said = self.ask_by(ASK_SMALL, index, source, target, marks);
-        if said.is_none() {
-            assert_eq!(self.child.wait().expect("the server has ended").signal(), Some(SIGSEGV));
-        }
-        said
-    }
-
-    fn ask_by(&mut self, call: u32, index: &[u8], source: u32, target: u32, marks: &mut [u8]) -> Option<Outcome<Answer>> {
-        self.number(call);
+    /// The same; none where the question has touched the forbidden page below its stack, which ends the server.
+    pub fn ask_if_it_ends(&mut self, face: Face, index: &[u8], source: u32, target: u32, marks: &mut [u8], words: &mut [u32]) -> Option<Outcome<Answer>> {
+        self.call(ASK, face);
         self.number(source);
         self.number(target);
-        self.bytes(index);
-        self.bytes(marks);
-        let reply = self.reply_if_any()?;
-        self.bytes_back(marks);
+        self.index(index, marks, words);
+        let Some(reply) = self.reply_if_any() else {
+            assert_eq!(self.child.wait().expect("the server has ended").signal(), Some(SIGSEGV));
+            return None;
+        };
+        self.marks_back(marks, words);
         Some(Self::answer(reply))
     }
 
-    /// Many questions of one index, each with the same marks lent; each answer with the marks after it.
-    pub fn ask_all(&mut self, index: &[u8], marks: &[u8], pairs: &[(u32, u32)]) -> Vec<(Outcome<Answer>, Vec<u8>)> {
-        self.number(ASK_ALL);
-        self.bytes(index);
-        self.bytes(marks);
+    /// Many questions of one index, each with the same marks and words lent.
+    pub fn ask_many(&mut self, face: Face, index: &[u8], marks: &[u8], words: &[u32], pairs: &[(u32, u32)]) -> Vec<Reply> {
+        self.call(ASK_MANY, face);
+        self.index(index, marks, words);
         self.words(&pairs.iter().flat_map(|&(u, v)| [u, v]).collect::<Vec<u32>>());
         pairs
             .iter()
             .map(|_| {
-                let reply = self.reply();
+                let said = Self::answer(self.reply());
                 let mut after = vec![0; marks.len()];
                 self.bytes_back(&mut after);
-                (Self::answer(reply), after)
+                let [cleared, altered] = self.reply();
+                Reply { said, marks: after, cleared: cleared as usize, altered: altered as usize }
             })
             .collect()
     }
 
     /// All pairs of two lists in one call, six numbers a pair.
-    pub fn batch(&mut self, index: &[u8], sources: &[u32], targets: &[u32], marks: &mut [u8], answers: &mut [u32]) -> Outcome<u32> {
-        self.number(BATCH);
-        self.bytes(index);
-        self.bytes(marks);
+    pub fn ask_all(&mut self, face: Face, index: &[u8], sources: &[u32], targets: &[u32], marks: &mut [u8], words: &mut [u32], answers: &mut [u32]) -> Outcome<u32> {
+        self.call(ASK_ALL, face);
+        self.index(index, marks, words);
         self.words(sources);
         self.words(targets);
         self.words(answers);
         let [refusal, extra, count] = self.reply();
-        self.bytes_back(marks);
+        self.marks_back(marks, words);
         self.words_back(answers);
         outcome(refusal, extra, count == 0, count)
     }
 
-    pub fn list(&mut self, index: &[u8], vertex: u32, marks: &mut [u8], out: &mut [u32]) -> Outcome<u32> {
-        self.number(LIST);
+    pub fn list(&mut self, index: &[u8], vertex: u32, marks: &mut [u8], words: &mut [u32], out: &mut [u32]) -> Outcome<u32> {
+        self.call(LIST, Face::Ordinary);
         self.number(vertex);
-        self.bytes(index);
-        self.bytes(marks);
+        self.index(index, marks, words);
         self.words(out);
         let [refusal, extra, count] = self.reply();
-        self.bytes_back(marks);
+        self.marks_back(marks, words);
         self.words_back(out);
         outcome(refusal, extra, count == 0, count)
     }
 
     pub fn build(&mut self, input: &Input, work: &mut [u32], out: &mut [u8]) -> Outcome<u32> {
-        self.build_by(BUILD, input, work, out)
-    }
-
-    /// The same on a thread with a stack of 16 KB.
-    pub fn build_small(&mut self, input: &Input, work: &mut [u32], out: &mut [u8]) -> Outcome<u32> {
-        self.build_by(BUILD_SMALL, input, work, out)
-    }
-
-    fn build_by(&mut self, call: u32, input: &Input, work: &mut [u32], out: &mut [u8]) -> Outcome<u32> {
-        self.number(call);
+        self.call(BUILD, Face::Ordinary);
+        self.number(input.form);
         self.number(input.n);
         self.number(input.d);
         self.words(&input.sources);
@@ -203,7 +246,7 @@ impl Library {
 
     /// The text program's run on a text: what it prints. The output behind that is as it was.
     pub fn run(&mut self, text: &[u8]) -> Vec<u8> {
-        self.number(RUN);
+        self.call(RUN, Face::Ordinary);
         self.bytes(text);
         let [printed, altered] = self.reply();
         let mut out = vec![0; printed as usize];

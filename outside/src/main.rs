@@ -1,12 +1,12 @@
-//! The long run: random graphs, questions and damaged images without end but a count, beside the independent program. The questions of a graph are asked one by one and
-//! once more all in one call.
+//! The long run: random graphs, questions and damaged images without end but a count, beside the independent program. The questions of a graph are asked in both forms,
+//! one by one and once more all in one call; every second image is of form 2.
 //! `outside QUESTIONS IMAGES [SEED]` compares that many of each, with a line of progress every few seconds, and ends with tables of their numbers: the graphs by
 //! size, the questions by reason, the images by refusal.
 
 use independent::chance::Chance;
 use independent::stored::encode;
-use independent::Index;
-use outside::compare;
+use independent::{Index, ORDINARY};
+use outside::compare::{self, Lent};
 use outside::Library;
 use std::collections::BTreeMap;
 use std::time::{Duration, Instant};
@@ -53,18 +53,20 @@ fn main() {
         let graph = chance.any_graph(n);
         let d = chance.between(1, 5);
         let index = Index::of(&graph, &chance.orders(n, d));
-        let bytes = encode(&index);
         graphs += 1;
         *sizes.entry(size.most).or_insert(0u64) += 1;
         if asked < questions {
             let pairs = compare::pairs(&mut chance, n, QUESTIONS_A_GRAPH);
-            for answer in compare::ask_made(&mut library, &graph, &index, &bytes, &pairs) {
+            for answer in compare::ask_made(&mut library, &graph, &index, &pairs) {
                 *reasons.entry(answer.reason).or_insert(0u64) += 1;
                 asked += 1;
             }
+            compare::ask_all_made(&mut library, &index, &pairs);
         }
-        for _ in 0..if opened < images { size.images } else { 0 } {
-            let refusal = compare::open(&mut library, &chance.any_damage(&bytes), n + 3);
+        let stored = ORDINARY.map(|form| encode(&form, &index));
+        for image in 0..if opened < images { size.images } else { 0 } {
+            let damaged = chance.any_damage(&stored[image % 2]);
+            let refusal = compare::open(&mut library, &damaged, Lent { marks: n + 3, words: Lent::needed(&stored[1]).words });
             *refusals.entry(refusal).or_insert(0u64) += 1;
             opened += 1;
         }

@@ -1,9 +1,9 @@
-//! The downstream list beside the independent program: exact, longer and too short lists, all refusals.
+//! The downstream list beside the independent program, in both forms: exact, longer and too short lists, all refusals.
 
 use independent::chance::{Chance, Kind};
-use independent::stored::image;
-use independent::Graph;
-use outside::compare;
+use independent::stored::{encode, image};
+use independent::{Graph, Index, ORDINARY};
+use outside::compare::{self, Lent};
 use outside::Library;
 
 #[test]
@@ -13,11 +13,19 @@ fn lists_of_all_vertices_of_random_graphs() {
         let n = chance.between(0, 16);
         let graph = chance.graph(Kind::ALL[round % Kind::ALL.len()], n);
         let d = chance.between(1, 5);
-        let bytes = image(&graph, &chance.orders(graph.n, d));
-        for vertex in 0..=graph.n as u32 {
-            compare::list_around(&mut library, &bytes, vertex);
+        let index = Index::of(&graph, &chance.orders(graph.n, d));
+        for form in ORDINARY {
+            let bytes = encode(&form, &index);
+            for vertex in 0..=graph.n as u32 {
+                compare::list_around(&mut library, &bytes, vertex);
+            }
+            for image in [chance.any_damage(&bytes), bytes] {
+                compare::list_around(&mut library, &image, 0);
+                for lent in Lent::around(&image) {
+                    compare::list(&mut library, &image, chance.below(n + 1) as u32, lent, chance.below(n + 1));
+                }
+            }
         }
-        compare::list_around(&mut library, &chance.any_damage(&bytes), 0);
     }
 }
 
@@ -41,20 +49,21 @@ fn chain_of_groups(sizes: &[usize], loops: bool) -> Graph {
 fn a_vertex_is_in_its_own_list_exactly_if_its_group_has_more_than_one_vertex() {
     let (mut library, mut chance) = (Library::start(), Chance::new(43));
     let sizes = [1, 3, 1, 1, 2, 5, 1];
-    for loops in [false, true] {
+    for (loops, form) in [false, true].into_iter().flat_map(|loops| ORDINARY.map(|form| (loops, form))) {
         let graph = chain_of_groups(&sizes, loops);
-        let bytes = image(&graph, &chance.orders(graph.n, 2));
+        let bytes = image(&form, &graph, &chance.orders(graph.n, 2));
         let mut first = 0;
         for size in sizes {
             for vertex in first..first + size {
                 compare::list_around(&mut library, &bytes, vertex as u32);
                 let from = if size == 1 { vertex + 1 } else { first };
                 let told: Vec<u32> = (from as u32..graph.n as u32).collect();
-                let (mut marks, mut out) = (vec![7; graph.n], vec![9; told.len()]);
-                assert_eq!(library.list(&bytes, vertex as u32, &mut marks, &mut out), Ok(told.len() as u32));
+                let Lent { marks, words } = Lent::needed(&bytes);
+                let (mut marks, mut words, mut out) = (vec![7; marks], vec![7; words], vec![9; told.len()]);
+                assert_eq!(library.list(&bytes, vertex as u32, &mut marks, &mut words, &mut out), Ok(told.len() as u32));
                 assert_eq!(out, told, "the list of {vertex}, self-loops: {loops}");
                 if let Some(short) = told.len().checked_sub(1) {
-                    let refusal = library.list(&bytes, vertex as u32, &mut marks, &mut out[..short]).unwrap_err();
+                    let refusal = library.list(&bytes, vertex as u32, &mut marks, &mut words, &mut out[..short]).unwrap_err();
                     assert_eq!((refusal.number, refusal.extra as usize), (16, told.len()), "the list of {vertex} with room for {short}");
                 }
             }
@@ -64,12 +73,14 @@ fn a_vertex_is_in_its_own_list_exactly_if_its_group_has_more_than_one_vertex() {
 }
 
 #[test]
-fn lists_at_the_largest_sizes() {
+fn lists_at_the_largest_sizes_of_form_1() {
     let (mut library, mut chance) = (Library::start(), Chance::new(42));
     for kind in Kind::ALL {
         let graph = chance.graph(kind, 4_096);
-        let bytes = image(&graph, &chance.orders(graph.n, 1));
+        let index = Index::of(&graph, &chance.orders(graph.n, 1));
         let vertex = chance.below(graph.n) as u32;
-        compare::list_around(&mut library, &bytes, vertex);
+        for form in ORDINARY {
+            compare::list_around(&mut library, &encode(&form, &index), vertex);
+        }
     }
 }

@@ -6,10 +6,12 @@ ghost use lib.ListN.{length};
 ghost use Rattle.lineage.specs.Question.{between, answer};
 ghost use Rattle.lineage.specs.Stored.{mostLabellings};
 ghost use Rattle.numbers.specs.Bounds.{vertexBound};
+ghost use Rattle.numbers.specs.Regions.{Kept};
 ghost use Rattle.stored.specs.Sections.{indexAt};
 ghost use Rattle.sound_places.specs.Lent.{Lent};
 ghost use Rattle.ask_walk.specs.Fit.{groupsIn, Fit};
 ghost use Rattle.ask_walk.specs.Stamps.{seenAs, Under};
+ghost use Rattle.ask_stacked.specs.Words.{stackWords};
 ghost use Rattle.ask.specs.Replies.{answerBy};
 use ask_walk::Seen;
 use stored_header::Layout;
@@ -58,7 +60,7 @@ fn by_walk(a: Seen) -> Reply
     }
 }
 
-// The answer between two groups, by place.
+// The answer between two groups, by place. The walk keeps its stack in the lent words, of which only those that it needs are altered.
 pub fn decide(
     groups: &[u8],
     levels: &[u8],
@@ -71,13 +73,15 @@ pub fn decide(
     x: usize,
     t: usize,
     marks: &mut [u8],
+    work: &mut [u32],
     stamp: u8,
 ) -> Reply
     requires { ⌜ Fit w k d t (now groups) (now levels) (now starts) (now children) (now labels) (length (now marks)) ⌝ }
-    requires { ⌜ (x < k) × ((length (now marks) ≤ vertexBound) × Under stamp (now marks)) ⌝ }
+    requires { ⌜ (x < k) × ((length (now marks) ≤ vertexBound) × (Under stamp (now marks) × (stackWords w (length (now marks)) ≤ length (now work)))) ⌝ }
     ensures { λ r. ⌜ answerBy r (seenAs stamp (now (marks .exit))) ≡ between (groupsIn w k d (now (groups .entry)) (now (levels .entry)) (now (starts .entry)) (now (children .entry)) (now (labels .entry))) x t (seenAs stamp (now (marks .entry))) ⌝ }
     ensures { λ _. ⌜ Under (stamp + 1) (now (marks .exit)) ⌝ }
     ensures { λ r. ⌜ (r .opened ≡ 0 → now (marks .exit) ≡ now (marks .entry)) ⌝ }
+    ensures { λ _. ⌜ Kept (now (work .entry)) (now (work .exit)) 0 (stackWords w (length (now (marks .entry)))) ⌝ }
 {
     if x == t {
         return plain(true, 1, 0);
@@ -93,7 +97,7 @@ pub fn decide(
     if 0 < j.outside {
         return plain(false, 4, j.outside);
     }
-    let a = ask_walk::open_group(
+    let a = ask_stacked::walk_from(
         groups,
         levels,
         starts,
@@ -104,6 +108,7 @@ pub fn decide(
         d,
         t,
         marks,
+        work,
         level,
         x,
         stamp,
@@ -124,13 +129,15 @@ pub fn question(
     u: usize,
     v: usize,
     marks: &mut [u8],
+    work: &mut [u32],
     stamp: u8,
 ) -> Reply
     requires { ⌜ Lent l (now names) (now groups) (now levels) (now starts) (now children) (now labels) ⌝ }
-    requires { ⌜ (u < l .n) × ((v < l .n) × ((length (now marks) ≡ l .n) × Under stamp (now marks))) ⌝ }
+    requires { ⌜ (u < l .n) × ((v < l .n) × ((length (now marks) ≡ l .n) × (Under stamp (now marks) × (stackWords (l .width) (l .n) ≤ length (now work))))) ⌝ }
     ensures { λ r. ⌜ answerBy r (seenAs stamp (now (marks .exit))) ≡ answer (indexAt l (now (names .entry)) (now (groups .entry)) (now (levels .entry)) (now (starts .entry)) (now (children .entry)) (now (labels .entry))) u v ⌝ }
     ensures { λ _. ⌜ Under (stamp + 1) (now (marks .exit)) ⌝ }
     ensures { λ r. ⌜ (r .opened ≡ 0 → now (marks .exit) ≡ now (marks .entry)) ⌝ }
+    ensures { λ _. ⌜ Kept (now (work .entry)) (now (work .exit)) 0 (stackWords (l .width) (l .n)) ⌝ }
 {
     let w = l.width;
     let n = l.n;
@@ -149,6 +156,7 @@ pub fn question(
         x,
         t,
         marks,
+        work,
         stamp,
     )
 }

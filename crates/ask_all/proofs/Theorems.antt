@@ -1,4 +1,4 @@
--- What the answers of a call for all pairs say, wherever none of its refusals applies: read back, pair i has the answer of a single question, so yes exactly where a path
+-- What the answers of a call for all pairs say, wherever none of its refusals applies, whatever forms it takes: read back, pair i has the answer of a single question, so yes exactly where a path
 -- leads from its source to its target; the marks are those of opening and then asking pair after pair on the same buffer; and two results that the contract allows are
 -- equal.
 use mathlib.Core.Bool.{Bool, true, false, _||_, cond}
@@ -17,7 +17,7 @@ use Rattle.lineage.specs.Stored.{countsIn}
 use Rattle.lineage.specs.Graph.{Reaches}
 use Rattle.lineage.specs.Index.{Made}
 use Rattle.lineage.specs.Question.{answer}
-use Rattle.lineage.specs.Calls.{Check, check, Outcome, refused, answered, outcome, anyApplies, formChecks, contentsCheck, indexIn, openMarks, Said, saidOf, askEarly, askAnswer, askMarks}
+use Rattle.lineage.specs.Calls.{Check, check, Outcome, refused, answered, outcome, anyApplies, FormsTaken, wordsIn, formChecks, contentsCheck, indexIn, openMarks, Said, saidOf, askEarly, askAnswer, askMarks}
 use Rattle.laws.proofs.Tests.{clash}
 use Rattle.laws.proofs.Lists.{table-at, table-long}
 use Rattle.laws.proofs.Every.{every-table}
@@ -30,13 +30,14 @@ use Rattle.ask_pairs.specs.Pairs.{lastMarks}
 use Rattle.ask_all.specs.declared.Batched.{Batched}
 use Rattle.ask_all.specs.declared.Batched.the-variants.{Count, Refused}
 use Rattle.ask_all.specs.Batched.{batchedOf}
-use Rattle.ask_all.specs.Batch.{sixOf, pairIn, askedAt, batchLate, batchAnswer, batchAnswers, batchMarks}
+use Rattle.ask_all.specs.Batch.{sixOf, pairIn, askedAt, batchLate, batchAnswer, batchAnswers, batchMarks, batchWork}
 
 -- what a call is allowed to return, and to leave
-pub record Allowed (b sources targets marks answers : List ℕ) (r : Batched) (m a : List ℕ) : Type 0 where
-  pub returns : batchedOf r ≡ batchAnswer b sources targets (length marks) (length answers)
-  pub leaves : m ≡ batchMarks b sources targets (length answers) marks
-  pub writes : a ≡ batchAnswers b sources targets (length marks) answers
+pub record Allowed (T : FormsTaken) (b sources targets marks work answers : List ℕ) (r : Batched) (m w a : List ℕ) : Type 0 where
+  pub returns : batchedOf r ≡ batchAnswer T b sources targets (length marks) (length work) (length answers)
+  pub leaves : m ≡ batchMarks T b sources targets marks (length work) (length answers)
+  pub clears : w ≡ batchWork T b (length marks) work
+  pub writes : a ≡ batchAnswers T b sources targets (length marks) (length work) answers
 
 batched-one : (r r' : Batched) → batchedOf r ≡ batchedOf r' → r ≡ r'
 batched-one (Count c) (Count c') e = cc
@@ -45,9 +46,11 @@ batched-one (Refused number extra) (Count c) e = let z : _≡_ {A = ℕ} 0 1 = c
 batched-one (Refused number extra) (Refused number' extra') e = cc
 
 pub batch-once :
-    {b sources targets marks answers : List ℕ} {r r' : Batched} {m m' a a' : List ℕ}
-    → Allowed b sources targets marks answers r m a → Allowed b sources targets marks answers r' m' a' → (r ≡ r') × ((m ≡ m') × (a ≡ a'))
-batch-once {r = r} {r'} A B = (batched-one r r' (A .returns ∙ sym (B .returns)), (A .leaves ∙ sym (B .leaves), A .writes ∙ sym (B .writes)))
+    {T : FormsTaken} {b sources targets marks work answers : List ℕ} {r r' : Batched} {m m' w w' a a' : List ℕ}
+    → Allowed T b sources targets marks work answers r m w a → Allowed T b sources targets marks work answers r' m' w' a'
+    → (r ≡ r') × ((m ≡ m') × ((w ≡ w') × (a ≡ a')))
+batch-once {r = r} {r'} A B =
+    (batched-one r r' (A .returns ∙ sym (B .returns)), (A .leaves ∙ sym (B .leaves), (A .clears ∙ sym (B .clears), A .writes ∙ sym (B .writes))))
 
 -- The six numbers of a pair determine its outcome, since no refusal has the number 0.
 abbrev Some : ℕ → ℕ → Type 0
@@ -71,11 +74,11 @@ module _ (answers : List ℕ) (i : ℕ) where
       rw (first, at 2 (omega arith), at 3 (omega arith), at 4 (omega arith), at 5 (omega arith), yes-back (s .says)) refl
 
 -- no refusal of a question has the number 0
-asked-some : (b : List ℕ) (u v m : ℕ) → Told Some Any (askAnswer b u v m)
+asked-some : (T : FormsTaken) (b : List ℕ) (u v m w : ℕ) → Told Some Any (askAnswer T b u v m w)
 unfolding askAnswer
-asked-some b u v m =
-    outcome-told (saidOf (answer (indexIn b) u v)) Some Any (askEarly b u v m ++ (contentsCheck b ∷ []))
-    (omega arith, (omega arith, (omega arith, (omega arith, (omega arith, (omega arith, (omega arith, tt))))))) tt
+asked-some T b u v m w =
+    outcome-told (saidOf (answer (indexIn b) u v)) Some Any (askEarly T b u v m w ++ (contentsCheck b ∷ []))
+    (omega arith, (omega arith, (omega arith, (omega arith, (omega arith, (omega arith, (omega arith, (omega arith, tt)))))))) tt
 
 six-size : (o : Outcome Said) → length (sixOf o) ≡ 6
 six-size (refused number extra) = refl
@@ -118,7 +121,7 @@ passed-answer [] late false false a p l f = rw l refl
 passed-answer (c ∷ cs) late s t a p l f = rw (p .0) (passed-answer cs late s t a (p .1) l f)
 
 -- one pair more, asked on marks that begin with n of an earlier pair's
-module _ (b : List ℕ) (u v : ℕ) (marks m : List ℕ) (form-pass : Pass (formChecks b (length marks))) (contents : contentsCheck b .applies ≡ false)
+module _ (T : FormsTaken) (b : List ℕ) (u v : ℕ) (marks m : List ℕ) (w : ℕ) (form-pass : Pass (formChecks T b (length marks) w)) (contents : contentsCheck b .applies ≡ false)
     (room : countsIn b .n ≤ length marks) (long : length m ≡ countsIn b .n) where
   abbrev refuses : Bool
   refuses = leb (countsIn b .n) u || leb (countsIn b .n) v
@@ -127,8 +130,8 @@ module _ (b : List ℕ) (u v : ℕ) (marks m : List ℕ) (form-pass : Pass (form
   unfolding askAnswer
   own-long true e = long
   own-long false e =
-      answer-long b u v marks (saidOf (answer (indexIn b) u v))
-      (passed-answer (formChecks b (length marks)) (contentsCheck b) (leb (countsIn b .n) u) (leb (countsIn b .n) v) (saidOf (answer (indexIn b) u v)) form-pass contents e)
+      answer-long T b u v marks w (saidOf (answer (indexIn b) u v))
+      (passed-answer (formChecks T b (length marks) w) (contentsCheck b) (leb (countsIn b .n) u) (leb (countsIn b .n) v) (saidOf (answer (indexIn b) u v)) form-pass contents e)
 
   whole : length (m ++ drop (countsIn b .n) marks) ≡ length marks
   whole = omega (arith, length-append m (drop (countsIn b .n) marks), length-drop (countsIn b .n) marks, long, room)
@@ -139,57 +142,58 @@ module _ (b : List ℕ) (u v : ℕ) (marks m : List ℕ) (form-pass : Pass (form
 
   pair-more :
       (before : List ℕ) → before ≡ m ++ drop (countsIn b .n) marks
-      → (askMarks b u v before ≡ cond refuses m (answer (indexIn b) u v .marks) ++ drop (countsIn b .n) marks)
+      → (askMarks T b u v before w ≡ cond refuses m (answer (indexIn b) u v .marks) ++ drop (countsIn b .n) marks)
       × (length (cond refuses m (answer (indexIn b) u v .marks)) ≡ countsIn b .n)
   unfolding askMarks
   pair-more before is = (
     rw (
       is,
       whole,
-      passed-late (formChecks b (length marks)) (contentsCheck b) (leb (countsIn b .n) u) (leb (countsIn b .n) v) form-pass contents,
-      passed-early (formChecks b (length marks)) (leb (countsIn b .n) u) (leb (countsIn b .n) v) form-pass,
+      passed-late (formChecks T b (length marks) w) (contentsCheck b) (leb (countsIn b .n) u) (leb (countsIn b .n) v) form-pass contents,
+      passed-early (formChecks T b (length marks) w) (leb (countsIn b .n) u) (leb (countsIn b .n) v) form-pass,
     )
         (joins refuses (cleared (countsIn b .n) (m ++ drop (countsIn b .n) marks)) (answer (indexIn b) u v .marks)),
     own-long refuses refl,
   )
 
 -- Of a call that is not refused.
-module _ (b sources targets marks answers : List ℕ) (count : ℕ) (e : batchAnswer b sources targets (length marks) (length answers) ≡ answered count) where
-  passes : Pass (formChecks b (length marks) ++ batchLate b sources targets (length answers))
+module _ (T : FormsTaken) (b sources targets marks : List ℕ) (w : ℕ) (answers : List ℕ) (count : ℕ)
+    (e : batchAnswer T b sources targets (length marks) w (length answers) ≡ answered count) where
+  passes : Pass (formChecks T b (length marks) w ++ batchLate b sources targets (length answers))
   unfolding batchAnswer
-  passes = answered-pass (length sources) (formChecks b (length marks) ++ batchLate b sources targets (length answers)) count e
+  passes = answered-pass (length sources) (formChecks T b (length marks) w ++ batchLate b sources targets (length answers)) count e
 
-  none : anyApplies (formChecks b (length marks) ++ batchLate b sources targets (length answers)) ≡ false
-  none = rw (passes .0, passes .1 .0, passes .1 .1 .0, passes .1 .1 .1 .0, passes .1 .1 .1 .1 .0, passes .1 .1 .1 .1 .1 .0, passes .1 .1 .1 .1 .1 .1 .0) refl
+  none : anyApplies (formChecks T b (length marks) w ++ batchLate b sources targets (length answers)) ≡ false
+  none = rw (passes .0, passes .1 .0, passes .1 .1 .0, passes .1 .1 .1 .0, passes .1 .1 .1 .1 .0, passes .1 .1 .1 .1 .1 .0, passes .1 .1 .1 .1 .1 .1 .0, passes .1 .1 .1 .1 .1 .1 .1 .0) refl
 
   module _ (i : ℕ) (h : i < length sources) where
     -- pair by pair the answer of a single question
-    pub batch-each : pairIn (batchAnswers b sources targets (length marks) answers) i ≡ askAnswer b (getD sources i 0) (getD targets i 0) (length marks)
+    pub batch-each : pairIn (batchAnswers T b sources targets (length marks) w answers) i ≡ askAnswer T b (getD sources i 0) (getD targets i 0) (length marks) w
     unfolding batchAnswers
     batch-each =
         rw none
-        (six-back (joined (map (λ k. sixOf (askedAt b sources targets (length marks) k)) (upto (length sources))) ++ drop (6 * length sources) answers) i (askAnswer b (getD sources i 0) (getD targets i 0) (length marks)) (asked-some b (getD sources i 0) (getD targets i 0) (length marks))
-        (λ j l. table-six (askedAt b sources targets (length marks)) (length sources) i j (drop (6 * length sources) answers) h l))
+        (six-back (joined (map (λ k. sixOf (askedAt T b sources targets (length marks) w k)) (upto (length sources))) ++ drop (6 * length sources) answers) i (askAnswer T b (getD sources i 0) (getD targets i 0) (length marks) w) (asked-some T b (getD sources i 0) (getD targets i 0) (length marks) w)
+        (λ j l. table-six (askedAt T b sources targets (length marks) w) (length sources) i j (drop (6 * length sources) answers) h l))
 
     -- so yes exactly where a path leads from source to target, in whatever graph yields the bytes
     pub batch-right :
-        (s : Said) → pairIn (batchAnswers b sources targets (length marks) answers) i ≡ answered s → (M : Made (indexIn b))
+        (s : Said) → pairIn (batchAnswers T b sources targets (length marks) w answers) i ≡ answered s → (M : Made (indexIn b))
         → (s .says ≡ true) ↔ Reaches (M .graph) (getD sources i 0) (getD targets i 0)
-    batch-right s f M = asked-right b (getD sources i 0) (getD targets i 0) marks s (sym batch-each ∙ f) M
+    batch-right s f M = asked-right T b (getD sources i 0) (getD targets i 0) marks w s (sym batch-each ∙ f) M
 
   -- The marks are those of opening the index, and then asking pair after pair on the same buffer: a pair that is refused with 14 leaves them.
   abbrev pub askedOn : ℕ → List ℕ
-  askedOn zero = openMarks b marks
-  askedOn (suc i) = askMarks b (getD sources i 0) (getD targets i 0) (askedOn i)
+  askedOn zero = openMarks T b marks w
+  askedOn (suc i) = askMarks T b (getD sources i 0) (getD targets i 0) (askedOn i) w
 
   abbrev last : ℕ → List ℕ
   last i = lastMarks (countsIn b .n) (answer (indexIn b)) sources targets i
 
-  form-pass : Pass (formChecks b (length marks))
-  form-pass = pass-front (formChecks b (length marks)) (batchLate b sources targets (length answers)) passes
+  form-pass : Pass (formChecks T b (length marks) w)
+  form-pass = pass-front (formChecks T b (length marks) w) (batchLate b sources targets (length answers)) passes
 
   contents : contentsCheck b .applies ≡ false
-  contents = passes .1 .1 .1 .1 .0
+  contents = passes .1 .1 .1 .1 .1 .0
 
   room : countsIn b .n ≤ length marks
   room = ltb-false (length marks) (countsIn b .n) (form-pass .1 .1 .1 .0)
@@ -198,13 +202,22 @@ module _ (b sources targets marks answers : List ℕ) (count : ℕ) (e : batchAn
   folded : (i : ℕ) → (askedOn i ≡ last i ++ drop (countsIn b .n) marks) × (length (last i) ≡ countsIn b .n)
   unfolding openMarks lastMarks cleared
   folded zero = (
-    rw (passed-any (formChecks b (length marks)) form-pass) refl,
+    rw (passed-any (formChecks T b (length marks) w) form-pass) refl,
     length-replicate (countsIn b .n) 0,
   )
   folded (suc i) =
       let (is, long) = folded i in
-      pair-more b (getD sources i 0) (getD targets i 0) marks (last i) form-pass contents room long (askedOn i) is
+      pair-more T b (getD sources i 0) (getD targets i 0) marks (last i) w form-pass contents room long (askedOn i) is
 
-  pub batch-fold : batchMarks b sources targets (length answers) marks ≡ askedOn (length sources)
+  pub batch-fold : batchMarks T b sources targets marks w (length answers) ≡ askedOn (length sources)
   unfolding batchMarks
   batch-fold = rw none (sym (folded (length sources) .0))
+
+-- the words after it: those needed are 0, and later ones as they were
+pub batch-words :
+    (T : FormsTaken) (b sources targets : List ℕ) (m : ℕ) (work : List ℕ) (a count : ℕ) → batchAnswer T b sources targets m (length work) a ≡ answered count
+    → batchWork T b m work ≡ cleared (wordsIn b) work
+unfolding batchAnswer batchWork
+batch-words T b sources targets m work a count e =
+    let early : List Check = formChecks T b m (length work) in
+    rw (passed-any early (pass-front early (batchLate b sources targets a) (answered-pass (length sources) (early ++ batchLate b sources targets a) count e))) refl

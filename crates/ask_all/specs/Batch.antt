@@ -1,5 +1,5 @@
--- Many pairs at once (document 02, [3]): lists of sources and targets, the stored bytes checked once. Of the call its checks in order, its answer, and what every lent
--- buffer holds afterwards.
+-- Many pairs at once (document 02, [3] and [6]): lists of sources and targets, the stored bytes checked once. Of the call its checks in order, its answer, and what every
+-- lent buffer holds afterwards.
 use mathlib.Core.Bool.{not, cond}
 use mathlib.Core.List.{List, [], _∷_, _++_, map}
 use Prim.Native.Nat.{ℕ, _+_, _*_}
@@ -9,7 +9,7 @@ use Rattle.lineage.specs.Lists.{upto, joined}
 use Rattle.lineage.specs.Stored.{countsIn, decode}
 use Rattle.lineage.specs.Sound.{contentsSound}
 use Rattle.lineage.specs.Question.{answer}
-use Rattle.lineage.specs.Calls.{Check, check, Outcome, refused, answered, outcome, anyApplies, formChecks, contentsCheck, indexIn, marksAfter, Said, askAnswer}
+use Rattle.lineage.specs.Calls.{Check, check, Outcome, refused, answered, outcome, anyApplies, FormsTaken, formChecks, contentsCheck, indexIn, marksAfter, workAfter, Said, askAnswer}
 use Rattle.ask_pairs.specs.Pairs.{lastMarks}
 
 -- the six numbers of a pair: refusal, extra, yes (1) or no (0), reason, opened, labelling; with a refusal the last four are 0, without one the first two
@@ -30,8 +30,8 @@ pairIn answers i =
     (refused (getD answers (6 * i) 0) (getD answers (6 * i + 1) 0))
 
 -- pair i, asked by itself
-abbrev pub askedAt : List ℕ → (sources targets : List ℕ) → (marks i : ℕ) → Outcome Said
-askedAt b sources targets marks i = askAnswer b (getD sources i 0) (getD targets i 0) marks
+abbrev pub askedAt : FormsTaken → List ℕ → (sources targets : List ℕ) → (marks work i : ℕ) → Outcome Said
+askedAt T b sources targets marks work i = askAnswer T b (getD sources i 0) (getD targets i 0) marks work
 
 -- 15; 2 for lists of different length; 16 if the answer list is short
 abbrev pub batchLate : List ℕ → (sources targets : List ℕ) → ℕ → List Check
@@ -42,22 +42,26 @@ batchLate b sources targets answers =
     ∷ []
 
 -- the number of pairs
-unfoldable pub batchAnswer : List ℕ → (sources targets : List ℕ) → (marks answers : ℕ) → Outcome ℕ
+unfoldable pub batchAnswer : FormsTaken → List ℕ → (sources targets : List ℕ) → (marks work answers : ℕ) → Outcome ℕ
 unfolding contentsSound
-batchAnswer b sources targets marks answers = outcome (formChecks b marks ++ batchLate b sources targets answers) (length sources)
+batchAnswer T b sources targets marks work answers = outcome (formChecks T b marks work ++ batchLate b sources targets answers) (length sources)
 
 -- the answer list: unchanged by every refusal; the answers of asking one by one in list order, and behind them it is untouched
-unfoldable pub batchAnswers : List ℕ → (sources targets : List ℕ) → ℕ → List ℕ → List ℕ
+unfoldable pub batchAnswers : FormsTaken → List ℕ → (sources targets : List ℕ) → (marks work : ℕ) → (answers : List ℕ) → List ℕ
 unfolding contentsSound askAnswer
-batchAnswers b sources targets marks answers =
-    cond (anyApplies (formChecks b marks ++ batchLate b sources targets (length answers)))
+batchAnswers T b sources targets marks work answers =
+    cond (anyApplies (formChecks T b marks work ++ batchLate b sources targets (length answers)))
     answers
-    (joined (map (λ i. sixOf (askedAt b sources targets marks i)) (upto (length sources))) ++ drop (6 * length sources) answers)
+    (joined (map (λ i. sixOf (askedAt T b sources targets marks work i)) (upto (length sources))) ++ drop (6 * length sources) answers)
 
 -- the marks: those of the last pair that was not refused, or 0 below n if there was none
-unfoldable pub batchMarks : List ℕ → (sources targets : List ℕ) → ℕ → List ℕ → List ℕ
+unfoldable pub batchMarks : FormsTaken → List ℕ → (sources targets : List ℕ) → (marks : List ℕ) → (work answers : ℕ) → List ℕ
 unfolding contentsSound lastMarks answer decode
-batchMarks b sources targets answers marks =
-    cond (anyApplies (formChecks b (length marks) ++ batchLate b sources targets answers))
-    (marksAfter (formChecks b (length marks)) b marks)
+batchMarks T b sources targets marks work answers =
+    cond (anyApplies (formChecks T b (length marks) work ++ batchLate b sources targets answers))
+    (marksAfter (formChecks T b (length marks) work) b marks)
     (lastMarks (countsIn b .n) (answer (indexIn b)) sources targets (length sources) ++ drop (countsIn b .n) marks)
+
+-- the words: unchanged by 10 to 13 and 6; behind them those needed are 0
+unfoldable pub batchWork : FormsTaken → List ℕ → (marks : ℕ) → (work : List ℕ) → List ℕ
+batchWork T b marks work = workAfter (formChecks T b marks (length work)) b work

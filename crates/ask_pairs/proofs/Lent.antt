@@ -2,7 +2,7 @@
 -- group.
 use mathlib.Core.Path.{_≡_, refl, sym, ap, _∙_}
 use mathlib.Core.List.{List}
-use Prim.Native.Nat.{ℕ, _≤_, _<_}
+use Prim.Native.Nat.{ℕ, _<_}
 use native.Mathlib.Omega.{arith}
 use lib.ListN.{length, getD, replicate}
 use Rattle.lineage.specs.Numbers.{numAt, numbers}
@@ -16,7 +16,7 @@ use Rattle.stored.proofs.Sections.{children-long}
 use Rattle.sound_places.specs.Lent.{Lent}
 use Rattle.sound_places.proofs.Vertices.{lent-sound}
 use Rattle.ask.proofs.Soundness.{fit, question-is}
-use Rattle.ask_pairs.specs.Places.{Listed, Named, AtNames, FromNames, Ready, byPlace}
+use Rattle.ask_pairs.specs.Places.{Listed, Named, Placed, Ready, byPlace}
 
 module _ {l : Layout} {names groups levels starts children labels : List ℕ} (S : Lent l names groups levels starts children labels) where
   abbrev w : ℕ
@@ -34,8 +34,8 @@ module _ {l : Layout} {names groups levels starts children labels : List ℕ} (S
   in-names : (v : ℕ) → v < n → v < length (numbers w names n)
   in-names v h = omega (arith, numbers-long w names n)
 
-  pub listed : (m : ℕ) → n ≤ m → Listed w m k groups
-  listed m h = record {
+  pub listed : Listed w n k groups
+  listed = record {
     width = S .width;
     few = omega (arith, S .vertices-few, S .groups-few);
     long = omega (arith, S .groups-long);
@@ -59,22 +59,20 @@ module _ {l : Layout} {names groups levels starts children labels : List ℕ} (S
   }
 
   -- the table holds the place of every vertex's group, so it answers as the index does
-  module _ {before places : List ℕ} (A : AtNames w k groups before) (F : FromNames w n names before places) where
+  module _ {places : List ℕ} (P : Placed w n k names groups places) where
     placed : (v : ℕ) → v < n → getD places v 0 ≡ placeIn (indexAt l names groups levels starts children labels) v
     unfolding indexFrom
     placed v h =
         let q : ℕ = placeOf (numbers w groups k) (getD (numbers w names n) v 0) in
         let low : q < k = omega (arith, children-long w starts children k (l .c), place-low (lent-sound S) v (in-names v h)) in
-        let at : numAt w groups q ≡ numAt w names v =
-        sym (numbers-at w groups k q low) ∙ name-of-place (lent-sound S) v (in-names v h) ∙ numbers-at w names n v h in
-        F .at v h ∙ ap (λ (z : ℕ). getD before z 0) (sym at) ∙ A .at q low
+        P .at v q h low (sym (numbers-at w groups k q low) ∙ name-of-place (lent-sound S) v (in-names v h) ∙ numbers-at w names n v h)
 
     placed-low : (v : ℕ) → v < n → getD places v 0 < k
     unfolding indexFrom
     placed-low v h = omega (arith, placed v h, children-long w starts children k (l .c), place-low (lent-sound S) v (in-names v h))
 
-    pub ready : n ≤ length places → Ready w n k (l .d) groups levels starts children labels places
-    ready h = record { few = S .vertices-few; long = h; low = placed-low; fit = fit S }
+    pub ready : Ready w n k (l .d) groups levels starts children labels places
+    ready = record { few = S .vertices-few; low = placed-low; fit = fit S }
 
     pub answers-same :
         (u v : ℕ) → u < n → v < n

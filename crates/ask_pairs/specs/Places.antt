@@ -3,10 +3,12 @@ use mathlib.Core.Path.{_≡_}
 use mathlib.Core.List.{List}
 use Prim.Native.Nat.{ℕ, _*_, _≤_, _<_}
 use lib.ListN.{length, getD, replicate}
+use Rattle.lineage.specs.Lists.{part}
 use Rattle.lineage.specs.Numbers.{Width, numAt}
 use Rattle.lineage.specs.Question.{Answer, between}
 use Rattle.numbers.specs.Bounds.{vertexBound}
 use Rattle.ask_walk.specs.Fit.{groupsIn, Fit}
+use Rattle.ask_stacked.specs.Words.{stackWords}
 
 -- a list of k names, each below n and at one place only
 pub record Listed (w n k : ℕ) (groups : List ℕ) : Type 0 where
@@ -31,10 +33,17 @@ pub record AtNames (w k : ℕ) (groups places : List ℕ) : Type 0 where
 pub record FromNames (w n : ℕ) (names before places : List ℕ) : Type 0 where
   pub at : (v : ℕ) → v < n → getD places v 0 ≡ getD before (numAt w names v) 0
 
+-- each of n vertices has the place of the group, of k, that bears its name
+pub record Placed (w n k : ℕ) (names groups places : List ℕ) : Type 0 where
+  pub at : (v p : ℕ) → v < n → p < k → numAt w groups p ≡ numAt w names v → getD places v 0 ≡ p
+
+-- the table of n vertices' places lies in the lent words, behind those of the walk's stack
+abbrev pub tableIn : (w n : ℕ) → List ℕ → List ℕ
+tableIn w n work = part work (stackWords w n) n
+
 -- sections that are fit for a walk towards every group, and a table of n vertices' places
 pub record Ready (w n k d : ℕ) (groups levels starts children labels places : List ℕ) : Type 0 where
   pub few : n ≤ vertexBound
-  pub long : n ≤ length places
   pub low : (u : ℕ) → u < n → getD places u 0 < k
   pub fit : (t : ℕ) → t < k → Fit w k d t groups levels starts children labels n
 

@@ -9,13 +9,15 @@ ghost use lib.ListN.{length, replicate};
 ghost use Rattle.lineage.specs.Question.{between, answer};
 ghost use Rattle.numbers.specs.Bounds.{vertexBound};
 ghost use Rattle.numbers.specs.Put.{put};
+ghost use Rattle.numbers.specs.Regions.{Kept};
 ghost use Rattle.stored.specs.Sections.{indexAt};
 ghost use Rattle.sound_places.specs.Lent.{Lent};
 ghost use Rattle.ask_walk.specs.Fit.{groupsIn, Fit};
 ghost use Rattle.ask_walk.specs.Stamps.{seenAs, Under};
+ghost use Rattle.ask_stacked.specs.Words.{stackWords};
 ghost use Rattle.ask.specs.Replies.{answerBy};
 ghost use Rattle.ask_pairs.specs.Pairs.{sixes, lastMarks};
-ghost use Rattle.ask_pairs.specs.Places.{Ready, byPlace};
+ghost use Rattle.ask_pairs.specs.Places.{tableIn, Ready, byPlace};
 use ask::question::Reply;
 use refusals::BAD_VERTEX;
 use stored_header::Layout;
@@ -57,12 +59,14 @@ fn next_reply(
     x: usize,
     t: usize,
     marks: &mut [u8],
+    work: &mut [u32],
     used: u8,
 ) -> Next
     requires { ⌜ Fit w k d t (now groups) (now levels) (now starts) (now children) (now labels) (length (now marks)) ⌝ }
-    requires { ⌜ (x < k) × ((length (now marks) ≤ vertexBound) × Under (used + 1) (now marks)) ⌝ }
+    requires { ⌜ (x < k) × ((length (now marks) ≤ vertexBound) × (Under (used + 1) (now marks) × (stackWords w (length (now marks)) ≤ length (now work)))) ⌝ }
     ensures { λ r. ⌜ answerBy (r .reply) (seenAs (r .stamp) (now (marks .exit))) ≡ between (groupsIn w k d (now (groups .entry)) (now (levels .entry)) (now (starts .entry)) (now (children .entry)) (now (labels .entry))) x t (replicate (length (now (marks .entry))) 0) ⌝ }
     ensures { λ r. ⌜ Under (r .used + 1) (now (marks .exit)) ⌝ }
+    ensures { λ _. ⌜ Kept (now (work .entry)) (now (work .exit)) 0 (stackWords w (length (now (marks .entry)))) ⌝ }
 {
     let stamp = next_stamp(marks, used);
     let reply = ask::question::decide(
@@ -77,6 +81,7 @@ fn next_reply(
         x,
         t,
         marks,
+        work,
         stamp,
     );
     if reply.opened == 0 {
@@ -132,8 +137,8 @@ fn put_reply(answers: &mut [u32], at: usize, r: Reply)
     )
 }
 
-// Answers the pairs one by one, each by six numbers, with the place of every vertex's group in the table. The marks, one for each vertex, are all 0 before;
-// afterwards those of the last pair that was not refused bear the stamp that is returned, and no other does.
+// Answers the pairs one by one, each by six numbers, with the place of every vertex's group in the table behind the words of the walk's stack. The marks, one for each
+// vertex, are all 0 before; afterwards those of the last pair that was not refused bear the stamp that is returned, and no other does.
 fn ask_each(
     groups: &[u8],
     levels: &[u8],
@@ -144,17 +149,20 @@ fn ask_each(
     n: usize,
     k: usize,
     d: usize,
-    places: &[u32],
     sources: &[u32],
     targets: &[u32],
     marks: &mut [u8],
+    work: &mut [u32],
     answers: &mut [u32],
 ) -> u8
-    requires { ⌜ Ready w n k d (now groups) (now levels) (now starts) (now children) (now labels) (now places) ⌝ }
+    requires { ⌜ Ready w n k d (now groups) (now levels) (now starts) (now children) (now labels) (tableIn w n (now work)) ⌝ }
+    requires { ⌜ stackWords w n + n ≤ length (now work) ⌝ }
     requires { ⌜ (now marks ≡ replicate n 0) × ((length (now sources) ≡ length (now targets)) × (6 * length (now sources) ≤ length (now answers))) ⌝ }
-    ensures { λ _. ⌜ now (answers .exit) ≡ put (now (answers .entry)) 0 (sixes n (byPlace w n k d (now (groups .entry)) (now (levels .entry)) (now (starts .entry)) (now (children .entry)) (now (labels .entry)) (now (places .entry))) (now (sources .entry)) (now (targets .entry)) (length (now (sources .entry)))) ⌝ }
-    ensures { λ r. ⌜ seenAs r (now (marks .exit)) ≡ lastMarks n (byPlace w n k d (now (groups .entry)) (now (levels .entry)) (now (starts .entry)) (now (children .entry)) (now (labels .entry)) (now (places .entry))) (now (sources .entry)) (now (targets .entry)) (length (now (sources .entry))) ⌝ }
+    ensures { λ _. ⌜ now (answers .exit) ≡ put (now (answers .entry)) 0 (sixes n (byPlace w n k d (now (groups .entry)) (now (levels .entry)) (now (starts .entry)) (now (children .entry)) (now (labels .entry)) (tableIn w n (now (work .entry)))) (now (sources .entry)) (now (targets .entry)) (length (now (sources .entry)))) ⌝ }
+    ensures { λ r. ⌜ seenAs r (now (marks .exit)) ≡ lastMarks n (byPlace w n k d (now (groups .entry)) (now (levels .entry)) (now (starts .entry)) (now (children .entry)) (now (labels .entry)) (tableIn w n (now (work .entry)))) (now (sources .entry)) (now (targets .entry)) (length (now (sources .entry))) ⌝ }
+    ensures { λ _. ⌜ Kept (now (work .entry)) (now (work .exit)) 0 (stackWords w n) ⌝ }
 {
+    let base = ask_stacked::stack_words(w, n);
     let mut i = 0;
     let mut used = 0;
     let mut last = 1;
@@ -169,6 +177,8 @@ fn ask_each(
             if n <= v {
                 put_six(answers, at, BAD_VERTEX, 1, 0, 0, 0, 0);
             } else {
+                let x = work[base + u] as usize;
+                let t = work[base + v] as usize;
                 let a = next_reply(
                     groups,
                     levels,
@@ -178,9 +188,10 @@ fn ask_each(
                     w,
                     k,
                     d,
-                    places[u] as usize,
-                    places[v] as usize,
+                    x,
+                    t,
                     marks,
+                    work,
                     used,
                 );
                 let r = a.reply;
@@ -211,8 +222,8 @@ fn settle(marks: &mut [u8], stamp: u8)
     }
 }
 
-// Answers the pairs over the six sections: the places are laid out once, in lent words, and the pairs are asked one by one. The marks, one for each vertex, are all 0
-// before; afterwards they are those of the last pair that was not refused.
+// Answers the pairs over the six sections: the places are laid out once, in the lent words behind those of the walk's stack, and the pairs are asked one by one. The
+// marks, one for each vertex, are all 0 before; afterwards they are those of the last pair that was not refused.
 pub fn ask_pairs(
     names: &[u8],
     groups: &[u8],
@@ -223,21 +234,22 @@ pub fn ask_pairs(
     l: Layout,
     sources: &[u32],
     targets: &[u32],
-    places: &mut [u32],
     marks: &mut [u8],
+    work: &mut [u32],
     answers: &mut [u32],
 )
     requires { ⌜ Lent l (now names) (now groups) (now levels) (now starts) (now children) (now labels) ⌝ }
-    requires { ⌜ l .n ≤ length (now places) ⌝ }
+    requires { ⌜ stackWords (l .width) (l .n) + l .n ≤ length (now work) ⌝ }
     requires { ⌜ (now marks ≡ replicate (l .n) 0) × ((length (now sources) ≡ length (now targets)) × (6 * length (now sources) ≤ length (now answers))) ⌝ }
     ensures { λ _. ⌜ now (answers .exit) ≡ put (now (answers .entry)) 0 (sixes (l .n) (answer (indexAt l (now (names .entry)) (now (groups .entry)) (now (levels .entry)) (now (starts .entry)) (now (children .entry)) (now (labels .entry)))) (now (sources .entry)) (now (targets .entry)) (length (now (sources .entry)))) ⌝ }
     ensures { λ _. ⌜ now (marks .exit) ≡ lastMarks (l .n) (answer (indexAt l (now (names .entry)) (now (groups .entry)) (now (levels .entry)) (now (starts .entry)) (now (children .entry)) (now (labels .entry)))) (now (sources .entry)) (now (targets .entry)) (length (now (sources .entry))) ⌝ }
+    ensures { λ _. ⌜ Kept (now (work .entry)) (now (work .exit)) 0 (stackWords (l .width) (l .n) + l .n) ⌝ }
 {
     let w = l.width;
     let n = l.n;
     let k = l.k;
-    places::place_groups(groups, w, k, places);
-    places::place_vertices(names, w, n, places);
+    let base = ask_stacked::stack_words(w, n);
+    places::lay_out(names, groups, w, n, k, &mut work[base..base + n]);
     let last = ask_each(
         groups,
         levels,
@@ -248,10 +260,10 @@ pub fn ask_pairs(
         n,
         k,
         l.d,
-        places,
         sources,
         targets,
         marks,
+        work,
         answers,
     );
     settle(marks, last)

@@ -17,7 +17,7 @@ pub struct Seen {
 }
 
 // Whether h is passed over before any labelling is read: by its level, unless it is the target itself, or because it is already opened.
-fn skipped(
+pub fn skipped(
     groups: &[u8],
     levels: &[u8],
     w: usize,

@@ -5,13 +5,12 @@ use mathlib.Core.Path.{_≡_, sym, ap, _∙_}
 use mathlib.Core.List.{List, [], _++_}
 use Prim.Native.Nat.{ℕ, _≤_}
 use native.Mathlib.Omega.{arith}
-use lib.ListN.{length, drop, replicate, length-drop}
-use lib.Seq.{take-all}
-use Rattle.lineage.specs.Lists.{part, cleared}
+use lib.ListN.{length, drop}
+use Rattle.lineage.specs.Lists.{cleared}
 use Rattle.lineage.specs.Stored.{Form, encode}
 use Rattle.lineage.specs.Calls.{Check, Outcome, refused, answered, outcome, Input, workNeeded, built, lengthOf, buildEarly, buildLate, buildAnswer, buildOutput, buildWork}
 use Rattle.numbers.specs.Bounds.{vertexBound, entryBound}
-use Rattle.numbers.specs.Regions.{Kept}
+use Rattle.numbers.proofs.Cleared.{cleared-kept}
 use Rattle.stored_header.specs.declared.Row.{Row}
 use Rattle.laws.specs.Checks.{Pass, Comes}
 use Rattle.laws.proofs.Checks.{answered-pass, answered-is, refused-comes, rest-comes}
@@ -20,16 +19,6 @@ use Rattle.build.specs.Input.{boundsOf, formBy, RowFit}
 use Rattle.build.specs.Admitted.{Admitted}
 use Rattle.build.specs.Answers.{LateBuilt}
 use Rattle.build.proofs.Checks.{admitted}
-
--- words past the first n are kept: with those at 0 they are what they were
-cleared-kept : {w w' : List ℕ} (n : ℕ) → Kept w w' 0 n → cleared n w' ≡ cleared n w
-unfolding cleared part
-cleared-kept {w} {w'} n K =
-    let same : drop n w' ≡ drop n w =
-    sym (take-all (length w) (drop n w') (omega (arith, length-drop n w', K .long)))
-    ∙ K .above n (length w) (omega arith)
-    ∙ take-all (length w) (drop n w) (omega (arith, length-drop n w)) in
-    ap (λ (z : List ℕ). replicate n 0 ++ z) same
 
 -- what a build at a form answers and leaves
 abbrev pub Answers : Form → Input → (work out : List ℕ) → Outcome ℕ → (work' out' : List ℕ) → Type 0

@@ -2,7 +2,8 @@
 pub mod Checks
 pub mod Outcomes
 pub mod Answered
-pub mod First
+pub mod Row
+pub mod Call
 pub mod Accepted
 pub mod Theorems
 pub mod Same

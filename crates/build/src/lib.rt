@@ -6,20 +6,23 @@ use refusals::BAD_ORDER_LIST;
 use refusals::LISTS_DIFFER;
 use refusals::MANY_EDGES;
 use refusals::MANY_VERTICES;
+use refusals::OTHER_FORM;
 use refusals::OUTPUT_SHORT;
 use refusals::WORK_SHORT;
 use stored_header::MOST_LABELLINGS;
 use stored_header::Row;
+ghost use mathlib.Core.Bool.{true};
 ghost use mathlib.Core.Path.{_≡_};
 ghost use Prim.Native.Nat.{_^_, _≤_, _<_};
 ghost use lib.ListN.{length};
 ghost use Rattle.lineage.specs.Numbers.{Width};
-ghost use Rattle.lineage.specs.Stored.{form1};
-ghost use Rattle.lineage.specs.Calls.{workNeeded, buildEarly, buildAnswer, buildOutput, buildWork, outcome};
+ghost use Rattle.lineage.specs.Stored.{formOf, isForm};
+ghost use Rattle.lineage.specs.Calls.{workNeeded, buildEarly, buildAnswer, buildOutput, buildWork, buildCall, buildCallOutput, buildCallWork, outcome};
 ghost use Rattle.numbers.specs.Bounds.{vertexBound, entryBound};
+ghost use Rattle.stored_header.specs.Header.{rowOf};
 ghost use Rattle.build_orders.specs.Input.{graphOf};
 ghost use Rattle.build_indexed.specs.Written.{writtenAs};
-ghost use Rattle.build.specs.Input.{inputOf, boundsOf, formBy, RowFit};
+ghost use Rattle.build.specs.Input.{inputOf, boundsOf};
 ghost use Rattle.build.specs.Answers.{checkedOf, builtOf, LateBuilt};
 ghost use Rattle.build.specs.Admitted.{Admitted};
 
@@ -140,8 +143,8 @@ fn late(
     Built::Total(l.total as u32)
 }
 
-// A build at a form's row: checks 1 to 7 alter nothing, and what comes behind them ends with the needed words at 0.
-fn build_form(
+// A build at a form of the table, with the form's row: checks 1 to 7 alter nothing, and what comes behind them ends with the needed words at 0.
+pub fn build_form(
     form: usize,
     row: Row,
     n: usize,
@@ -152,10 +155,11 @@ fn build_form(
     work: &mut [u32],
     out: &mut [u8],
 ) -> Built
-    requires { ⌜ RowFit form row ⌝ }
-    ensures { λ r. ⌜ builtOf r ≡ buildAnswer (formBy form row) (inputOf n (now (sources .entry)) (now (targets .entry)) d (now (orders .entry))) (length (now (work .entry))) (length (now (out .entry))) ⌝ }
-    ensures { λ _. ⌜ now (work .exit) ≡ buildWork (formBy form row) (inputOf n (now (sources .entry)) (now (targets .entry)) d (now (orders .entry))) (now (work .entry)) ⌝ }
-    ensures { λ _. ⌜ now (out .exit) ≡ buildOutput (formBy form row) (inputOf n (now (sources .entry)) (now (targets .entry)) d (now (orders .entry))) (length (now (work .entry))) (now (out .entry)) ⌝ }
+    requires { ⌜ isForm form ≡ true ⌝ }
+    requires { ⌜ row ≡ rowOf form ⌝ }
+    ensures { λ r. ⌜ builtOf r ≡ buildAnswer (formOf form) (inputOf n (now (sources .entry)) (now (targets .entry)) d (now (orders .entry))) (length (now (work .entry))) (length (now (out .entry))) ⌝ }
+    ensures { λ _. ⌜ now (work .exit) ≡ buildWork (formOf form) (inputOf n (now (sources .entry)) (now (targets .entry)) d (now (orders .entry))) (now (work .entry)) ⌝ }
+    ensures { λ _. ⌜ now (out .exit) ≡ buildOutput (formOf form) (inputOf n (now (sources .entry)) (now (targets .entry)) d (now (orders .entry))) (length (now (work .entry))) (now (out .entry)) ⌝ }
 {
     match early(
         row.vertices,
@@ -176,8 +180,10 @@ fn build_form(
     }
 }
 
-// Builds the index of an edge list under d orders, at form 1: the output then holds the stored form, and nothing else is altered past the needed words of work memory.
+// Builds the index of an edge list under d orders, at form 1 or 2; any other form is refused before all else. The output then holds the stored form, and nothing else
+// is altered past the needed words of work memory.
 pub fn build(
+    form: u32,
     n: u32,
     sources: &[u32],
     targets: &[u32],
@@ -186,13 +192,20 @@ pub fn build(
     work: &mut [u32],
     out: &mut [u8],
 ) -> Built
-    ensures { λ r. ⌜ builtOf r ≡ buildAnswer form1 (inputOf n (now (sources .entry)) (now (targets .entry)) d (now (orders .entry))) (length (now (work .entry))) (length (now (out .entry))) ⌝ }
-    ensures { λ _. ⌜ now (work .exit) ≡ buildWork form1 (inputOf n (now (sources .entry)) (now (targets .entry)) d (now (orders .entry))) (now (work .entry)) ⌝ }
-    ensures { λ _. ⌜ now (out .exit) ≡ buildOutput form1 (inputOf n (now (sources .entry)) (now (targets .entry)) d (now (orders .entry))) (length (now (work .entry))) (now (out .entry)) ⌝ }
+    ensures { λ r. ⌜ builtOf r ≡ buildCall form (inputOf n (now (sources .entry)) (now (targets .entry)) d (now (orders .entry))) (length (now (work .entry))) (length (now (out .entry))) ⌝ }
+    ensures { λ _. ⌜ now (work .exit) ≡ buildCallWork form (inputOf n (now (sources .entry)) (now (targets .entry)) d (now (orders .entry))) (now (work .entry)) ⌝ }
+    ensures { λ _. ⌜ now (out .exit) ≡ buildCallOutput form (inputOf n (now (sources .entry)) (now (targets .entry)) d (now (orders .entry))) (length (now (work .entry))) (now (out .entry)) ⌝ }
 {
+    let number = form as usize;
+    if !stored_header::takes(1, 2, number) {
+        return Built::Refused {
+            number: OTHER_FORM,
+            extra: form,
+        };
+    }
     build_form(
-        1,
-        stored_header::form_row(1),
+        number,
+        stored_header::form_row(number),
         n as usize,
         sources,
         targets,

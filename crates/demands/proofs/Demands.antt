@@ -1,13 +1,17 @@
 -- The three demands on the calls, proved. specs/ says what each is; what follows is the laws of this crate and of those below, cited.
-use Rattle.lineage.specs.Calls.{buildAnswer, openAnswer, askAnswer, listAnswer}
+use mathlib.Core.Path.{sym}
+use Rattle.lineage.specs.Calls.{buildCall, openAnswer, askAnswer, listAnswer}
 use Rattle.build.proofs.build as build-call
 use Rattle.build.proofs.Theorems.{built-once, build-finishes}
 use Rattle.open.proofs.open as open-call
+use Rattle.open.proofs.open_form1 as open-form1-call
 use Rattle.open.proofs.Theorem.{opened-once}
 use Rattle.ask.proofs.ask as ask-call
+use Rattle.ask.proofs.ask_form1 as ask-form1-call
 use Rattle.ask.proofs.Theorems.{asked-once}
 use Rattle.ask_all.specs.Batch.{batchAnswer}
 use Rattle.ask_all.proofs.ask_all as ask-all-call
+use Rattle.ask_all.proofs.ask_all_form1 as ask-all-form1-call
 use Rattle.ask_all.proofs.Theorems.{batch-once}
 use Rattle.list.proofs.list as list-call
 use Rattle.list.proofs.Theorems.{listed-once}
@@ -16,18 +20,19 @@ use Rattle.text_run.proofs.Theorems.{ran-once}
 use Rattle.drobisten.proofs.drobisten_open as host-open-call
 use Rattle.drobisten.proofs.drobisten_ask as host-ask-call
 use Rattle.drobisten.proofs.drobisten_ask_all as host-ask-all-call
-use Rattle.drobisten.proofs.Theorems as host
+use Rattle.drobisten.proofs.Theorems as face
 use Rattle.demands.specs.Calls.{EveryCall}
 use Rattle.demands.specs.Stored.{AsGrail}
 use Rattle.demands.specs.Orders.{MoreOrders}
 use Rattle.demands.proofs.Refusals.{first-refusal}
+use Rattle.demands.proofs.Words.{open-no-words, ask-no-words, batch-no-words}
 use Rattle.demands.proofs.Stored.{build-stored}
 use Rattle.demands.proofs.Opened.{opened-yields, yielded-stored, opened-answers, asked-path, host-path}
 use Rattle.demands.proofs.Orders.{fewer, on-a-no}
 
 -- 1. The checker's theorem of each call is cited; what the contract says is, equation by equation, what is allowed.
 pub demand-1 : EveryCall
-unfolding buildAnswer openAnswer askAnswer batchAnswer listAnswer
+unfolding buildCall openAnswer askAnswer batchAnswer listAnswer
 demand-1 = record {
   build = record {
     met = build-call.Met.met;
@@ -38,25 +43,43 @@ demand-1 = record {
   opens = record {
     met = open-call.Met.met;
     nothing-asked = λ κs a. tt;
-    allows = λ κs a r e (answers, leaves). record { answers = answers; leaves = leaves };
+    allows = λ κs a r e (answers, (leaves, clears)). record { answers = answers; leaves = leaves; clears = clears };
     once = λ κs a r r' e e'. opened-once;
+  };
+  opens-form1 = record {
+    met = open-form1-call.Met.met;
+    nothing-asked = λ κs a. tt;
+    allows = λ κs a r e (answers, leaves). record { answers = answers; leaves = leaves; clears = sym (open-no-words _ _ _) };
+    once = λ κs a r r' e e' X Y. let (same, (marks, work)) = opened-once X Y in (same, marks);
   };
   ask = record {
     met = ask-call.Met.met;
     nothing-asked = λ κs a. tt;
-    allows = λ κs a r e (answers, leaves). record { answers = answers; leaves = leaves };
+    allows = λ κs a r e (answers, (leaves, clears)). record { answers = answers; leaves = leaves; clears = clears };
     once = λ κs a r r' e e'. asked-once;
+  };
+  ask-form1 = record {
+    met = ask-form1-call.Met.met;
+    nothing-asked = λ κs a. tt;
+    allows = λ κs a r e (answers, leaves). record { answers = answers; leaves = leaves; clears = sym (ask-no-words _ _ _ _ _) };
+    once = λ κs a r r' e e' X Y. let (same, (marks, work)) = asked-once X Y in (same, marks);
   };
   ask-all = record {
     met = ask-all-call.Met.met;
     nothing-asked = λ κs a. tt;
-    allows = λ κs a r e (returns, (leaves, writes)). record { returns = returns; leaves = leaves; writes = writes };
+    allows = λ κs a r e (returns, (leaves, (clears, writes))). record { returns = returns; leaves = leaves; clears = clears; writes = writes };
     once = λ κs a r r' e e'. batch-once;
+  };
+  ask-all-form1 = record {
+    met = ask-all-form1-call.Met.met;
+    nothing-asked = λ κs a. tt;
+    allows = λ κs a r e (returns, (leaves, writes)). record { returns = returns; leaves = leaves; clears = sym (batch-no-words _ _ _); writes = writes };
+    once = λ κs a r r' e e' X Y. let (same, (marks, (work, answers))) = batch-once X Y in (same, (marks, answers));
   };
   list = record {
     met = list-call.Met.met;
     nothing-asked = λ κs a. tt;
-    allows = λ κs a r e (answers, (leaves, writes)). record { answers = answers; leaves = leaves; writes = writes };
+    allows = λ κs a r e (answers, (leaves, (clears, writes))). record { answers = answers; leaves = leaves; clears = clears; writes = writes };
     once = λ κs a r r' e e'. listed-once;
   };
   run = record {
@@ -69,25 +92,25 @@ demand-1 = record {
     met = host-open-call.Met.met;
     nothing-asked = λ κs a. tt;
     allows = λ κs a r e (returns, leaves). record { returns = returns; leaves = leaves };
-    once = λ κs a r r' e e'. host.opened-once;
+    once = λ κs a r r' e e'. face.opened-once;
   };
   host-ask = record {
     met = host-ask-call.Met.met;
     nothing-asked = λ κs a. tt;
     allows = λ κs a r e (returns, leaves). record { returns = returns; leaves = leaves };
-    once = λ κs a r r' e e'. host.asked-once;
+    once = λ κs a r r' e e'. face.asked-once;
   };
   host-ask-all = record {
     met = host-ask-all-call.Met.met;
     nothing-asked = λ κs a. tt;
     allows = λ κs a r e (returns, (leaves, writes)). record { returns = returns; leaves = leaves; writes = writes };
-    once = λ κs a r r' e e'. host.asked-all-once;
+    once = λ κs a r r' e e'. face.asked-all-once;
   };
-  build-refuses = λ F B work out number extra. first-refusal _ number extra _;
-  open-refuses = λ b marks number extra. first-refusal _ number extra _;
-  ask-refuses = λ b u v marks number extra. first-refusal _ number extra _;
-  ask-all-refuses = λ b S T marks answers number extra. first-refusal _ number extra _;
-  list-refuses = λ b u marks out number extra. first-refusal _ number extra _;
+  build-refuses = λ form B work out number extra. first-refusal _ number extra _;
+  open-refuses = λ T b marks work number extra. first-refusal _ number extra _;
+  ask-refuses = λ T b u v marks work number extra. first-refusal _ number extra _;
+  ask-all-refuses = λ T b sources targets marks work answers number extra. first-refusal _ number extra _;
+  list-refuses = λ T b u marks work out number extra. first-refusal _ number extra _;
 }
 
 -- 2. What is built and what opens is a stored index, whatever graph and orders yield it; and what is stored is right.

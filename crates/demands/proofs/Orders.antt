@@ -5,10 +5,11 @@ use mathlib.Core.Path.{_≡_, sym, _∙_}
 use mathlib.Core.List.{List}
 use Prim.Native.Nat.{ℕ}
 use native.Mathlib.Omega.{arith}
+use lib.ListN.{length}
 use Rattle.lineage.specs.Graph.{Graph}
 use Rattle.lineage.specs.Index.{indexOf}
 use Rattle.lineage.specs.Question.{answer}
-use Rattle.lineage.specs.Calls.{answered, Said, saidOf}
+use Rattle.lineage.specs.Calls.{answered, FormsTaken, Said, saidOf}
 use Rattle.ask.specs.declared.Asked.{Asked}
 use Rattle.ask.specs.Asked.{askedOf}
 use Rattle.ask.proofs.Theorems.{Allowed, asked-no, asked-fewer}
@@ -16,11 +17,11 @@ use Rattle.demands.specs.Stored.{Stored}
 use Rattle.demands.specs.Orders.{NeverMore, OpenedThrough}
 
 pub fewer : NeverMore Stored
-fewer G orders₁ orders₂ b₁ b₂ T₁ T₂ up u v marks₁ marks₂ r₁ r₂ m₁ m₂ source target room₁ room₂ X₁ X₂ =
-    let said₁ = T₁ .asks u v marks₁ r₁ m₁ source target room₁ X₁ .said in
-    let said₂ = T₂ .asks u v marks₂ r₂ m₂ source target room₂ X₂ .said in
+fewer G orders₁ orders₂ b₁ b₂ S₁ S₂ up T taken₁ taken₂ u v marks₁ marks₂ work₁ work₂ r₁ r₂ m₁ m₂ w₁ w₂ source target room₁ room₂ words₁ words₂ X₁ X₂ =
+    let said₁ = S₁ .asks T u v marks₁ work₁ r₁ m₁ w₁ taken₁ source target room₁ words₁ X₁ .said in
+    let said₂ = S₂ .asks T u v marks₂ work₂ r₂ m₂ w₂ taken₂ source target room₂ words₂ X₂ .said in
     let (says, (count, marks)) =
-    asked-fewer G (T₁ .ends) orders₁ orders₂ up (T₂ .permuted) b₁ b₂ (T₁ .holds) (T₂ .holds) u v marks₁ marks₂ _ _
+    asked-fewer G (S₁ .ends) orders₁ orders₂ up (S₂ .permuted) T b₁ b₂ (S₁ .holds) (S₂ .holds) u v marks₁ marks₂ (length work₁) (length work₂) _ _
     (sym (X₁ .answers) ∙ said₁) (sym (X₂ .answers) ∙ said₂) in
     record {
       first = saidOf (answer (indexOf G orders₁) u v);
@@ -33,8 +34,8 @@ fewer G orders₁ orders₂ b₁ b₂ T₁ T₂ up u v marks₁ marks₂ r₁ r�
     }
 
 pub on-a-no : {G : Graph} {orders : List (List ℕ)} {b : List ℕ} → Stored G orders b
-    → {u v : ℕ} {marks : List ℕ} {r : Asked} {m : List ℕ} {s : Said} → Allowed b u v marks r m → askedOf r ≡ answered s
+    → {T : FormsTaken} {u v : ℕ} {marks work : List ℕ} {r : Asked} {m w : List ℕ} {s : Said} → Allowed T b u v marks work r m w → askedOf r ≡ answered s
     → s .says ≡ false
     → OpenedThrough (indexOf G orders) u v m
-on-a-no {G} {orders} {b} T {u} {v} {marks} {m = m} {s = s} X e says =
-    rw (T .holds, X .leaves) (λ p h. asked-no b u v marks s (sym (X .answers) ∙ e) says p (omega (arith, T .grail .groups .children-long)))
+on-a-no {G} {orders} {b} S {T} {u} {v} {marks} {work} {s = s} X e says =
+    rw (S .holds, X .leaves) (λ p h. asked-no T b u v marks (length work) s (sym (X .answers) ∙ e) says p (omega (arith, S .grail .groups .children-long)))

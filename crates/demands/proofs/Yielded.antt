@@ -4,16 +4,19 @@ use mathlib.Core.Bool.{true}
 use mathlib.Core.Path.{_≡_, refl, sym, ap, subst, _∙_}
 use mathlib.Core.List.{List, [], _∷_}
 use Prim.Native.Nat.{ℕ, zero, suc, _+_, _*_, _^_, _≤_, _<_}
-use native.Mathlib.Nat.{mul-le-mul, mul-le-mul-left}
+use native.Mathlib.Nat.{mul-le-mul-left}
 use native.Mathlib.Omega.{arith}
 use lib.ListN.{length}
 use Rattle.lineage.specs.Lists.{joined}
 use Rattle.lineage.specs.Index.{Index, indexOf}
-use Rattle.lineage.specs.Stored.{Counts, countsOf, countsFit, encode, countsIn}
+use Rattle.lineage.specs.Stored.{Counts, countsOf, countsFit, encode, headerAt, countsIn}
+use Rattle.lineage.specs.Calls.{FormsTaken}
 use Rattle.laws.specs.Sound.{Sound}
 use Rattle.laws.proofs.Sound.{made-sound}
 use Rattle.laws.proofs.Grouped.{place-low}
+use Rattle.numbers.proofs.Numbers.{count-low}
 use Rattle.stored_header.specs.Header.{layoutIn, Laid}
+use Rattle.stored_header.proofs.Forms.{form-within}
 use Rattle.stored_header.proofs.Laid.{header-laid}
 use Rattle.open.specs.Yields.{Yields, HeaderRight}
 use Rattle.open.proofs.Checks.{right-passes}
@@ -26,7 +29,7 @@ none-joined : (xs : List (List ℕ)) → length xs ≡ 0 → length (joined xs) 
 none-joined [] e = refl
 none-joined (x ∷ xs) e = absurd (omega arith)
 
-module _ {b : List ℕ} (R : HeaderRight b) (Y : Yields (formIn b) b) where
+module _ {T : FormsTaken} {b : List ℕ} (R : HeaderRight T b) (Y : Yields (formIn b) b) where
   abbrev I : Index
   I = indexOf (Y .graph) (Y .orders)
 
@@ -34,7 +37,7 @@ module _ {b : List ℕ} (R : HeaderRight b) (Y : Yields (formIn b) b) where
   S = made-sound (Y .graph) (Y .ends) (Y .orders) (Y .permuted)
 
   L : Laid b (layoutIn b)
-  L = header-laid b (right-passes b R)
+  L = header-laid b T (right-passes T b R)
 
   short : length (encode (formIn b) I) < 2 ^ 31
   short = subst (λ (z : List ℕ). length z < 2 ^ 31) (sym (Y .bytes)) (laid-short L)
@@ -45,32 +48,45 @@ module _ {b : List ℕ} (R : HeaderRight b) (Y : Yields (formIn b) b) where
     where
       go : (n : ℕ) → length (I .names) ≡ n → 0 < length (I .groups)
       go zero e =
-          let none : length (I .children) ≡ 0 = omega (arith, S .condensed .children-long, groups-few S) in
-          let no-labels : 4 * length (I .groups) ≤ 0 = omega (arith, groups-few S) in
+          let w : ℕ = formIn b .width in
+          let a : Counts = countsOf I in
+          let rows : length (I .children) ≡ 0 = omega (arith, S .condensed .children-long, groups-few S) in
+          let no-vertices : a .n ≤ 0 = omega arith in
+          let no-groups : a .k ≤ 0 = omega (arith, groups-few S) in
+          let no-children : a .c ≤ 0 = omega (arith, none-joined (I .children) rows) in
+          let no-labels : a .d * (4 * a .k) ≤ 0 =
+          let none : 4 * a .k ≤ 0 = omega arith in
+          omega (arith, mul-le-mul-left (a .d) none) in
+          let one-start : a .k + 1 ≤ 1 = omega arith in
           let start : 1 ≤ countsIn b .k + 1 = omega arith in
           absurd
           (omega (
             arith,
-            yielded-long S,
+            yielded-long (formIn b) S,
             ap length (Y .bytes),
-            groups-few S,
-            none-joined (I .children) none,
-            mul-le-mul-left (length (I .labels)) no-labels,
+            mul-le-mul-left w no-vertices,
+            mul-le-mul-left w no-groups,
+            mul-le-mul-left w one-start,
+            mul-le-mul-left w no-children,
+            mul-le-mul-left w no-labels,
             L .long,
-            mul-le-mul (L .width .low) some,
-            mul-le-mul (L .width .low) start,
+            L .width .low,
+            mul-le-mul-left w some,
+            mul-le-mul-left w start,
           ))
       go (suc n) e = omega (arith, S .condensed .children-long, place-low (S .condensed) 0 (omega arith))
 
   -- the header's counts are the index's
   counts-are : length (I .labels) < 2 ^ 31 → countsIn b ≡ countsOf I
-  counts-are few = ap countsIn (sym (Y .bytes)) ∙ counts-bounded S short few
+  counts-are few = ap countsIn (sym (Y .bytes)) ∙ counts-bounded (formIn b) S (form-within (headerAt b 0)) short few
 
   -- as many orders as the header says, where there is a vertex
   pub orders-are : 0 < countsIn b .n → length (Y .orders) ≡ countsIn b .d
   orders-are some =
       let one : 1 ≤ 4 * length (I .groups) = omega (arith, some-group some) in
-      let few : length (I .labels) < 2 ^ 31 = omega (arith, short, yielded-long S, mul-le-mul-left (length (I .labels)) one) in
+      let a : Counts = countsOf I in
+      let labels = count-low (formIn b .width) (a .d * (4 * a .k)) (form-within (headerAt b 0) .width .low) in
+      let few : length (I .labels) < 2 ^ 31 = omega (arith, short, yielded-long (formIn b) S, labels, mul-le-mul-left (length (I .labels)) one) in
       sym (orders-long (Y .graph) (Y .orders)) ∙ ap (λ (a : Counts). a .d) (sym (counts-are few))
 
   -- with as many orders the index is within the form's bounds

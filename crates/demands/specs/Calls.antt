@@ -1,6 +1,6 @@
 -- Demand 1: every call ends and answers, for all numbers, lists and bytes it may be lent; bad input gets one refusal by a fixed order of checks, and the contents
 -- of every lent buffer after it are fixed.
-use mathlib.Core.Bool.{true, false}
+use mathlib.Core.Bool.{true, false, not}
 use mathlib.Core.Logic.{_↔_}
 use mathlib.Core.Path.{_≡_}
 use mathlib.Core.List.{List, [], _∷_, _++_}
@@ -10,18 +10,21 @@ use contract.Lifetimes.{Lfts}
 use denote.Ref.{now}
 use denote.Triple.Clauses.{AtExit}
 use borrow.Fn.Kinds.{PK, RK, In, Out, Dens, resT, endedOf}
-use Rattle.lineage.specs.Stored.{Form}
-use Rattle.lineage.specs.Calls.{Check, check, refused, Input, buildEarly, buildLate, buildAnswer, formChecks, contentsCheck, openAnswer, askEarly, askAnswer, listEarly, listLate, listAnswer}
+use Rattle.lineage.specs.Stored.{formOf}
+use Rattle.lineage.specs.Calls.{Check, check, refused, FormsTaken, host, ordinary, takes, Input, buildEarly, buildLate, buildCall, formChecks, contentsCheck, openAnswer, askEarly, askAnswer, listEarly, listLate, listAnswer}
 use Rattle.build.specs.Input.{inputOf}
 use Rattle.build.proofs.build as build-call
 use Rattle.build.proofs.Theorems as build
 use Rattle.open.proofs.open as open-call
+use Rattle.open.proofs.open_form1 as open-form1-call
 use Rattle.open.proofs.Theorem as opening
 use Rattle.ask.proofs.ask as ask-call
-use Rattle.ask.proofs.Theorems as ask
+use Rattle.ask.proofs.ask_form1 as ask-form1-call
+use Rattle.ask.proofs.Theorems as asking
 use Rattle.ask_all.specs.Batch.{batchLate, batchAnswer}
 use Rattle.ask_all.proofs.ask_all as ask-all-call
-use Rattle.ask_all.proofs.Theorems as ask-all
+use Rattle.ask_all.proofs.ask_all_form1 as ask-all-form1-call
+use Rattle.ask_all.proofs.Theorems as asking-all
 use Rattle.list.proofs.list as list-call
 use Rattle.list.specs.Listed as list
 use Rattle.text_run.proofs.run as run-call
@@ -29,7 +32,7 @@ use Rattle.text_run.proofs.Theorems as run
 use Rattle.drobisten.proofs.drobisten_open as host-open-call
 use Rattle.drobisten.proofs.drobisten_ask as host-ask-call
 use Rattle.drobisten.proofs.drobisten_ask_all as host-ask-all-call
-use Rattle.drobisten.proofs.Theorems as host
+use Rattle.drobisten.proofs.Theorems as face
 
 -- Of one call. `meets` is its theorem as the checker states it; `asked` and `learnt` are its contract as callers have it: what is asked of the arguments a, and what
 -- is said of them, of the answer r and of the arguments e as they are left. `same`: the lent buffers are left alike. κs are the lifetimes of what is lent.
@@ -58,47 +61,64 @@ pub record Refuses (cs : List Check) (number extra : ℕ) : Type 0 where
 -- Of every call: its arguments in the order of its parameters, the answer r, and the arguments as they are left; `now` is what a buffer holds.
 pub record EveryCall : Type 2 where
   pub build : Answers build-call.Kinds.ps build-call.Kinds.r build-call.Statement.statement build-call.Reads.Asked build-call.Reads.Learnt
-      (λ κs (n, (sources, (targets, (orders, (d, (work, (out, _))))))) r (_, (_, (_, (_, (_, (work', (out', _))))))).
-      build.Allowed (inputOf n (now sources) (now targets) d (now orders)) (now work) (now out) r (now work') (now out'))
-      (λ κs (_, (_, (_, (_, (_, (work, (out, _))))))) (_, (_, (_, (_, (_, (work', (out', _))))))). (now work ≡ now work') × (now out ≡ now out'))
+      (λ κs (form, (n, (sources, (targets, (orders, (d, (work, (out, _)))))))) r (_, (_, (_, (_, (_, (_, (work', (out', _)))))))).
+      build.Allowed form (inputOf n (now sources) (now targets) d (now orders)) (now work) (now out) r (now work') (now out'))
+      (λ κs (_, (_, (_, (_, (_, (_, (work, (out, _)))))))) (_, (_, (_, (_, (_, (_, (work', (out', _)))))))). (now work ≡ now work') × (now out ≡ now out'))
   pub opens : Answers open-call.Kinds.ps open-call.Kinds.r open-call.Statement.statement open-call.Reads.Asked open-call.Reads.Learnt
-      (λ κs (index, (marks, _)) r (_, (marks', _)). opening.Allowed (now index) (now marks) r (now marks'))
+      (λ κs (index, (marks, (work, _))) r (_, (marks', (work', _))). opening.Allowed ordinary (now index) (now marks) (now work) r (now marks') (now work'))
+      (λ κs (_, (marks, (work, _))) (_, (marks', (work', _))). (now marks ≡ now marks') × (now work ≡ now work'))
+  pub opens-form1 : Answers open-form1-call.Kinds.ps open-form1-call.Kinds.r open-form1-call.Statement.statement open-form1-call.Reads.Asked
+      open-form1-call.Reads.Learnt
+      (λ κs (index, (marks, _)) r (_, (marks', _)). opening.Allowed host (now index) (now marks) [] r (now marks') [])
       (λ κs (_, (marks, _)) (_, (marks', _)). now marks ≡ now marks')
   pub ask : Answers ask-call.Kinds.ps ask-call.Kinds.r ask-call.Statement.statement ask-call.Reads.Asked ask-call.Reads.Learnt
-      (λ κs (index, (source, (target, (marks, _)))) r (_, (_, (_, (marks', _)))). ask.Allowed (now index) source target (now marks) r (now marks'))
+      (λ κs (index, (source, (target, (marks, (work, _))))) r (_, (_, (_, (marks', (work', _))))).
+      asking.Allowed ordinary (now index) source target (now marks) (now work) r (now marks') (now work'))
+      (λ κs (_, (_, (_, (marks, (work, _))))) (_, (_, (_, (marks', (work', _))))). (now marks ≡ now marks') × (now work ≡ now work'))
+  pub ask-form1 : Answers ask-form1-call.Kinds.ps ask-form1-call.Kinds.r ask-form1-call.Statement.statement ask-form1-call.Reads.Asked ask-form1-call.Reads.Learnt
+      (λ κs (index, (source, (target, (marks, _)))) r (_, (_, (_, (marks', _)))). asking.Allowed host (now index) source target (now marks) [] r (now marks') [])
       (λ κs (_, (_, (_, (marks, _)))) (_, (_, (_, (marks', _)))). now marks ≡ now marks')
   pub ask-all : Answers ask-all-call.Kinds.ps ask-all-call.Kinds.r ask-all-call.Statement.statement ask-all-call.Reads.Asked ask-all-call.Reads.Learnt
+      (λ κs (index, (sources, (targets, (marks, (work, (answers, _)))))) r (_, (_, (_, (marks', (work', (answers', _)))))).
+      asking-all.Allowed ordinary (now index) (now sources) (now targets) (now marks) (now work) (now answers) r (now marks') (now work') (now answers'))
+      (λ κs (_, (_, (_, (marks, (work, (answers, _)))))) (_, (_, (_, (marks', (work', (answers', _)))))).
+      (now marks ≡ now marks') × ((now work ≡ now work') × (now answers ≡ now answers')))
+  pub ask-all-form1 : Answers ask-all-form1-call.Kinds.ps ask-all-form1-call.Kinds.r ask-all-form1-call.Statement.statement ask-all-form1-call.Reads.Asked
+      ask-all-form1-call.Reads.Learnt
       (λ κs (index, (sources, (targets, (marks, (answers, _))))) r (_, (_, (_, (marks', (answers', _))))).
-      ask-all.Allowed (now index) (now sources) (now targets) (now marks) (now answers) r (now marks') (now answers'))
+      asking-all.Allowed host (now index) (now sources) (now targets) (now marks) [] (now answers) r (now marks') [] (now answers'))
       (λ κs (_, (_, (_, (marks, (answers, _))))) (_, (_, (_, (marks', (answers', _))))). (now marks ≡ now marks') × (now answers ≡ now answers'))
   pub list : Answers list-call.Kinds.ps list-call.Kinds.r list-call.Statement.statement list-call.Reads.Asked list-call.Reads.Learnt
-      (λ κs (index, (vertex, (marks, (out, _)))) r (_, (_, (marks', (out', _)))).
-      list.Allowed (now index) vertex (now marks) (now out) r (now marks') (now out'))
-      (λ κs (_, (_, (marks, (out, _)))) (_, (_, (marks', (out', _)))). (now marks ≡ now marks') × (now out ≡ now out'))
+      (λ κs (index, (vertex, (marks, (work, (out, _))))) r (_, (_, (marks', (work', (out', _))))).
+      list.Allowed ordinary (now index) vertex (now marks) (now work) (now out) r (now marks') (now work') (now out'))
+      (λ κs (_, (_, (marks, (work, (out, _))))) (_, (_, (marks', (work', (out', _))))).
+      (now marks ≡ now marks') × ((now work ≡ now work') × (now out ≡ now out')))
   -- the text program's run
   pub run : Answers run-call.Kinds.ps run-call.Kinds.r run-call.Statement.statement run-call.Reads.Asked run-call.Reads.Learnt
       (λ κs (text, (out, _)) r (_, (out', _)). run.Allowed (now text) (now out) r (now out'))
       (λ κs (_, (out, _)) (_, (out', _)). now out ≡ now out')
   -- the C face
   pub host-open : Answers host-open-call.Kinds.ps host-open-call.Kinds.r host-open-call.Statement.statement host-open-call.Reads.Asked host-open-call.Reads.Learnt
-      (λ κs (index, (marks, _)) r (_, (marks', _)). host.Opens (now index) (now marks) r (now marks'))
+      (λ κs (index, (marks, _)) r (_, (marks', _)). face.Opens (now index) (now marks) r (now marks'))
       (λ κs (_, (marks, _)) (_, (marks', _)). now marks ≡ now marks')
   pub host-ask : Answers host-ask-call.Kinds.ps host-ask-call.Kinds.r host-ask-call.Statement.statement host-ask-call.Reads.Asked host-ask-call.Reads.Learnt
-      (λ κs (index, (marks, (source, (target, _)))) r (_, (marks', _)). host.Asks (now index) source target (now marks) r (now marks'))
+      (λ κs (index, (marks, (source, (target, _)))) r (_, (marks', _)). face.Asks (now index) source target (now marks) r (now marks'))
       (λ κs (_, (marks, _)) (_, (marks', _)). now marks ≡ now marks')
   pub host-ask-all : Answers host-ask-all-call.Kinds.ps host-ask-all-call.Kinds.r host-ask-all-call.Statement.statement host-ask-all-call.Reads.Asked
       host-ask-all-call.Reads.Learnt
       (λ κs (index, (marks, (sources, (targets, (answers, _))))) r (_, (marks', (_, (_, (answers', _))))).
-      host.AsksAll (now index) (now sources) (now targets) (now marks) (now answers) r (now marks') (now answers'))
+      face.AsksAll (now index) (now sources) (now targets) (now marks) (now answers) r (now marks') (now answers'))
       (λ κs (_, (marks, (_, (_, (answers, _))))) (_, (marks', (_, (_, (answers', _))))). (now marks ≡ now marks') × (now answers ≡ now answers'))
   -- a refusal is given exactly when its check applies and none above it does
-  pub build-refuses : (F : Form) (B : Input) (work out number extra : ℕ)
-      → (buildAnswer F B work out ≡ refused number extra) ↔ Refuses (buildEarly F B work ++ buildLate F B out) number extra
-  pub open-refuses : (b : List ℕ) (marks number extra : ℕ)
-      → (openAnswer b marks ≡ refused number extra) ↔ Refuses (formChecks b marks ++ (contentsCheck b ∷ [])) number extra
-  pub ask-refuses : (b : List ℕ) (u v marks number extra : ℕ)
-      → (askAnswer b u v marks ≡ refused number extra) ↔ Refuses (askEarly b u v marks ++ (contentsCheck b ∷ [])) number extra
-  pub ask-all-refuses : (b S T : List ℕ) (marks answers number extra : ℕ)
-      → (batchAnswer b S T marks answers ≡ refused number extra) ↔ Refuses (formChecks b marks ++ batchLate b S T answers) number extra
-  pub list-refuses : (b : List ℕ) (u marks out number extra : ℕ)
-      → (listAnswer b u marks out ≡ refused number extra) ↔ Refuses (listEarly b u marks ++ listLate b u out) number extra
+  pub build-refuses : (form : ℕ) (B : Input) (work out number extra : ℕ)
+      → (buildCall form B work out ≡ refused number extra)
+      ↔ Refuses (check (not (takes ordinary form)) 11 form ∷ (buildEarly (formOf form) B work ++ buildLate (formOf form) B out)) number extra
+  pub open-refuses : (T : FormsTaken) (b : List ℕ) (marks work number extra : ℕ)
+      → (openAnswer T b marks work ≡ refused number extra) ↔ Refuses (formChecks T b marks work ++ (contentsCheck b ∷ [])) number extra
+  pub ask-refuses : (T : FormsTaken) (b : List ℕ) (u v marks work number extra : ℕ)
+      → (askAnswer T b u v marks work ≡ refused number extra) ↔ Refuses (askEarly T b u v marks work ++ (contentsCheck b ∷ [])) number extra
+  pub ask-all-refuses : (T : FormsTaken) (b sources targets : List ℕ) (marks work answers number extra : ℕ)
+      → (batchAnswer T b sources targets marks work answers ≡ refused number extra)
+      ↔ Refuses (formChecks T b marks work ++ batchLate b sources targets answers) number extra
+  pub list-refuses : (T : FormsTaken) (b : List ℕ) (u marks work out number extra : ℕ)
+      → (listAnswer T b u marks work out ≡ refused number extra) ↔ Refuses (listEarly T b u marks work ++ listLate b u out) number extra

@@ -1,7 +1,7 @@
 -- Demand 3: more orders never open more. Of two indexes of one edge list, each order of the first also an order of the second: the same yes or no for any two
 -- vertices, and every group that the second opens the first opens too. On a no the opened groups are exactly those reached from the source, child by child, where
--- every group on the way, both ends included, passes that index's level and outer-interval tests.
-use mathlib.Core.Bool.{false, _||_}
+-- every group on the way, both ends included, passes that index's level and outer-interval tests. The two indexes may be of two forms that a call takes.
+use mathlib.Core.Bool.{true, false, _||_}
 use mathlib.Core.Logic.{_↔_}
 use mathlib.Core.Path.{_≡_}
 use mathlib.Core.List.{List, []}
@@ -10,8 +10,9 @@ use lib.ListN.{length, getD}
 use Rattle.lineage.specs.Lists.{Every}
 use Rattle.lineage.specs.Graph.{Graph}
 use Rattle.lineage.specs.Index.{Index, indexOf}
+use Rattle.lineage.specs.Stored.{headerAt}
 use Rattle.lineage.specs.Question.{rule3, rule4, placeIn}
-use Rattle.lineage.specs.Calls.{answered, Said}
+use Rattle.lineage.specs.Calls.{answered, FormsTaken, takes, wordsIn, Said}
 use Rattle.laws_answers.specs.Answers.{Member}
 use Rattle.laws_answers.specs.Walks.{Through}
 use Rattle.ask.specs.declared.Asked.{Asked}
@@ -33,9 +34,14 @@ pub record Fewer (n : ℕ) (r₁ : Asked) (m₁ : List ℕ) (r₂ : Asked) (m₂
 abbrev pub NeverMore : (Graph → List (List ℕ) → List ℕ → Type 0) → Type 0
 NeverMore IndexOf = (G : Graph) (orders₁ orders₂ : List (List ℕ)) (b₁ b₂ : List ℕ) → IndexOf G orders₁ b₁ → IndexOf G orders₂ b₂
     → Every (λ o. Member o orders₂) orders₁
-    → (u v : ℕ) (marks₁ marks₂ : List ℕ) (r₁ r₂ : Asked) (m₁ m₂ : List ℕ) → u < G .n → v < G .n → G .n ≤ length marks₁ → G .n ≤ length marks₂
-    → ask.Allowed b₁ u v marks₁ r₁ m₁
-    → ask.Allowed b₂ u v marks₂ r₂ m₂
+    → (T : FormsTaken) → takes T (headerAt b₁ 0) ≡ true → takes T (headerAt b₂ 0) ≡ true
+    → (u v : ℕ) (marks₁ marks₂ work₁ work₂ : List ℕ) (r₁ r₂ : Asked) (m₁ m₂ w₁ w₂ : List ℕ) → u < G .n → v < G .n
+    → G .n ≤ length marks₁
+    → G .n ≤ length marks₂
+    → wordsIn b₁ ≤ length work₁
+    → wordsIn b₂ ≤ length work₂
+    → ask.Allowed T b₁ u v marks₁ work₁ r₁ m₁ w₁
+    → ask.Allowed T b₂ u v marks₂ work₂ r₂ m₂ w₂
     → Fewer (G .n) r₁ m₁ r₂ m₂
 
 -- the marks left are those of the groups that are reached from u's, child by child, through groups that pass the tests towards v's, both ends included
@@ -50,6 +56,6 @@ pub record MoreOrders : Type 0 where
   pub built : NeverMore Builds
   -- on a no
   pub on-a-no : {G : Graph} {orders : List (List ℕ)} {b : List ℕ} → Stored G orders b
-      → {u v : ℕ} {marks : List ℕ} {r : Asked} {m : List ℕ} {s : Said} → ask.Allowed b u v marks r m → askedOf r ≡ answered s
+      → {T : FormsTaken} {u v : ℕ} {marks work : List ℕ} {r : Asked} {m w : List ℕ} {s : Said} → ask.Allowed T b u v marks work r m w → askedOf r ≡ answered s
       → s .says ≡ false
       → OpenedThrough (indexOf G orders) u v m

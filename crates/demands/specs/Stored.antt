@@ -1,6 +1,6 @@
 -- Demand 2: groups, levels, labels and walk are GRAIL's as document 01 states them; yes exactly when a path of zero or more edges exists. A group is named by its
 -- smallest vertex. What is stored opens again with the same answers, and bytes open only if some edge list, of any length, and some orders would have produced
--- exactly those bytes.
+-- exactly those bytes. All of it at every form: what a call takes is T, the bytes name their form.
 use mathlib.Core.Bool.{true}
 use mathlib.Core.Logic.{_↔_}
 use mathlib.Core.Path.{_≡_}
@@ -11,9 +11,9 @@ use Rattle.lineage.specs.Lists.{Every}
 use Rattle.lineage.specs.Graph.{Graph, Ends, Reaches}
 use Rattle.lineage.specs.Labels.{Order}
 use Rattle.lineage.specs.Index.{Index, indexOf}
-use Rattle.lineage.specs.Stored.{Form, form1, Counts, countsOf, countsFit, encode, countsIn}
+use Rattle.lineage.specs.Stored.{Form, Counts, countsOf, countsFit, encode, headerAt, countsIn, formOf}
 use Rattle.lineage.specs.Question.{placeIn, answer}
-use Rattle.lineage.specs.Calls.{answered, Input, ordersOf, lengthOf, indexIn, Said, saidOf}
+use Rattle.lineage.specs.Calls.{answered, FormsTaken, host, ordinary, takes, wordsIn, Input, ordersOf, lengthOf, indexIn, Said, saidOf}
 use Rattle.laws_answers.specs.Answers.{Holds, Opened, Marked}
 use Rattle.numbers.proofs.Written.{Bytes}
 use Rattle.build.specs.declared.Built.{Built}
@@ -28,25 +28,23 @@ use Rattle.ask.specs.declared.Asked.{Asked}
 use Rattle.ask.specs.Asked.{askedOf}
 use Rattle.ask.proofs.Theorems as ask
 use Rattle.drobisten.specs.declared.DrobistenAsked.{DrobistenAsked}
-use Rattle.drobisten.proofs.Theorems as host
+use Rattle.drobisten.proofs.Theorems as face
 use Rattle.demands.specs.Grail.{Grail}
 
--- the form that is built, and the form that bytes are of: there is one
-abbrev pub form : Form
-form = form1
-
+-- the form that bytes are of
 abbrev pub formIn : List ℕ → Form
-formIn b = form
+formIn b = formOf (headerAt b 0)
 
--- a finished build from a graph under some orders left these bytes, by what its contract allows
+-- a finished build from a graph under some orders, at some form, left these bytes, by what its contract allows
 pub record Builds (G : Graph) (orders : List (List ℕ)) (b : List ℕ) : Type 0 where
+  pub form : ℕ
   pub input : Input
   pub work : List ℕ
   pub out : List ℕ
   pub r : Built
   pub work' : List ℕ
   pub out' : List ℕ
-  pub allowed : build.Allowed input work out r work' out'
+  pub allowed : build.Allowed form input work out r work' out'
   pub total : ℕ
   pub finished : builtOf r ≡ answered total
   pub from-graph : input .graph ≡ G
@@ -74,44 +72,58 @@ pub record Stored (G : Graph) (orders : List (List ℕ)) (b : List ℕ) : Type 0
   pub holds : indexOf G orders ≡ indexIn b
   -- its groups, levels and labels are GRAIL's
   pub grail : Grail G orders (indexIn b)
-  -- it opens
-  pub opens : (marks : List ℕ) (r : OpenAnswer) (m : List ℕ) → G .n ≤ length marks → opening.Allowed b marks r m
+  -- it opens, by every call that takes its form
+  pub opens : (T : FormsTaken) (marks work : List ℕ) (r : OpenAnswer) (m w : List ℕ) → takes T (headerAt b 0) ≡ true
+      → G .n ≤ length marks
+      → wordsIn b ≤ length work
+      → opening.Allowed T b marks work r m w
       → openedOf r ≡ answered (countsOf (indexOf G orders))
-  -- every question between vertices is answered, and rightly; the host's too
-  pub asks : (u v : ℕ) (marks : List ℕ) (r : Asked) (m : List ℕ) → u < G .n → v < G .n → G .n ≤ length marks
-      → ask.Allowed b u v marks r m
+  -- every question between vertices is answered, and rightly; the host's too, which takes form 1
+  pub asks : (T : FormsTaken) (u v : ℕ) (marks work : List ℕ) (r : Asked) (m w : List ℕ) → takes T (headerAt b 0) ≡ true
+      → u < G .n
+      → v < G .n
+      → G .n ≤ length marks
+      → wordsIn b ≤ length work
+      → ask.Allowed T b u v marks work r m w
       → Right G (indexOf G orders) u v marks r m
-  pub host-asks : (u v : ℕ) (marks : List ℕ) (r : DrobistenAsked) (m : List ℕ) → u < G .n → v < G .n → G .n ≤ length marks
-      → host.Asks b u v marks r m
+  pub host-asks : (u v : ℕ) (marks : List ℕ) (r : DrobistenAsked) (m : List ℕ) → takes host (headerAt b 0) ≡ true
+      → u < G .n
+      → v < G .n
+      → G .n ≤ length marks
+      → face.Asks b u v marks r m
       → (r .refusal ≡ 0) × ((r .yes ≡ 1) ↔ Reaches G u v)
 
 pub record AsGrail : Type 0 where
-  -- edges between vertices and orders within the form's bounds, with room for work and output, are built
-  pub finishes : {B : Input} {work out : List ℕ} {r : Built} {work' out' : List ℕ} → build.Allowed B work out r work' out'
-      → Admitted form B (length work)
+  -- edges between vertices and orders within the bounds of a form that is taken, with room for work and output, are built
+  pub finishes : {form : ℕ} {B : Input} {work out : List ℕ} {r : Built} {work' out' : List ℕ} → build.Allowed form B work out r work' out'
+      → takes ordinary form ≡ true
+      → Admitted (formOf form) B (length work)
       → Every (Order (B .graph .n)) (ordersOf B)
-      → lengthOf form (indexOf (B .graph) (ordersOf B)) ≤ length out
-      → builtOf r ≡ answered (lengthOf form (indexOf (B .graph) (ordersOf B)))
+      → lengthOf (formOf form) (indexOf (B .graph) (ordersOf B)) ≤ length out
+      → builtOf r ≡ answered (lengthOf (formOf form) (indexOf (B .graph) (ordersOf B)))
   -- what a finished build leaves is a stored index of its edge list under its orders
   pub built : {G : Graph} {orders : List (List ℕ)} {b : List ℕ} → Builds G orders b → Stored G orders b
-  -- bytes open exactly when some edge list, of any length, and some orders yield them within the form's bounds
-  pub opened : {b marks : List ℕ} {r : OpenAnswer} {m : List ℕ} → Bytes b → countsIn b .n ≤ length marks → opening.Allowed b marks r m
+  -- bytes open exactly when their form is taken and some edge list, of any length, and some orders yield them within the form's bounds
+  pub opened : {T : FormsTaken} {b marks work : List ℕ} {r : OpenAnswer} {m w : List ℕ} → Bytes b → countsIn b .n ≤ length marks → wordsIn b ≤ length work
+      → opening.Allowed T b marks work r m w
       → ((a : Counts) × (openedOf r ≡ answered a))
-      ↔ ((Y : Yields (formIn b) b) × (countsFit (formIn b) (countsOf (indexOf (Y .graph) (Y .orders))) ≡ true))
+      ↔ ((takes T (headerAt b 0) ≡ true) × ((Y : Yields (formIn b) b) × (countsFit (formIn b) (countsOf (indexOf (Y .graph) (Y .orders))) ≡ true)))
   -- bytes that open are a stored index of whatever edge list and d orders yield them (without a vertex 2^32 orders more would yield them too)
-  pub yielded : {b marks : List ℕ} {r : OpenAnswer} {m : List ℕ} {a : Counts} → opening.Allowed b marks r m → openedOf r ≡ answered a
+  pub yielded : {T : FormsTaken} {b marks work : List ℕ} {r : OpenAnswer} {m w : List ℕ} {a : Counts} → opening.Allowed T b marks work r m w → openedOf r ≡ answered a
       → (Y : Yields (formIn b) b)
       → length (Y .orders) ≡ a .d
       → Stored (Y .graph) (Y .orders) b
   -- they answer every question between their vertices, with the marks that the definition gives
-  pub answers : {b marks : List ℕ} {r : OpenAnswer} {m : List ℕ} {a : Counts} → opening.Allowed b marks r m → openedOf r ≡ answered a
-      → {u v : ℕ} {marks' : List ℕ} {r' : Asked} {m' : List ℕ} → u < a .n → v < a .n → a .n ≤ length marks'
-      → ask.Allowed b u v marks' r' m'
+  pub answers : {T : FormsTaken} {b marks work : List ℕ} {r : OpenAnswer} {m w : List ℕ} {a : Counts} → opening.Allowed T b marks work r m w → openedOf r ≡ answered a
+      → {u v : ℕ} {marks' work' : List ℕ} {r' : Asked} {m' w' : List ℕ} → u < a .n → v < a .n → a .n ≤ length marks'
+      → wordsIn b ≤ length work'
+      → ask.Allowed T b u v marks' work' r' m' w'
       → (askedOf r' ≡ answered (saidOf (answer (indexIn b) u v))) × (m' ≡ answer (indexIn b) u v .marks ++ drop (a .n) marks')
   -- an answer is yes exactly when a path of zero or more edges exists, in whatever edge list yields the bytes under whatever orders; the host's too
-  pub path : {b : List ℕ} {u v : ℕ} {marks : List ℕ} {r : Asked} {m : List ℕ} {s : Said} → ask.Allowed b u v marks r m → askedOf r ≡ answered s
+  pub path : {T : FormsTaken} {b : List ℕ} {u v : ℕ} {marks work : List ℕ} {r : Asked} {m w : List ℕ} {s : Said} → ask.Allowed T b u v marks work r m w
+      → askedOf r ≡ answered s
       → (Y : Yields (formIn b) b)
       → (s .says ≡ true) ↔ Reaches (Y .graph) u v
-  pub host-path : {b : List ℕ} {u v : ℕ} {marks : List ℕ} {r : DrobistenAsked} {m : List ℕ} → host.Asks b u v marks r m → r .refusal ≡ 0
+  pub host-path : {b : List ℕ} {u v : ℕ} {marks : List ℕ} {r : DrobistenAsked} {m : List ℕ} → face.Asks b u v marks r m → r .refusal ≡ 0
       → (Y : Yields (formIn b) b)
       → (r .yes ≡ 1) ↔ Reaches (Y .graph) u v

@@ -14,7 +14,7 @@ use Rattle.lineage.specs.Graph.{Reaches}
 use Rattle.lineage.specs.Index.{Made}
 use Rattle.lineage.specs.Stored.{Counts, countsIn}
 use Rattle.lineage.specs.Question.{placeIn, answer}
-use Rattle.lineage.specs.Calls.{Outcome, refused, answered, formChecks, contentsCheck, openAnswer, openMarks, indexIn, askEarly, Said, saidOf, askAnswer, askMarks}
+use Rattle.lineage.specs.Calls.{Outcome, refused, answered, host, formChecks, contentsCheck, openAnswer, openMarks, indexIn, askEarly, Said, saidOf, askAnswer, askMarks}
 use Rattle.laws.specs.Checks.{Told}
 use Rattle.laws.proofs.Checks.{outcome-told}
 use Rattle.laws_answers.specs.Answers.{Deciding}
@@ -48,43 +48,43 @@ asked-back (refused number extra) some = rw (ne-eqb number 0 (λ e. omega arith)
 asked-back (answered s) some = yes-back (s .says) (s .reason) (s .opened) (s .deciding)
 
 -- so are the outcomes that the calls give
-pub opened-read : (b : List ℕ) (m : ℕ) → openedBy (hostOpened (openAnswer b m)) ≡ openAnswer b m
+pub opened-read : (b : List ℕ) (m : ℕ) → openedBy (hostOpened (openAnswer host b m 0)) ≡ openAnswer host b m 0
 unfolding openAnswer
 opened-read b m =
-    opened-back (openAnswer b m)
-    (outcome-told (countsIn b) Some Any (formChecks b m ++ (contentsCheck b ∷ [])) (omega arith, (omega arith, (omega arith, (omega arith, (omega arith, tt))))) tt)
+    opened-back (openAnswer host b m 0)
+    (outcome-told (countsIn b) Some Any (formChecks host b m 0 ++ (contentsCheck b ∷ [])) (omega arith, (omega arith, (omega arith, (omega arith, (omega arith, (omega arith, tt)))))) tt)
 
-pub asked-read : (b : List ℕ) (u v m : ℕ) → askedBy (hostAsked (askAnswer b u v m)) ≡ askAnswer b u v m
+pub asked-read : (b : List ℕ) (u v m : ℕ) → askedBy (hostAsked (askAnswer host b u v m 0)) ≡ askAnswer host b u v m 0
 unfolding askAnswer
 asked-read b u v m =
-    asked-back (askAnswer b u v m)
-    (outcome-told (saidOf (answer (indexIn b) u v)) Some Any (askEarly b u v m ++ (contentsCheck b ∷ []))
-    (omega arith, (omega arith, (omega arith, (omega arith, (omega arith, (omega arith, (omega arith, tt))))))) tt)
+    asked-back (askAnswer host b u v m 0)
+    (outcome-told (saidOf (answer (indexIn b) u v)) Some Any (askEarly host b u v m 0 ++ (contentsCheck b ∷ []))
+    (omega arith, (omega arith, (omega arith, (omega arith, (omega arith, (omega arith, (omega arith, (omega arith, tt)))))))) tt)
 
 asked-all-back : (o : Outcome ℕ) → Told Some Any o → askedAllBy (hostAskedAll o) ≡ o
 asked-all-back (refused number extra) some = rw (ne-eqb number 0 (λ e. omega arith)) refl
 asked-all-back (answered count) some = refl
 
-pub asked-all-read : (b S T : List ℕ) (m a : ℕ) → askedAllBy (hostAskedAll (batchAnswer b S T m a)) ≡ batchAnswer b S T m a
+pub asked-all-read : (b S T : List ℕ) (m a : ℕ) → askedAllBy (hostAskedAll (batchAnswer host b S T m 0 a)) ≡ batchAnswer host b S T m 0 a
 unfolding batchAnswer
 asked-all-read b S T m a =
-    asked-all-back (batchAnswer b S T m a)
-    (outcome-told (length S) Some Any (formChecks b m ++ batchLate b S T a)
-    (omega arith, (omega arith, (omega arith, (omega arith, (omega arith, (omega arith, (omega arith, tt))))))) tt)
+    asked-all-back (batchAnswer host b S T m 0 a)
+    (outcome-told (length S) Some Any (formChecks host b m 0 ++ batchLate b S T a)
+    (omega arith, (omega arith, (omega arith, (omega arith, (omega arith, (omega arith, (omega arith, (omega arith, tt)))))))) tt)
 
 -- what `drobisten_open`, `drobisten_ask` and `drobisten_ask_all` may return and leave, by their contracts
 pub record Opens (b marks : List ℕ) (r : DrobistenOpened) (m : List ℕ) : Type 0 where
-  pub returns : r ≡ hostOpened (openAnswer b (length marks))
-  pub leaves : m ≡ openMarks b marks
+  pub returns : r ≡ hostOpened (openAnswer host b (length marks) 0)
+  pub leaves : m ≡ openMarks host b marks 0
 
 pub record Asks (b : List ℕ) (u v : ℕ) (marks : List ℕ) (r : DrobistenAsked) (m : List ℕ) : Type 0 where
-  pub returns : r ≡ hostAsked (askAnswer b u v (length marks))
-  pub leaves : m ≡ askMarks b u v marks
+  pub returns : r ≡ hostAsked (askAnswer host b u v (length marks) 0)
+  pub leaves : m ≡ askMarks host b u v marks 0
 
 pub record AsksAll (b S T marks answers : List ℕ) (r : DrobistenAskedAll) (m a : List ℕ) : Type 0 where
-  pub returns : r ≡ hostAskedAll (batchAnswer b S T (length marks) (length answers))
-  pub leaves : m ≡ batchMarks b S T (length answers) marks
-  pub writes : a ≡ batchAnswers b S T (length marks) answers
+  pub returns : r ≡ hostAskedAll (batchAnswer host b S T (length marks) 0 (length answers))
+  pub leaves : m ≡ batchMarks host b S T marks 0 (length answers)
+  pub writes : a ≡ batchAnswers host b S T (length marks) 0 answers
 
 -- two results are equal
 pub opened-once : {b marks : List ℕ} {r r' : DrobistenOpened} {m m' : List ℕ} → Opens b marks r m → Opens b marks r' m' → (r ≡ r') × (m ≡ m')
@@ -104,14 +104,14 @@ module _ {b : List ℕ} {u v : ℕ} {marks : List ℕ} {r : DrobistenAsked} {m :
   abbrev said : Said
   said = record { says = eqb (r .yes) 1; reason = r .reason; opened = r .opened; deciding = r .labelling }
 
-  answer-read : askAnswer b u v (length marks) ≡ answered said
+  answer-read : askAnswer host b u v (length marks) 0 ≡ answered said
   answer-read =
       sym (asked-read b u v (length marks)) ∙ ap askedBy (sym (A .returns)) ∙ ap (λ (x : ℕ). cond (eqb x 0) (answered said) (refused x (r .extra))) none
 
   -- yes is 1 exactly where a path leads from source to target, in whatever graph yields the bytes
   pub host-right : (M : Made (indexIn b)) → (r .yes ≡ 1) ↔ Reaches (M .graph) u v
-  host-right M = Iff·trans (eq-eqb (r .yes) 1, eqb-true (r .yes) 1) (asked-right b u v marks said answer-read M)
+  host-right M = Iff·trans (eq-eqb (r .yes) 1, eqb-true (r .yes) 1) (asked-right host b u v marks 0 said answer-read M)
 
   -- the labelling is the first whose interval settled the answer
   pub host-deciding : Deciding (indexIn b) (placeIn (indexIn b) u) (placeIn (indexIn b) v) (r .reason) (r .labelling)
-  host-deciding = asked-deciding b u v marks said answer-read
+  host-deciding = asked-deciding host b u v marks 0 said answer-read

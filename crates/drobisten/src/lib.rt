@@ -1,7 +1,7 @@
-// The C face: open, ask and ask all pairs of two lists, for a host in C, on plain numbers and byte buffers. include/drobisten.h is its manual.
+// The C face: open, ask and ask all pairs of two lists, for a host in C, on plain numbers and byte buffers, of form 1 alone. include/drobisten.h is its manual.
 ghost use mathlib.Core.Path.{_≡_};
 ghost use lib.ListN.{length};
-ghost use Rattle.lineage.specs.Calls.{openAnswer, openMarks, askAnswer, askMarks};
+ghost use Rattle.lineage.specs.Calls.{host, openAnswer, openMarks, askAnswer, askMarks};
 ghost use Rattle.ask_all.specs.Batch.{batchAnswer, batchAnswers, batchMarks};
 ghost use Rattle.drobisten.specs.Host.{hostOpened, hostAsked, hostAskedAll};
 use ask::Asked;
@@ -30,13 +30,13 @@ pub struct DrobistenAsked {
     pub labelling: u32,
 }
 
-// `open` for the host.
+// `open_form1` for the host.
 #[no_mangle]
 pub extern "C" fn drobisten_open(index: &[u8], marks: &mut [u8]) -> DrobistenOpened
-    ensures { λ r. ⌜ r ≡ hostOpened (openAnswer (now (index .entry)) (length (now (marks .entry)))) ⌝ }
-    ensures { λ _. ⌜ now (marks .exit) ≡ openMarks (now (index .entry)) (now (marks .entry)) ⌝ }
+    ensures { λ r. ⌜ r ≡ hostOpened (openAnswer host (now (index .entry)) (length (now (marks .entry))) 0) ⌝ }
+    ensures { λ _. ⌜ now (marks .exit) ≡ openMarks host (now (index .entry)) (now (marks .entry)) 0 ⌝ }
 {
-    match open::open(index, marks) {
+    match open::open_form1(index, marks) {
         Opened::Index { n, k, c, d } => DrobistenOpened {
             refusal: 0,
             extra: 0,
@@ -56,7 +56,7 @@ pub extern "C" fn drobisten_open(index: &[u8], marks: &mut [u8]) -> DrobistenOpe
     }
 }
 
-// `ask` for the host.
+// `ask_form1` for the host.
 #[no_mangle]
 pub extern "C" fn drobisten_ask(
     index: &[u8],
@@ -64,10 +64,10 @@ pub extern "C" fn drobisten_ask(
     source: u32,
     target: u32,
 ) -> DrobistenAsked
-    ensures { λ r. ⌜ r ≡ hostAsked (askAnswer (now (index .entry)) source target (length (now (marks .entry)))) ⌝ }
-    ensures { λ _. ⌜ now (marks .exit) ≡ askMarks (now (index .entry)) source target (now (marks .entry)) ⌝ }
+    ensures { λ r. ⌜ r ≡ hostAsked (askAnswer host (now (index .entry)) source target (length (now (marks .entry))) 0) ⌝ }
+    ensures { λ _. ⌜ now (marks .exit) ≡ askMarks host (now (index .entry)) source target (now (marks .entry)) 0 ⌝ }
 {
-    match ask::ask(index, source, target, marks) {
+    match ask::ask_form1(index, source, target, marks) {
         Asked::Answer {
             says,
             reason,
@@ -100,7 +100,7 @@ pub struct DrobistenAskedAll {
     pub count: usize,
 }
 
-// `ask_all` for the host: six numbers a pair, in the order of `DrobistenAsked`.
+// `ask_all_form1` for the host: six numbers a pair, in the order of `DrobistenAsked`.
 #[no_mangle]
 pub extern "C" fn drobisten_ask_all(
     index: &[u8],
@@ -109,11 +109,11 @@ pub extern "C" fn drobisten_ask_all(
     targets: &[u32],
     answers: &mut [u32],
 ) -> DrobistenAskedAll
-    ensures { λ r. ⌜ r ≡ hostAskedAll (batchAnswer (now (index .entry)) (now (sources .entry)) (now (targets .entry)) (length (now (marks .entry))) (length (now (answers .entry)))) ⌝ }
-    ensures { λ _. ⌜ now (marks .exit) ≡ batchMarks (now (index .entry)) (now (sources .entry)) (now (targets .entry)) (length (now (answers .entry))) (now (marks .entry)) ⌝ }
-    ensures { λ _. ⌜ now (answers .exit) ≡ batchAnswers (now (index .entry)) (now (sources .entry)) (now (targets .entry)) (length (now (marks .entry))) (now (answers .entry)) ⌝ }
+    ensures { λ r. ⌜ r ≡ hostAskedAll (batchAnswer host (now (index .entry)) (now (sources .entry)) (now (targets .entry)) (length (now (marks .entry))) 0 (length (now (answers .entry)))) ⌝ }
+    ensures { λ _. ⌜ now (marks .exit) ≡ batchMarks host (now (index .entry)) (now (sources .entry)) (now (targets .entry)) (now (marks .entry)) 0 (length (now (answers .entry))) ⌝ }
+    ensures { λ _. ⌜ now (answers .exit) ≡ batchAnswers host (now (index .entry)) (now (sources .entry)) (now (targets .entry)) (length (now (marks .entry))) 0 (now (answers .entry)) ⌝ }
 {
-    match ask_all::ask_all(index, sources, targets, marks, answers) {
+    match ask_all::ask_all_form1(index, sources, targets, marks, answers) {
         Batched::Count(count) => DrobistenAskedAll {
             refusal: 0,
             extra: 0,

@@ -1,4 +1,4 @@
--- Little-endian numbers of w bytes, read and written (document 01, "Stored form 1"). The width w is a number: 4 in the header, 2 in form 1's sections.
+-- Little-endian numbers of w bytes, read and written (document 01, "Stored form 1"). The width w is a number: 4 in the header, in the sections the form's.
 use mathlib.Core.Path.{_≡_}
 use mathlib.Core.List.{List, [], _∷_, map}
 use Prim.Native.Nat.{ℕ, zero, suc, _+_, _*_, _/_, _%_, _≤_}

@@ -1,7 +1,7 @@
 -- Lent memory whose first elements are set to 0, one element more at a time.
 use mathlib.Core.Path.{_≡_, sym, ap, ap₂, _∙_}
 use mathlib.Core.List.{List, _++_}
-use Prim.Native.Nat.{ℕ, _+_, _-_, _≤_, _<_}
+use Prim.Native.Nat.{ℕ, _+_, _≤_, _<_}
 use native.Mathlib.Omega.{arith}
 use lib.ListN.{length, getD, take, drop, take-append-drop, set, replicate, length-append, length-drop, length-replicate, getD-replicate, List·getD-append}
 use lib.Seq.{take-at, drop-at, take-all}
@@ -45,11 +45,19 @@ module _ (n : ℕ) (s : List ℕ) where
   pub cleared-again : {t : List ℕ} → t ≡ cleared n s → t ≡ cleared n t
   cleared-again e = e ∙ sym cleared-twice ∙ ap (cleared n) (sym e)
 
--- where the first n are 0 and no other is touched
-pub cleared-first : (n : ℕ) (s t : List ℕ) → n ≤ length s → Kept s t 0 n → part t 0 n ≡ replicate n 0 → t ≡ cleared n s
-unfolding part cleared
-cleared-first n s t h k zeros =
-    let m : ℕ = length s - n in
-    let rest : drop n t ≡ drop n s =
-    sym (take-all m (drop n t) (omega (arith, length-drop n t, k .long))) ∙ k .above n m (omega arith) ∙ take-all m (drop n s) (omega (arith, length-drop n s)) in
-    sym (take-append-drop n t) ∙ ap₂ _++_ zeros rest
+-- no word past the first n is touched: those past them are what they were, and with the first n at 0 all are
+module _ {s t : List ℕ} (n : ℕ) (K : Kept s t 0 n) where
+  past-kept : drop n t ≡ drop n s
+  unfolding part
+  past-kept =
+      sym (take-all (length s) (drop n t) (omega (arith, length-drop n t, K .long)))
+      ∙ K .above n (length s) (omega arith)
+      ∙ take-all (length s) (drop n s) (omega (arith, length-drop n s))
+
+  pub cleared-kept : cleared n t ≡ cleared n s
+  unfolding cleared
+  cleared-kept = ap (replicate n 0 ++_) past-kept
+
+  pub cleared-first : part t 0 n ≡ replicate n 0 → t ≡ cleared n s
+  unfolding part cleared
+  cleared-first zeros = sym (take-append-drop n t) ∙ ap₂ _++_ zeros past-kept

@@ -1,17 +1,17 @@
 -- What some edge list and orders yield within a form's bounds fits the form, and its bytes open.
-use mathlib.Core.Bool.{Bool, true, false, _&&_, cond}
+use mathlib.Core.Bool.{true, _&&_}
 use mathlib.Core.Path.{_≡_, refl, sym, ap, ap₂, subst⁻¹, _∙_}
 use mathlib.Core.List.{List, [], _∷_}
 use Prim.Native.Nat.{ℕ, _^_, _≤_, _<_}
 use native.Mathlib.Omega.{arith}
-use lib.Dec.{eqb, leb}
+use lib.Dec.{leb}
 use lib.ListN.{length, length-map}
 use borrow.Author.Tests.{leb-true, le-leb}
 use Rattle.lineage.specs.Lists.{Every}
 use Rattle.lineage.specs.Graph.{Graph, Ends, namesOf, condense, levelsOf}
 use Rattle.lineage.specs.Labels.{Order, Labelling, labelling}
 use Rattle.lineage.specs.Index.{Index, indexBy, indexOf}
-use Rattle.lineage.specs.Stored.{Form, form1, form2, forms, formFrom, Counts, countsOf, countsFit, encode, headerAt, countsIn, formOf, section, mostLabellings}
+use Rattle.lineage.specs.Stored.{Form, form1, form2, forms, Counts, countsOf, countsFit, encode, headerAt, countsIn, formOf, section, mostLabellings}
 use Rattle.lineage.specs.Sound.{startsPass, sound, contentsSound}
 use Rattle.lineage.specs.Calls.{answered, FormsTaken, takes, wordsFor, wordsIn, openAnswer}
 use Rattle.laws.specs.Sound.{SoundLabelling, Sound}
@@ -19,6 +19,7 @@ use Rattle.laws.proofs.Tests.{and-both, both}
 use Rattle.laws.proofs.Names.{names-long}
 use Rattle.laws.proofs.Sound.{made-sound}
 use Rattle.laws.proofs.Starts.{starts-pass}
+use Rattle.stored_header.proofs.Forms.{form-each}
 use Rattle.stored.specs.Fits.{Full, Fits}
 use Rattle.stored.proofs.Encoded.{header-read, counts-read, decode-encode, encode-passes}
 use Rattle.open.proofs.Checks.{passed-opens}
@@ -42,17 +43,9 @@ form2-wide = record { known = refl; vertices = omega arith; entries = omega arit
 forms-wide : Every Wide forms
 forms-wide = (form1-wide, (form2-wide, tt))
 
-from-wide : (Fs : List Form) (number : ℕ) → Every Wide Fs → Wide (formFrom Fs number)
-from-wide [] number h = form1-wide
-from-wide (F ∷ Fs) number h = at (eqb (F .number) number) (from-wide Fs number (h .1))
-  where
-    at : (t : Bool) → Wide (formFrom Fs number) → Wide (cond t F (formFrom Fs number))
-    at true rest = h .0
-    at false rest = rest
-
 -- every number stands for such a form
 pub form-wide : (number : ℕ) → Wide (formOf number)
-form-wide number = from-wide forms number forms-wide
+form-wide = form-each Wide forms-wide
 
 -- accepted input keeps the bounds: there are no more groups than vertices, and no more child entries than edges
 pub bounds-kept : {F : Form} → Wide F → (G : Graph) → Ends G → (orders : List (List ℕ)) → Every (Order (G .n)) orders

@@ -3,7 +3,7 @@
 -- bytes are read again as the index, which passes the tests.
 use mathlib.Core.Bool.{true}
 use mathlib.Core.Logic.{_↔_}
-use mathlib.Core.Path.{_≡_, refl, sym, ap, ap₂, subst, _∙_}
+use mathlib.Core.Path.{_≡_, refl, sym, ap, subst, _∙_}
 use mathlib.Core.List.{List}
 use Prim.Native.Nat.{ℕ, _^_, _≤_, _<_}
 use native.Mathlib.Omega.{arith}
@@ -22,10 +22,8 @@ use Rattle.laws.proofs.Tests.{both}
 use Rattle.laws.proofs.Starts.{pass-laid, rows-joined}
 use Rattle.numbers.proofs.Numbers.{numbers-long}
 use Rattle.numbers.proofs.Written.{Bytes}
-use Rattle.stored.specs.Fits.{Fits}
 use Rattle.stored_header.proofs.Forms.{form-within}
 use Rattle.stored_header.proofs.Laid.{header-laid}
-use Rattle.stored.proofs.Encoded.{counts-read}
 use Rattle.stored.proofs.Decoded.{encode-decode}
 use Rattle.open.specs.Yields.{Yields, HeaderRight}
 use Rattle.open.proofs.Checks.{opened-right, opened-contents, right-passes}

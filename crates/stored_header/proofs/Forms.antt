@@ -44,16 +44,21 @@ form2-within =
 forms-within : Every Within forms
 forms-within = (form1-within, (form2-within, tt))
 
-from-within : (Fs : List Form) (number : ℕ) → Every Within Fs → Within (formFrom Fs number)
-from-within [] number h = form1-within
-from-within (F ∷ Fs) number h = at (eqb (F .number) number) (from-within Fs number (h .1))
-  where
-    at : (t : Bool) → Within (formFrom Fs number) → Within (cond t F (formFrom Fs number))
-    at true rest = h .0
-    at false rest = rest
+-- what holds of every form of the table, and of the first, holds of the form that a number stands for
+module _ (P : Form → Type 0) (first : P form1) where
+  from-each : (Fs : List Form) (number : ℕ) → Every P Fs → P (formFrom Fs number)
+  from-each [] number h = first
+  from-each (F ∷ Fs) number h = at (eqb (F .number) number) (from-each Fs number (h .1))
+    where
+      at : (t : Bool) → P (formFrom Fs number) → P (cond t F (formFrom Fs number))
+      at true rest = h .0
+      at false rest = rest
+
+pub form-each : (P : Form → Type 0) → Every P forms → (number : ℕ) → P (formOf number)
+form-each P h number = from-each P (h .0) forms number h
 
 pub form-within : (number : ℕ) → Within (formOf number)
-form-within number = from-within forms number forms-within
+form-within = form-each Within forms-within
 
 -- the rows that code has: that of form 2, and that of form 1, which stands for every number that no form has
 pub row-second : (number : ℕ) → number ≡ 2 → record { known = true; width = 4; vertices = 200000; edges = 1000000; entries = 1000000 } ≡ rowOf number

@@ -6,7 +6,7 @@ use Prim.Native.Char.{code}
 use lib.Dec.{ltb}
 use lib.ListN.{length}
 use Rattle.lineage.specs.Stored.{form1, mostLabellings, encode}
-use Rattle.lineage.specs.Calls.{Input, Outcome, refused, answered, Said, built, buildAnswer, askAnswer}
+use Rattle.lineage.specs.Calls.{Input, Outcome, refused, answered, Said, host, built, buildAnswer, askAnswer}
 use Rattle.text_lines.specs.Lines.{bytes}
 use Rattle.text.specs.Text.{Text, Reading, says, badLine, reading, mostBytes, mostVertices, mostEdges}
 
@@ -53,12 +53,16 @@ question u v = bytes "q " ++ (twoNumbers u v ++ bytes " ")
 abbrev pub questionLine : ℕ → ℕ → Outcome Said → List ℕ
 questionLine u v o = question u v ++ (told o ++ bytes "\n")
 
--- one line per question, asked of the stored bytes
+-- a question asked of the stored bytes: the program stays with form 1, and lends no words
+abbrev pub answerTo : List ℕ → (source target : ℕ) → Outcome Said
+answerTo index u v = askAnswer host index u v mostVertices 0
+
+-- one line per question
 unfoldable pub answersTo : List ℕ → List ℕ → List ℕ
 unfolding askAnswer
 answersTo index [] = []
 answersTo index (u ∷ []) = []
-answersTo index (u ∷ (v ∷ more)) = questionLine u v (askAnswer index u v mostVertices) ++ answersTo index more
+answersTo index (u ∷ (v ∷ more)) = questionLine u v (answerTo index u v) ++ answersTo index more
 
 -- the work memory that the program lends a build: 16n + 4 x edges + 64 words at its bounds
 abbrev pub workLent : ℕ

@@ -7,9 +7,8 @@ use native.Mathlib.Numerals.{add-one}
 use native.Mathlib.Omega.{arith}
 use lib.ListN.{length, getD, drop, length-drop}
 use lib.Seq.{drop-cons}
-use Rattle.lineage.specs.Calls.{Outcome, Said, askAnswer}
-use Rattle.text.specs.Text.{mostVertices}
-use Rattle.text.specs.Output.{questionLine, answersTo}
+use Rattle.lineage.specs.Calls.{Outcome, Said}
+use Rattle.text.specs.Output.{questionLine, answerTo, answersTo}
 use Rattle.text_printing.specs.Printer.{Put}
 use Rattle.text_printing.proofs.Putting.{line-short, put-put, put-same, word-begins}
 
@@ -28,7 +27,7 @@ answering-begins index asked entry = record { lines = []; put = word-begins entr
 -- the next question's line and those behind it
 next-line : (index asked : List ℕ) (i : ℕ) → i + 1 < length asked
     → answersTo index (drop i asked)
-    ≡ questionLine (getD asked i 0) (getD asked (i + 1) 0) (askAnswer index (getD asked i 0) (getD asked (i + 1) 0) mostVertices) ++ answersTo index (drop (i + 2) asked)
+    ≡ questionLine (getD asked i 0) (getD asked (i + 1) 0) (answerTo index (getD asked i 0) (getD asked (i + 1) 0)) ++ answersTo index (drop (i + 2) asked)
 unfolding answersTo
 next-line index asked i h =
     let two : suc (i + 1) ≡ i + 2 = omega arith in
@@ -48,13 +47,13 @@ module _ {index asked entry : List ℕ} {i at : ℕ} {out : List ℕ} (A : Answe
   line-room h = omega (arith, A .short, A .long)
 
   pub answering-turns : {next : ℕ} {exit : List ℕ} → i + 1 < length asked
-      → Put out at (questionLine (getD asked i 0) (getD asked (i + 1) 0) (askAnswer index (getD asked i 0) (getD asked (i + 1) 0) mostVertices)) next exit
+      → Put out at (questionLine (getD asked i 0) (getD asked (i + 1) 0) (answerTo index (getD asked i 0) (getD asked (i + 1) 0))) next exit
       → length exit ≡ length out
       → Answering index asked entry (i + 2) next exit
   answering-turns {next} {exit} h p long =
       let u : ℕ = getD asked i 0 in
       let v : ℕ = getD asked (i + 1) 0 in
-      let o : Outcome Said = askAnswer index u v mostVertices in
+      let o : Outcome Said = answerTo index u v in
       record {
         lines = A .lines ++ questionLine u v o;
         put = put-put (A .put) p (omega arith);

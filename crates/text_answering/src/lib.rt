@@ -1,9 +1,7 @@
 // The questions of a text, asked one after the other: one line each.
 ghost use Prim.Native.Nat.{_+_, _*_, _≤_};
 ghost use lib.ListN.{length};
-ghost use Rattle.lineage.specs.Calls.{askAnswer};
-ghost use Rattle.text.specs.Text.{mostVertices};
-ghost use Rattle.text.specs.Output.{told, questionLine, answersTo};
+ghost use Rattle.text.specs.Output.{told, questionLine, answerTo, answersTo};
 ghost use Rattle.text_printing.specs.Printer.{Put};
 use ask::Asked;
 use text::MOST_VERTICES;
@@ -11,10 +9,10 @@ use text::MOST_VERTICES;
 // Asks a question, and puts what it is told: the answer, or the refusal.
 fn put_told(out: &mut [u8], at: usize, index: &[u8], source: u32, target: u32) -> usize
     requires { ⌜ at + 36 ≤ length (now out) ⌝ }
-    ensures { λ r. ⌜ Put (now (out .entry)) at (told (askAnswer (now (index .entry)) source target mostVertices)) r (now (out .exit)) ⌝ }
+    ensures { λ r. ⌜ Put (now (out .entry)) at (told (answerTo (now (index .entry)) source target)) r (now (out .exit)) ⌝ }
 {
     let mut marks = [0u8; MOST_VERTICES];
-    match ask::ask(index, source, target, &mut marks) {
+    match ask::ask_form1(index, source, target, &mut marks) {
         Asked::Answer {
             says,
             reason,
@@ -28,7 +26,7 @@ fn put_told(out: &mut [u8], at: usize, index: &[u8], source: u32, target: u32) -
 // The line of one question.
 fn put_answer(out: &mut [u8], at: usize, index: &[u8], source: u32, target: u32) -> usize
     requires { ⌜ at + 61 ≤ length (now out) ⌝ }
-    ensures { λ r. ⌜ Put (now (out .entry)) at (questionLine source target (askAnswer (now (index .entry)) source target mostVertices)) r (now (out .exit)) ⌝ }
+    ensures { λ r. ⌜ Put (now (out .entry)) at (questionLine source target (answerTo (now (index .entry)) source target)) r (now (out .exit)) ⌝ }
 {
     let a = text_printing::put_question(out, at, source, target);
     let b = put_told(out, a, index, source, target);

@@ -9,11 +9,11 @@ use lib.Dec.{ltb}
 use lib.ListN.{length, length-append}
 use borrow.Author.Tests.{ltb-false}
 use Rattle.lineage.specs.Stored.{form1, encode}
-use Rattle.lineage.specs.Calls.{Outcome, refused, answered, Said, built, buildAnswer, askAnswer}
+use Rattle.lineage.specs.Calls.{Outcome, refused, answered, Said, built, buildAnswer}
 use Rattle.text_lines.specs.Lines.{bytes}
-use Rattle.text.specs.Text.{mostBytes, mostVertices, Text, Reading, says, badLine, reading}
+use Rattle.text.specs.Text.{mostBytes, Text, Reading, says, badLine, reading}
 use Rattle.text.specs.Blocks.{mostQuestions}
-use Rattle.text.specs.Output.{twoNumbers, refusal, questionLine, answersTo, workLent, indexLent, inputOf, afterBuild, afterCounting, output}
+use Rattle.text.specs.Output.{twoNumbers, refusal, questionLine, answerTo, answersTo, workLent, indexLent, inputOf, afterBuild, afterCounting, output}
 use Rattle.text_printing.specs.Printer.{mostOutput}
 use Rattle.text_printing.proofs.Putting.{two-short, line-short}
 use Rattle.text.proofs.Bounded.{says-bounded}
@@ -24,7 +24,7 @@ unfolding answersTo
 answers-short index [] = omega arith
 answers-short index (u ∷ []) = omega arith
 answers-short index (u ∷ (v ∷ more)) =
-    let o : Outcome Said = askAnswer index u v mostVertices in
+    let o : Outcome Said = answerTo index u v in
     omega (arith, length-append (questionLine u v o) (answersTo index more), line-short u v o, answers-short index more)
 
 refused-short : (number extra : ℕ) → length (refusal number extra ++ bytes "\n") ≤ mostOutput

@@ -7,7 +7,7 @@ use mathlib.Core.Path.{_≡_, refl, sym, ap, _∙_}
 use Prim.Native.Nat.{ℕ, _*_, _≤_, _<_}
 use native.Mathlib.Omega.{arith}
 use lib.Dec.{eqb, leb}
-use lib.ListN.{length, take, replicate, length-map}
+use lib.ListN.{length, replicate, length-map}
 use borrow.Author.Tests.{le-ltb, eq-eqb, leb-false}
 use Rattle.lineage.specs.Lists.{upto, any, firstOf, Every}
 use Rattle.lineage.specs.Graph.{Graph, Reaches, namesOf, condense}
@@ -15,7 +15,7 @@ use Rattle.lineage.specs.Labels.{Order, labelling}
 use Rattle.lineage.specs.Index.{indexBy, indexOf}
 use Rattle.lineage.specs.Question.{answer}
 use Rattle.lineage.specs.Stored.{form1, mostLabellings, Counts, countsOf, encode, countsIn}
-use Rattle.lineage.specs.Calls.{Check, check, Outcome, answered, refuse, outcome, Input, orderAt, ordersOf, badEdge, badOrder, workNeeded, built, lengthOf, buildAnswer, buildOutput, buildWork, indexIn, formChecks, contentsCheck, openAnswer, Said, saidOf, askAnswer}
+use Rattle.lineage.specs.Calls.{Check, check, Outcome, answered, refuse, outcome, host, Input, orderAt, ordersOf, badEdge, badOrder, workNeeded, built, lengthOf, buildAnswer, buildOutput, buildWork, indexIn, formChecks, contentsCheck, openAnswer, Said, saidOf, askAnswer}
 use Rattle.laws.proofs.Names.{names-long}
 use Rattle.laws.proofs.Sound.{made-sound}
 use Rattle.laws.proofs.Lists.{table-long}
@@ -24,12 +24,12 @@ use Rattle.laws.proofs.Checks.{pass-front, answered-pass, answered-is, rest-com
 use Rattle.stored.proofs.Offsets.{total-at-2}
 use Rattle.open.proofs.Small.{groups-few}
 use Rattle.open.proofs.Entries.{entries-few}
+use Rattle.open.proofs.Fits.{form-wide}
 use Rattle.build.specs.Admitted.{Admitted}
-use Rattle.build.specs.declared.Built.the-variants.{Total}
 use Rattle.build.proofs.Checks.{admitted}
-use Rattle.build.proofs.Theorems.{Allowed, build-stores, input-right, build-opens, build-asks, build-asks-right}
+use Rattle.build.proofs.Theorems.{Finished, build-stores, input-right, build-opens, build-asks, build-asks-right}
 use Rattle.text.specs.Text.{mostVertices, mostEdges, Text, says, reading}
-use Rattle.text.specs.Output.{workLent, indexLent, inputOf}
+use Rattle.text.specs.Output.{answerTo, workLent, indexLent, inputOf}
 use Rattle.text.proofs.Bounded.{Bounded, says-bounded}
 use Rattle.text_run.proofs.Whole.{orders-within}
 
@@ -115,51 +115,57 @@ module _ (text : List ℕ) (t : Text) (good : reading text ≡ says t) where
     index = replicate indexLent 0
 
     -- what it answers and leaves
-    allowed : Allowed (inputOf t) work index (Total total) (buildWork form1 (inputOf t) work) (buildOutput form1 (inputOf t) workLent index)
-    allowed = record { answers = sym finished; leaves = refl; writes = refl }
+    D : Finished form1 (inputOf t)
+    D = record {
+      wide = form-wide 1;
+      work = work;
+      out = index;
+      total = total;
+      work' = buildWork form1 (inputOf t) work;
+      out' = buildOutput form1 (inputOf t) workLent index;
+      allowed = (sym finished, (refl, refl));
+    }
 
     abbrev stored : List ℕ
     stored = encode form1 (built (inputOf t))
 
-    stores : take total (buildOutput form1 (inputOf t) workLent index) ≡ stored
-    stores = build-stores (inputOf t) work index (Total total) _ _ allowed total refl
-
-    opens : openAnswer stored mostVertices ≡ answered (countsOf (built (inputOf t)))
-    opens = rw stores at (build-opens (inputOf t) work index (Total total) _ _ allowed total refl mostVertices (bounded .n))
+    opens : openAnswer host stored mostVertices 0 ≡ answered (countsOf (built (inputOf t)))
+    opens = ap (λ (b : List ℕ). openAnswer host b mostVertices 0) (sym (build-stores D)) ∙ build-opens D host mostVertices 0 refl (bounded .n) (omega arith)
 
     -- a question within n is answered, and with yes exactly where the edge list has a path
-    pub question-answered : (u v : ℕ) → u < t .n → v < t .n → askAnswer stored u v mostVertices ≡ answered (saidOf (answer (built (inputOf t)) u v))
-    question-answered u v source target = rw stores at (build-asks (inputOf t) work index (Total total) _ _ allowed total refl mostVertices u v (bounded .n) source target)
+    pub question-answered : (u v : ℕ) → u < t .n → v < t .n → answerTo stored u v ≡ answered (saidOf (answer (built (inputOf t)) u v))
+    question-answered u v source target =
+        ap (λ (b : List ℕ). answerTo b u v) (sym (build-stores D)) ∙ build-asks D host mostVertices 0 refl (bounded .n) (omega arith) u v source target
 
     pub answer-is-path : (u v : ℕ) → u < t .n → v < t .n → (answer (built (inputOf t)) u v .says ≡ true) ↔ Reaches (inputOf t .graph) u v
-    answer-is-path u v source target = build-asks-right (inputOf t) work index (Total total) _ _ allowed total refl mostVertices u v (bounded .n) source target
+    answer-is-path = build-asks-right D
 
     -- the header gives n
     counted : countsIn stored .n ≡ t .n
     unfolding openAnswer indexOf indexBy condense
     counted =
-        let passed = answered-is (countsIn stored) (formChecks stored mostVertices ++ (contentsCheck stored ∷ [])) (countsOf (built (inputOf t))) opens in
-        ap (λ (a : Counts). a .n) (sym passed) ∙ names-long (inputOf t .graph) (input-right (inputOf t) work index (Total total) _ _ allowed total refl .ends)
+        let passed = answered-is (countsIn stored) (formChecks host stored mostVertices 0 ++ (contentsCheck stored ∷ [])) (countsOf (built (inputOf t))) opens in
+        ap (λ (a : Counts). a .n) (sym passed) ∙ names-long (inputOf t .graph) (input-right D .ends)
 
-    -- 10 to 13 pass, so the checks behind them decide
-    behind-13 : (u v : ℕ) → let said : Said = saidOf (answer (indexIn stored) u v) in
-        askAnswer stored u v mostVertices ≡ refuse (leb (t .n) u) 14 0 (refuse (leb (t .n) v) 14 1 (outcome (contentsCheck stored ∷ []) said))
+    -- 10 to 13 and 6 pass, so the checks behind them decide
+    behind-form : (u v : ℕ) → let said : Said = saidOf (answer (indexIn stored) u v) in
+        answerTo stored u v ≡ refuse (leb (t .n) u) 14 0 (refuse (leb (t .n) v) 14 1 (outcome (contentsCheck stored ∷ []) said))
     unfolding askAnswer openAnswer
-    behind-13 u v =
+    behind-form u v =
         let said : Said = saidOf (answer (indexIn stored) u v) in
         let n : ℕ = countsIn stored .n in
-        let form : List Check = formChecks stored mostVertices in
+        let form : List Check = formChecks host stored mostVertices 0 in
         let p = answered-pass (countsIn stored) (form ++ (contentsCheck stored ∷ [])) (countsOf (built (inputOf t))) opens in
         rest-comes said [] form (check (leb n u) 14 0 ∷ check (leb n v) 14 1 ∷ contentsCheck stored ∷ []) (pass-front form (contentsCheck stored ∷ []) p) refl .says
         ∙ ap (λ (k : ℕ). refuse (leb k u) 14 0 (refuse (leb k v) 14 1 (outcome (contentsCheck stored ∷ []) said))) counted
 
     -- a question is refused by 14 alone
     pub question-refuses : (u v : ℕ)
-        → askAnswer stored u v mostVertices ≡ outcome (check (leb (t .n) u) 14 0 ∷ check (leb (t .n) v) 14 1 ∷ []) (saidOf (answer (built (inputOf t)) u v))
-    question-refuses u v = go (leb (t .n) u) (leb (t .n) v) refl refl (outcome (contentsCheck stored ∷ []) (saidOf (answer (indexIn stored) u v))) (behind-13 u v)
+        → answerTo stored u v ≡ outcome (check (leb (t .n) u) 14 0 ∷ check (leb (t .n) v) 14 1 ∷ []) (saidOf (answer (built (inputOf t)) u v))
+    question-refuses u v = go (leb (t .n) u) (leb (t .n) v) refl refl (outcome (contentsCheck stored ∷ []) (saidOf (answer (indexIn stored) u v))) (behind-form u v)
       where
-        go : (x y : Bool) → leb (t .n) u ≡ x → leb (t .n) v ≡ y → (rest : Outcome Said) → askAnswer stored u v mostVertices ≡ refuse x 14 0 (refuse y 14 1 rest)
-            → askAnswer stored u v mostVertices ≡ refuse x 14 0 (refuse y 14 1 (answered (saidOf (answer (built (inputOf t)) u v))))
+        go : (x y : Bool) → leb (t .n) u ≡ x → leb (t .n) v ≡ y → (rest : Outcome Said) → answerTo stored u v ≡ refuse x 14 0 (refuse y 14 1 rest)
+            → answerTo stored u v ≡ refuse x 14 0 (refuse y 14 1 (answered (saidOf (answer (built (inputOf t)) u v))))
         go true y e f rest h = h
         go false true e f rest h = h
         go false false e f rest h = question-answered u v (leb-false (t .n) u e) (leb-false (t .n) v f)

@@ -52,7 +52,7 @@ fn put_built(
 {
     let mut work = [0u32; WORK];
     let mut index = [0u8; INDEX];
-    match build::build(n, sources, targets, orders, d, &mut work, &mut index) {
+    match build::build(1, n, sources, targets, orders, d, &mut work, &mut index) {
         Built::Refused { number, extra } => put_refused(out, number, extra),
         Built::Total(total) => text_answering::put_answers(out, &index[..total as usize], asked),
     }

@@ -1,8 +1,119 @@
 // Calls that only Rattle code makes, exported for the outside tests alone: plain numbers and buffers, a refusal of 0 where there is none. No contract is stated
 // here; what is compared outside is the call itself.
+use ask::Asked;
+use ask_all::Batched;
 use build::Built;
 use list::Listed;
+use open::Opened;
 use text_run::MOST_OUTPUT;
+
+// Counts, or a refusal with its number and its extra number.
+#[repr(C)]
+pub struct Counts {
+    pub refusal: u32,
+    pub extra: u32,
+    pub n: u32,
+    pub k: u32,
+    pub c: u32,
+    pub d: u32,
+}
+
+#[no_mangle]
+pub extern "C" fn trial_open(index: &[u8], marks: &mut [u8], work: &mut [u32]) -> Counts {
+    match open::open(index, marks, work) {
+        Opened::Index { n, k, c, d } => Counts {
+            refusal: 0,
+            extra: 0,
+            n,
+            k,
+            c,
+            d,
+        },
+        Opened::Refused { number, extra } => Counts {
+            refusal: number,
+            extra,
+            n: 0,
+            k: 0,
+            c: 0,
+            d: 0,
+        },
+    }
+}
+
+// An answer, or a refusal with its number and its extra number.
+#[repr(C)]
+pub struct Answer {
+    pub refusal: u32,
+    pub extra: u32,
+    pub yes: u32,
+    pub reason: u32,
+    pub opened: u32,
+    pub labelling: u32,
+}
+
+#[no_mangle]
+pub extern "C" fn trial_ask(
+    index: &[u8],
+    marks: &mut [u8],
+    work: &mut [u32],
+    source: u32,
+    target: u32,
+) -> Answer {
+    match ask::ask(index, source, target, marks, work) {
+        Asked::Answer {
+            says,
+            reason,
+            opened,
+            deciding,
+        } => Answer {
+            refusal: 0,
+            extra: 0,
+            yes: says as u32,
+            reason,
+            opened,
+            labelling: deciding,
+        },
+        Asked::Refused { number, extra } => Answer {
+            refusal: number,
+            extra,
+            yes: 0,
+            reason: 0,
+            opened: 0,
+            labelling: 0,
+        },
+    }
+}
+
+// A number of pairs, or a refusal with its number and its extra number.
+#[repr(C)]
+pub struct Pairs {
+    pub refusal: u32,
+    pub extra: usize,
+    pub count: usize,
+}
+
+#[no_mangle]
+pub extern "C" fn trial_ask_all(
+    index: &[u8],
+    marks: &mut [u8],
+    work: &mut [u32],
+    sources: &[u32],
+    targets: &[u32],
+    answers: &mut [u32],
+) -> Pairs {
+    match ask_all::ask_all(index, sources, targets, marks, work, answers) {
+        Batched::Count(count) => Pairs {
+            refusal: 0,
+            extra: 0,
+            count,
+        },
+        Batched::Refused { number, extra } => Pairs {
+            refusal: number,
+            extra,
+            count: 0,
+        },
+    }
+}
 
 // A count, or a refusal with its number and its extra number.
 #[repr(C)]
@@ -16,10 +127,11 @@ pub struct Counted {
 pub extern "C" fn trial_list(
     index: &[u8],
     marks: &mut [u8],
+    work: &mut [u32],
     out: &mut [u32],
     vertex: u32,
 ) -> Counted {
-    match list::list(index, vertex, marks, out) {
+    match list::list(index, vertex, marks, work, out) {
         Listed::Count(count) => Counted {
             refusal: 0,
             extra: 0,
@@ -40,10 +152,11 @@ pub extern "C" fn trial_build(
     orders: &[u32],
     work: &mut [u32],
     out: &mut [u8],
+    form: u32,
     n: u32,
     d: u32,
 ) -> Counted {
-    match build::build(n, sources, targets, orders, d, work, out) {
+    match build::build(form, n, sources, targets, orders, d, work, out) {
         Built::Total(count) => Counted {
             refusal: 0,
             extra: 0,

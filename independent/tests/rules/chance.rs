@@ -1,20 +1,22 @@
 //! What is made by chance is of the kind that was asked for.
 
 use crate::given::{built, g, rising};
-use independent::bounds::MOST_EDGES;
 use independent::chance::{Chance, Damage, Kind};
 use independent::graph::is_permutation;
 use independent::groups::Groups;
+use independent::{FORM_1, FORM_2, ORDINARY};
 
 #[test]
 fn graphs_keep_the_bounds() {
     let mut chance = Chance::new(61);
-    for n in (0..12).chain([100, 4_096]) {
+    for n in (0..12).chain([100, 4_096, 200_000]) {
         for kind in Kind::ALL {
-            let graph = chance.graph(kind, n);
-            assert_eq!(graph.n, n);
-            assert!(graph.edges.len() <= MOST_EDGES);
-            assert!(graph.edges.iter().all(|&(u, v)| u < n && v < n));
+            for form in [FORM_1, FORM_2] {
+                let graph = chance.graph_of(kind, n, form.most_edges);
+                assert_eq!(graph.n, n);
+                assert!(graph.edges.len() <= form.most_edges);
+                assert!(graph.edges.iter().all(|&(u, v)| u < n && v < n));
+            }
         }
         assert!(is_permutation(&chance.order(n), n));
     }
@@ -51,7 +53,7 @@ fn graphs_are_of_their_kind() {
 
 #[test]
 fn the_same_seed_gives_the_same() {
-    let image = built(&g(), &[rising(6)]);
+    let image = built(&FORM_1, &g(), &[rising(6)]);
     let made = |seed| {
         let mut chance = Chance::new(seed);
         (chance.any_graph(30), chance.orders(30, 2), chance.any_damage(&image))
@@ -62,10 +64,12 @@ fn the_same_seed_gives_the_same() {
 
 #[test]
 fn every_damage_alters_the_bytes_sooner_or_later() {
-    let image = built(&g(), &[rising(6)]);
     let mut chance = Chance::new(63);
-    for kind in Damage::ALL {
-        assert!((0..100).any(|_| chance.damage(kind, &image) != image), "{kind:?}");
+    for form in ORDINARY {
+        let image = built(&form, &g(), &[rising(6)]);
+        for kind in Damage::ALL {
+            assert!((0..100).any(|_| chance.damage(kind, &image) != image), "{kind:?}");
+        }
     }
 }
 
@@ -74,7 +78,14 @@ fn bytes_too_short_can_be_damaged_too() {
     let mut chance = Chance::new(64);
     for length in 0..60 {
         for kind in Damage::ALL {
-            chance.damage(kind, &vec![1; length]);
+            for number in [1, 2, 3] {
+                let mut bytes = vec![1; length];
+                bytes
+                    .iter_mut()
+                    .zip([number, 0, 0, 0])
+                    .for_each(|(byte, part)| *byte = part);
+                chance.damage(kind, &bytes);
+            }
         }
     }
 }

@@ -51,6 +51,16 @@ fn index_writes_what_ask_and_list_read() {
 }
 
 #[test]
+fn index_writes_form_2_where_it_is_asked_for() {
+    let path = file("h2.index");
+    let path = path.to_str().unwrap();
+    assert_eq!(run(&["index", path, "2"], TEXT), (String::new(), 0));
+    assert_eq!(std::fs::read(path).unwrap().len(), 192);
+    assert_eq!(run(&["ask", path, "3", "2"], ""), ("q 3 2 no 6 1 0\n".into(), 0));
+    assert_eq!(run(&["list", path, "0"], ""), ("1\n2\n".into(), 0));
+}
+
+#[test]
 fn index_refuses_as_the_text_program_does() {
     let path = file("none.index");
     let path = path.to_str().unwrap();
@@ -75,6 +85,7 @@ fn other_words_get_the_usage() {
         &["nothing"],
         &["ask", "x", "1"],
         &["list", "x", "y"],
+        &["index", "x", "3"],
         &["text", "x"],
     ] {
         assert_eq!(run(words, ""), (String::new(), 2));

@@ -1,8 +1,8 @@
 //! The document's two graphs, and lent memory filled with numbers that a call would not write by accident.
 
-use independent::bounds::{total_length, work_words};
+use independent::bounds::work_words;
 use independent::graph::flat;
-use independent::{build, Graph, Refusal};
+use independent::{build, Counts, Form, Graph, Refusal, ORDINARY};
 
 /// Graph G of the document.
 pub fn g() -> Graph {
@@ -34,8 +34,18 @@ pub fn lent_bytes(length: usize) -> Vec<u8> {
     (0..length).map(|i| 2 + (i % 251) as u8).collect()
 }
 
+/// What the words lent with an index hold before a call.
+pub const WORD: u32 = 7;
+
+/// Words for this index, as many as it needs.
+pub fn words_for(index: &[u8]) -> Vec<u32> {
+    let needed = Counts::read(index, &ORDINARY).map_or(0, |(form, counts)| form.words_needed(&counts));
+    vec![WORD; needed]
+}
+
 /// All that a build is lent.
 pub struct Lent {
+    pub form: u32,
     pub n: u32,
     pub sources: Vec<u32>,
     pub targets: Vec<u32>,
@@ -47,21 +57,23 @@ pub struct Lent {
 
 impl Lent {
     /// Enough for a build of this graph, and nine words and bytes more.
-    pub fn new(graph: &Graph, orders: &[Vec<usize>]) -> Lent {
-        let (n, edges) = (graph.n, graph.edges.len());
+    pub fn new(form: &Form, graph: &Graph, orders: &[Vec<usize>]) -> Lent {
+        let (n, c, d) = (graph.n, graph.edges.len(), orders.len());
         Lent {
+            form: form.number,
             n: n as u32,
             sources: graph.sources(),
             targets: graph.targets(),
             orders: flat(orders),
-            d: orders.len() as u32,
-            work: lent_words(work_words(n, edges) + 9),
-            out: lent_bytes(total_length(n, n, edges, orders.len()) + 9),
+            d: d as u32,
+            work: lent_words(work_words(n, c) + 9),
+            out: lent_bytes(form.total_length(&Counts { n, k: n, c, d }) + 9),
         }
     }
 
     pub fn build(&mut self) -> Result<u32, Refusal> {
         build(
+            self.form,
             self.n,
             &self.sources,
             &self.targets,
@@ -73,9 +85,9 @@ impl Lent {
     }
 }
 
-/// The stored bytes that the call `build` writes.
-pub fn built(graph: &Graph, orders: &[Vec<usize>]) -> Vec<u8> {
-    let mut lent = Lent::new(graph, orders);
+/// The stored bytes of this form that the call `build` writes.
+pub fn built(form: &Form, graph: &Graph, orders: &[Vec<usize>]) -> Vec<u8> {
+    let mut lent = Lent::new(form, graph, orders);
     let total = lent.build().expect("a good build");
     lent.out.truncate(total as usize);
     lent.out

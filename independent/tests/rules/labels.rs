@@ -91,21 +91,35 @@ fn labels_follow_the_traversal() {
     });
 }
 
+/// Names and places as the document tells them, by plain search from every vertex.
+fn groups_are_mutual(graph: &Graph) {
+    let groups = Groups::of(graph);
+    let closure = Closure::of(graph);
+    for u in 0..graph.n {
+        for v in 0..graph.n {
+            let mutual = closure.reaches(u, v) && closure.reaches(v, u);
+            assert_eq!(groups.names[u] == groups.names[v], mutual, "{graph:?} {u} {v}");
+        }
+        assert!(groups.names[u] <= u);
+        assert_eq!(groups.list[groups.place(u)], groups.names[u]);
+    }
+    assert!(groups.list.windows(2).all(|two| two[0] < two[1]));
+}
+
 #[test]
 fn groups_are_the_vertices_that_reach_each_other() {
-    for_each_graph(12, 1_000, |_, graph| {
-        let groups = Groups::of(&graph);
-        let closure = Closure::of(&graph);
-        for u in 0..graph.n {
-            for v in 0..graph.n {
-                let mutual = closure.reaches(u, v) && closure.reaches(v, u);
-                assert_eq!(groups.names[u] == groups.names[v], mutual);
-            }
-            assert!(groups.names[u] <= u);
-            assert_eq!(groups.list[groups.place(u)], groups.names[u]);
+    for_each_graph(12, 3_000, |_, graph| groups_are_mutual(&graph));
+    let mut chance = Chance::new(16);
+    for kind in Kind::ALL {
+        for n in [100, 500] {
+            groups_are_mutual(&chance.graph(kind, n));
         }
-        assert!(groups.list.windows(2).all(|two| two[0] < two[1]));
-    });
+    }
+}
+
+#[test]
+fn groups_of_every_graph_on_four_vertices() {
+    independent::every::every_graph(4).for_each(|graph| groups_are_mutual(&graph));
 }
 
 #[test]

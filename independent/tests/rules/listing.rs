@@ -1,9 +1,9 @@
 //! The downstream list against plain search, and what it leaves in lent memory.
 
-use crate::given::{built, g, lent_bytes, lent_words, refused, rising};
+use crate::given::{built, g, lent_bytes, lent_words, refused, rising, words_for, WORD};
 use independent::chance::{Chance, Kind};
-use independent::closure::Closure;
-use independent::{list, Graph, Index};
+use independent::closure::{Closure, Search};
+use independent::{list, Graph, Index, ORDINARY};
 
 #[test]
 fn list_holds_what_is_downstream() {
@@ -12,10 +12,13 @@ fn list_holds_what_is_downstream() {
         let n = chance.between(1, 16);
         let graph = chance.graph(Kind::ALL[round % Kind::ALL.len()], n);
         let d = chance.between(1, 5);
-        let bytes = built(&graph, &chance.orders(n, d));
-        let closure = Closure::of(&graph);
+        let bytes = built(&chance.one_of(&ORDINARY), &graph, &chance.orders(n, d));
+        let needed = words_for(&bytes).len();
+        let (closure, search) = (Closure::of(&graph), Search::of(&graph));
         for u in 0..n {
             let downstream = closure.downstream(u);
+            assert_eq!(search.downstream(u), downstream);
+            assert!((0..n).all(|v| search.from(u)[v] == closure.reaches(u, v)));
             let mut marks = lent_bytes(n + 2);
             let mut marks_told = marks.clone();
             marks_told[..n].fill(0);
@@ -24,9 +27,11 @@ fn list_holds_what_is_downstream() {
             for (slot, &v) in out_told.iter_mut().zip(&downstream) {
                 *slot = v as u32;
             }
-            let count = list(&bytes, u as u32, &mut marks, &mut out);
+            let mut words = vec![WORD; needed + 2];
+            let count = list(&bytes, u as u32, &mut marks, &mut words, &mut out);
             assert_eq!(count, Ok(downstream.len() as u32));
             assert_eq!(marks, marks_told);
+            assert_eq!(words, [vec![0; needed], vec![WORD; 2]].concat());
             assert_eq!(out, out_told);
         }
     }
@@ -34,26 +39,30 @@ fn list_holds_what_is_downstream() {
 
 #[test]
 fn list_fits_exactly_or_is_refused_with_its_count() {
-    let bytes = built(&g(), &[rising(6)]);
-    let mut out = lent_words(4);
-    assert_eq!(list(&bytes, 0, &mut [9; 6], &mut out), Ok(4));
-    assert_eq!(out, [1, 2, 3, 4]);
-    for short in 0..4 {
-        let mut out = lent_words(short);
-        let mut marks = [9; 7];
-        assert_eq!(list(&bytes, 0, &mut marks, &mut out), refused(16, 4));
-        assert_eq!(out, lent_words(short));
-        assert_eq!(marks, [0, 0, 0, 0, 0, 0, 9]);
+    for form in ORDINARY {
+        let bytes = built(&form, &g(), &[rising(6)]);
+        let mut out = lent_words(4);
+        assert_eq!(list(&bytes, 0, &mut [9; 6], &mut words_for(&bytes), &mut out), Ok(4));
+        assert_eq!(out, [1, 2, 3, 4]);
+        for short in 0..4 {
+            let (mut marks, mut words, mut out) = ([9; 7], words_for(&bytes), lent_words(short));
+            assert_eq!(list(&bytes, 0, &mut marks, &mut words, &mut out), refused(16, 4));
+            assert_eq!(out, lent_words(short));
+            assert_eq!(marks, [0, 0, 0, 0, 0, 0, 9]);
+            assert!(words.iter().all(|&word| word == 0));
+        }
     }
 }
 
 #[test]
 fn an_empty_list_needs_no_room() {
-    let bytes = built(&g(), &[rising(6)]);
-    for vertex in [4, 5] {
-        let mut marks = [9; 7];
-        assert_eq!(list(&bytes, vertex, &mut marks, &mut []), Ok(0));
-        assert_eq!(marks, [0, 0, 0, 0, 0, 0, 9]);
+    for form in ORDINARY {
+        let bytes = built(&form, &g(), &[rising(6)]);
+        for vertex in [4, 5] {
+            let mut marks = [9; 7];
+            assert_eq!(list(&bytes, vertex, &mut marks, &mut words_for(&bytes), &mut []), Ok(0));
+            assert_eq!(marks, [0, 0, 0, 0, 0, 0, 9]);
+        }
     }
 }
 

@@ -1,10 +1,9 @@
 //! Questions by the six rules, against plain search and against the walk told by recursion.
 
-use crate::given::{built, lent_bytes};
-use independent::ask;
+use crate::given::{built, lent_bytes, words_for, WORD};
 use independent::chance::{Chance, Kind};
 use independent::closure::Closure;
-use independent::Index;
+use independent::{ask, Index, ORDINARY};
 use std::collections::BTreeSet;
 
 fn random_index(chance: &mut Chance, round: usize, d: usize) -> (Index, Closure) {
@@ -183,26 +182,31 @@ fn a_no_of_the_walk_opened_all_that_rules_3_and_4_let_through() {
 }
 
 #[test]
-fn marks_are_the_names_of_opened_groups() {
+fn marks_are_the_names_of_opened_groups_and_the_words_needed_are_0() {
     let mut chance = Chance::new(25);
     for round in 0..300 {
         let n = chance.between(1, 16);
         let graph = chance.graph(Kind::ALL[round % Kind::ALL.len()], n);
         let orders = chance.orders(n, 1);
         let index = Index::of(&graph, &orders);
-        let bytes = built(&graph, &orders);
-        for u in 0..n {
-            for v in 0..n {
-                let asked = index.question(u, v);
-                let mut marks = lent_bytes(n + 3);
-                let mut told = marks.clone();
-                told[..n].fill(0);
-                for &name in &asked.opened {
-                    told[name] = 1;
+        for form in ORDINARY {
+            let bytes = built(&form, &graph, &orders);
+            let needed = words_for(&bytes).len();
+            for u in 0..n {
+                for v in 0..n {
+                    let asked = index.question(u, v);
+                    let mut marks = lent_bytes(n + 3);
+                    let mut told = marks.clone();
+                    told[..n].fill(0);
+                    for &name in &asked.opened {
+                        told[name] = 1;
+                    }
+                    let mut words = vec![WORD; needed + 2];
+                    let answer = ask(&bytes, u as u32, v as u32, &mut marks, &mut words);
+                    assert_eq!(answer, Ok(asked.answer));
+                    assert_eq!(marks, told);
+                    assert_eq!(words, [vec![0; needed], vec![WORD; 2]].concat());
                 }
-                let answer = ask(&bytes, u as u32, v as u32, &mut marks);
-                assert_eq!(answer, Ok(asked.answer));
-                assert_eq!(marks, told);
             }
         }
     }
@@ -210,9 +214,11 @@ fn marks_are_the_names_of_opened_groups() {
 
 #[test]
 fn same_group_comes_before_the_level_tie() {
-    let index = built(&independent::Graph::new(2, &[(0, 1), (1, 0)]), &[vec![0, 1]]);
-    for (source, target) in [(0, 0), (0, 1), (1, 0), (1, 1)] {
-        let answer = ask(&index, source, target, &mut [0; 2]).unwrap();
-        assert_eq!((answer.yes, answer.reason), (true, 1));
+    for form in ORDINARY {
+        let index = built(&form, &independent::Graph::new(2, &[(0, 1), (1, 0)]), &[vec![0, 1]]);
+        for (source, target) in [(0, 0), (0, 1), (1, 0), (1, 1)] {
+            let answer = ask(&index, source, target, &mut [0; 2], &mut words_for(&index)).unwrap();
+            assert_eq!((answer.yes, answer.reason), (true, 1));
+        }
     }
 }

@@ -1,9 +1,9 @@
-//! The reckoned examples P1 to P10.
+//! The reckoned examples P1 to P10, and what they come to in form 2.
 
-use crate::given::{built, falling, g, h, refused, rising};
+use crate::given::{built, falling, g, h, refused, rising, words_for};
 use independent::groups::Groups;
 use independent::labels::Labelling;
-use independent::{ask, list, open, Answer, Counts, Graph};
+use independent::{ask, list, open, Answer, Counts, Graph, Refusal, FORM_1, FORM_2, ORDINARY};
 
 fn answer(yes: bool, reason: u32, opened: u32, labelling: u32) -> Answer {
     Answer {
@@ -46,68 +46,88 @@ fn p4_labels_under_b() {
     assert_eq!(triples(&falling(6)), told);
 }
 
+/// The question in either form: one answer, and the marks that it leaves in eight.
+fn asked(graph: &Graph, orders: &[Vec<usize>], source: u32, target: u32) -> (Result<Answer, Refusal>, [u8; 8]) {
+    let [of_1, of_2] = ORDINARY.map(|form| {
+        let index = built(&form, graph, orders);
+        let mut marks = [7; 8];
+        let answer = ask(&index, source, target, &mut marks, &mut words_for(&index));
+        (answer, marks)
+    });
+    assert_eq!(of_1, of_2);
+    of_1
+}
+
 #[test]
 fn p5_walk_opens_one_group_and_marks_it() {
-    let index = built(&g(), &[rising(6)]);
-    let mut marks = [7; 8];
-    assert_eq!(ask(&index, 3, 4, &mut marks), Ok(answer(true, 5, 1, 1)));
-    assert_eq!(marks, [0, 0, 0, 1, 0, 0, 7, 7]);
+    let told = (Ok(answer(true, 5, 1, 1)), [0, 0, 0, 1, 0, 0, 7, 7]);
+    assert_eq!(asked(&g(), &[rising(6)], 3, 4), told);
 }
 
 #[test]
 fn p6_second_order_saves_the_walk() {
-    let index = built(&g(), &[rising(6), falling(6)]);
-    let mut marks = [7; 8];
-    assert_eq!(ask(&index, 3, 4, &mut marks), Ok(answer(true, 2, 0, 2)));
-    assert_eq!(marks, [0, 0, 0, 0, 0, 0, 7, 7]);
+    let told = (Ok(answer(true, 2, 0, 2)), [0, 0, 0, 0, 0, 0, 7, 7]);
+    assert_eq!(asked(&g(), &[rising(6), falling(6)], 3, 4), told);
 }
 
 #[test]
 fn p7_outer_interval_rules_out() {
-    let index = built(&g(), &[rising(6)]);
-    assert_eq!(ask(&index, 0, 5, &mut [0; 6]), Ok(answer(false, 4, 0, 1)));
+    assert_eq!(asked(&g(), &[rising(6)], 0, 5).0, Ok(answer(false, 4, 0, 1)));
 }
 
 #[test]
 fn p8_another_order_saves_the_walk_to_a_no() {
-    let one = built(&h(), &[rising(4)]);
-    assert_eq!(ask(&one, 3, 2, &mut [0; 4]), Ok(answer(false, 6, 1, 0)));
-    let other = built(&h(), &[falling(4)]);
-    assert_eq!(ask(&other, 3, 2, &mut [0; 4]), Ok(answer(false, 4, 0, 1)));
-    let both = built(&h(), &[rising(4), falling(4)]);
-    assert_eq!(ask(&both, 3, 2, &mut [0; 4]), Ok(answer(false, 4, 0, 2)));
+    let said = |orders: &[Vec<usize>]| asked(&h(), orders, 3, 2).0.unwrap();
+    assert_eq!(said(&[rising(4)]), answer(false, 6, 1, 0));
+    assert_eq!(said(&[falling(4)]), answer(false, 4, 0, 1));
+    assert_eq!(said(&[rising(4), falling(4)]), answer(false, 4, 0, 2));
 }
 
 #[test]
 fn p9_total_lengths() {
-    assert_eq!(built(&h(), &[rising(4)]).len(), 120);
-    assert_eq!(built(&g(), &[rising(6), falling(6)]).len(), 180);
+    assert_eq!(built(&FORM_1, &h(), &[rising(4)]).len(), 120);
+    assert_eq!(built(&FORM_1, &g(), &[rising(6), falling(6)]).len(), 180);
+    assert_eq!(built(&FORM_2, &h(), &[rising(4)]).len(), 192);
+    assert_eq!(built(&FORM_2, &g(), &[rising(6), falling(6)]).len(), 312);
 }
 
 #[test]
 fn p10_no_vertices() {
-    let index = built(&Graph::new(0, &[]), &[vec![]]);
-    assert_eq!(index.len(), 50);
-    let counts = Counts { n: 0, k: 0, c: 0, d: 1 };
-    assert_eq!(open(&index, &mut []), Ok(counts));
-    for (source, target) in [(0, 0), (0, 1), (1, 0), (u32::MAX, u32::MAX)] {
-        assert_eq!(ask(&index, source, target, &mut []), refused(14, 0));
+    for (form, total, needed) in [(FORM_1, 50, 0), (FORM_2, 52, 64)] {
+        let index = built(&form, &Graph::new(0, &[]), &[vec![]]);
+        assert_eq!(index.len(), total);
+        let mut words = words_for(&index);
+        assert_eq!(words.len(), needed);
+        let counts = Counts { n: 0, k: 0, c: 0, d: 1 };
+        assert_eq!(open(&index, &mut [], &mut words), Ok(counts));
+        for (source, target) in [(0, 0), (0, 1), (1, 0), (u32::MAX, u32::MAX)] {
+            assert_eq!(ask(&index, source, target, &mut [], &mut words), refused(14, 0));
+        }
+        assert_eq!(list(&index, 0, &mut [], &mut words, &mut []), refused(14, 0));
     }
-    assert_eq!(list(&index, 0, &mut [], &mut []), refused(14, 0));
+}
+
+const SECTIONS_OF_H: [&[u32]; 6] = [
+    &[0, 1, 2, 3],
+    &[0, 1, 2, 3],
+    &[1, 0, 0, 1],
+    &[0, 2, 2, 2, 3],
+    &[1, 2, 1],
+    &[1, 1, 3, 1, 1, 1, 2, 2, 2, 1, 4, 4, 1, 2, 0, 3],
+];
+
+#[test]
+fn stored_form_1_of_h_field_by_field() {
+    let header: [u32; 12] = [1, 4, 4, 3, 1, 48, 56, 64, 72, 82, 88, 120];
+    let mut told: Vec<u8> = header.iter().flat_map(|n| n.to_le_bytes()).collect();
+    told.extend(SECTIONS_OF_H.concat().iter().flat_map(|&n| (n as u16).to_le_bytes()));
+    assert_eq!(built(&FORM_1, &h(), &[rising(4)]), told);
 }
 
 #[test]
-fn stored_form_of_h_field_by_field() {
-    let header: [u32; 12] = [1, 4, 4, 3, 1, 48, 56, 64, 72, 82, 88, 120];
-    let sections: [&[u16]; 6] = [
-        &[0, 1, 2, 3],
-        &[0, 1, 2, 3],
-        &[1, 0, 0, 1],
-        &[0, 2, 2, 2, 3],
-        &[1, 2, 1],
-        &[1, 1, 3, 1, 1, 1, 2, 2, 2, 1, 4, 4, 1, 2, 0, 3],
-    ];
+fn stored_form_2_of_h_field_by_field() {
+    let header: [u32; 12] = [2, 4, 4, 3, 1, 48, 64, 80, 96, 116, 128, 192];
     let mut told: Vec<u8> = header.iter().flat_map(|n| n.to_le_bytes()).collect();
-    told.extend(sections.concat().iter().flat_map(|n| n.to_le_bytes()));
-    assert_eq!(built(&h(), &[rising(4)]), told);
+    told.extend(SECTIONS_OF_H.concat().iter().flat_map(|n| n.to_le_bytes()));
+    assert_eq!(built(&FORM_2, &h(), &[rising(4)]), told);
 }

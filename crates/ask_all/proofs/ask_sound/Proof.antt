@@ -1,5 +1,4 @@
 -- `ask_all::ask_sound` meets its contract: the six parts are the sections of the bytes, which hold the index; the pairs are lent the marks below n.
-use native.Mathlib.Omega.{arith}
 use mathlib.Core.Path.{_≡_, sym, ap, _∙_}
 use mathlib.Core.List.{List, _++_}
 use Prim.Native.Nat.{ℕ}
@@ -16,7 +15,7 @@ use Rattle.ask_all.proofs.ask_sound.Statement.{statement}
 use Rattle.ask_all.proofs.ask_sound.Tie as tie
 
 abbrev start : tie.After-labels → tie.Start
-start m = m .before .before .before .before .before .before .before .before .before .before .before
+start m = m .before .before .before .before .before .before .before .before .before .before .before .before
 
 -- the six parts are the sections of the bytes
 six :
@@ -61,20 +60,18 @@ children-requires c κs = search needs
 labels-requires : tie.Need-labels-requires
 labels-requires c κs = search needs
 
-slice-aggregate-ask-pairs : tie.Need-slice-aggregate-ask-pairs
-slice-aggregate-ask-pairs c = search needs
-
 slice-relend-prefix-ask-pairs : tie.Need-slice-relend-prefix-ask-pairs
-slice-relend-prefix-ask-pairs c = search needs
+slice-relend-prefix-ask-pairs c = start c .pre .0 .marked
 
-slice-aggregate-ask-pairs-2 : tie.Need-slice-aggregate-ask-pairs-2
-slice-aggregate-ask-pairs-2 c = let s = start (c .before .before) in sym (ap length (s .pre .1 .0 .1 .1) ∙ length-replicate (s .args .l .n) 0)
+slice-aggregate-ask-pairs : tie.Need-slice-aggregate-ask-pairs
+slice-aggregate-ask-pairs c = let s = start (c .before) in sym (ap length (s .pre .0 .none) ∙ length-replicate (s .args .l .n) 0)
 
 ask-pairs-requires : tie.Need-ask-pairs-requires
 ask-pairs-requires c κs =
     let m = c .before .before .before in
     let s = start m in
-    (lent (s .pre .0 .0) (six m) (s .pre .0 .1), (omega (arith, s .pre .1 .0 .0), (s .pre .1 .0 .1 .1, s .pre .1 .1)))
+    let P = s .pre .0 in
+    (lent (P .laid) (six m) (P .sound), (s .pre .1, (P .none, (P .same, P .room))))
 
 same-length : tie.Need-same-length
 same-length c = search needs
@@ -82,13 +79,17 @@ same-length c = search needs
 same-length-2 : tie.Need-same-length-2
 same-length-2 c = search needs
 
+same-length-3 : tie.Need-same-length-3
+same-length-3 c = search needs
+
 returns : tie.Need-returns
 returns c =
-    let p = c .before .before .before .before .before in
+    let p = c .before .before .before .before .before .before in
     let m = p .before .before .before .before in
     let s = start m in
-    let is = index-at (s .pre .0 .0) (six m) in
-    (marks-is (s .args .l .n) _ _ _ _ _ _ _ (p .ask-pairs .ensures .1) is, answers-is (s .args .l .n) _ _ _ _ _ _ _ (p .ask-pairs .ensures .0) is)
+    let is = index-at (s .pre .0 .laid) (six m) in
+    let e = p .ask-pairs .ensures in
+    (marks-is (s .args .l .n) _ _ _ _ _ _ _ (e .1 .0) is, (answers-is (s .args .l .n) _ _ _ _ _ _ _ (e .0) is, e .1 .1))
 
 pub ask-sound-spec : {M : Type 1} → statement M
 ask-sound-spec =
@@ -100,10 +101,10 @@ ask-sound-spec =
     starts-requires
     children-requires
     labels-requires
-    slice-aggregate-ask-pairs
     slice-relend-prefix-ask-pairs
-    slice-aggregate-ask-pairs-2
+    slice-aggregate-ask-pairs
     ask-pairs-requires
     same-length
     same-length-2
+    same-length-3
     returns)

@@ -3,8 +3,9 @@ use mathlib.Core.Path.{_≡_, sym, ap, _∙_}
 use borrow.Author.Needs.{needs}
 use Rattle.lineage.specs.Calls.{answered, outcome, Input, workNeeded, buildEarly}
 use lib.ListN.{length}
-use Rattle.build.specs.Input.{inputOf, formBy}
+use Rattle.build.specs.Input.{inputOf, formBy, RowFit}
 use Rattle.build.specs.Answers.{checkedOf}
+use Rattle.build.proofs.Row.{row-fit, row-answered}
 use Rattle.build.proofs.Answered.{early-refused, admitted-within, needed-there, late-answered}
 use Rattle.build.proofs.build_form.Statement.{statement}
 use Rattle.build.proofs.build_form.Tie as tie
@@ -15,6 +16,9 @@ start c = c .before .before .before .before .before .before
 abbrev input : tie.Start → Input
 input s = inputOf (s .args .n) (s .args .sources .now) (s .args .targets .now) (s .args .d) (s .args .orders .now)
 
+fit : (s : tie.Start) → RowFit (s .args .form) (s .args .row)
+fit s = row-fit (s .args .form) (s .args .row) (s .pre .0) (s .pre .1)
+
 -- what checks 1 to 7 let pass
 passed : (c : tie.After-known-told2)
     → let s = start (c .before .before .before) in
@@ -22,7 +26,7 @@ passed : (c : tie.After-known-told2)
 passed c = ap checkedOf (sym (c .before .needed .given .1)) ∙ c .before .before .before .early .ensures
 
 early-requires : tie.Need-early-requires
-early-requires c κs = search needs
+early-requires c κs = let s = c .before .before .before .before .before in (fit s .vertices, fit s .edges)
 
 enum-known-number : tie.Need-enum-known-number
 enum-known-number c = search needs
@@ -34,19 +38,20 @@ late-requires : tie.Need-late-requires
 late-requires c κs =
     let p = c .before .before in
     let s = start (p .before .before .before) in
-    (s .pre .number-small, (s .pre .width, admitted-within (s .args .form) (s .args .row) (input s) (s .args .work .now) (s .args .out .now) (passed p) (s .pre)))
+    (fit s .number-small, (fit s .width, admitted-within (s .args .form) (s .args .row) (input s) (s .args .work .now) (s .args .out .now) (passed p) (fit s)))
 
 clear-words-requires : tie.Need-clear-words-requires
 clear-words-requires c κs =
     let b = c .before .before .before .before .before in
     let p = b .before .before .before in
     let s = start (p .before .before .before) in
-    needed-there (s .args .form) (s .args .row) (input s) (s .args .work .now) (s .args .out .now) (passed p) (b .late .ensures) (s .pre)
+    needed-there (s .args .form) (s .args .row) (input s) (s .args .work .now) (s .args .out .now) (passed p) (b .late .ensures) (fit s)
 
 returns : tie.Need-returns
 returns c =
     let s = start (c .before .before .before) in
-    early-refused (s .args .form) (s .args .row) (input s) (s .args .work .now) (s .args .out .now) (ap checkedOf (sym (c .before .number .given .1)) ∙ c .before .before .before .early .ensures)
+    row-answered (s .args .form) (s .args .row) (s .pre .0) (s .pre .1) _ _ _ _ _ _
+    (early-refused (s .args .form) (s .args .row) (input s) (s .args .work .now) (s .args .out .now) (ap checkedOf (sym (c .before .number .given .1)) ∙ c .before .before .before .early .ensures))
 
 same-length : tie.Need-same-length
 same-length c = search needs
@@ -59,7 +64,8 @@ returns-2 c =
     let b = c .before .before .before .before .before .before .before .before in
     let p = b .before .before .before in
     let s = start (p .before .before .before) in
-    late-answered (s .args .form) (s .args .row) (input s) (s .args .work .now) (s .args .out .now) (passed p) (b .late .ensures) (c .before .before .clear-words .ensures)
+    row-answered (s .args .form) (s .args .row) (s .pre .0) (s .pre .1) _ _ _ _ _ _
+    (late-answered (s .args .form) (s .args .row) (input s) (s .args .work .now) (s .args .out .now) (passed p) (b .late .ensures) (c .before .before .clear-words .ensures))
 
 pub build-form-spec : {M : Type 1} → statement M
 build-form-spec =

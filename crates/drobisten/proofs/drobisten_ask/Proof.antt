@@ -1,4 +1,4 @@
--- `drobisten::drobisten_ask` meets its contract: it hands on what `ask` gives; yes is 1 and no is 0.
+-- `drobisten::drobisten_ask` meets its contract: it hands on what `ask_form1` gives; yes is 1 and no is 0.
 use mathlib.Core.Bool.{Bool, true, false}
 use mathlib.Core.Path.{_≡_, refl, sym, ap, _∙_}
 use Prim.Native.Nat.{ℕ}
@@ -18,8 +18,8 @@ answer-is :
 answer-is true reason opened deciding = refl
 answer-is false reason opened deciding = refl
 
-ask-requires : tie.Need-ask-requires
-ask-requires c κs = search needs
+ask-form1-requires : tie.Need-ask-form1-requires
+ask-form1-requires c κs = search needs
 
 enum-known-says : tie.Need-enum-known-says
 enum-known-says c = search needs
@@ -36,7 +36,7 @@ same-length c = search needs
 returns : tie.Need-returns
 returns c =
     let o = c .before .before .before .before .before in
-    (answer-is (c .before .says .given .0 .0) _ _ _ ∙ ap hostAsked (ap askedOf (sym (c .before .says .given .1)) ∙ o .ask .ensures .0), o .ask .ensures .1)
+    (answer-is (c .before .says .given .0 .0) _ _ _ ∙ ap hostAsked (ap askedOf (sym (c .before .says .given .1)) ∙ o .ask-form1 .ensures .0), o .ask-form1 .ensures .1)
 
 same-length-2 : tie.Need-same-length-2
 same-length-2 c = search needs
@@ -44,13 +44,13 @@ same-length-2 c = search needs
 returns-2 : tie.Need-returns-2
 returns-2 c =
     let o = c .before .before .before .before .before in
-    (ap hostAsked (ap askedOf (sym (c .before .number .given .1)) ∙ o .ask .ensures .0), o .ask .ensures .1)
+    (ap hostAsked (ap askedOf (sym (c .before .number .given .1)) ∙ o .ask-form1 .ensures .0), o .ask-form1 .ensures .1)
 
 pub drobisten-ask-spec : {M : Type 1} → statement M
 drobisten-ask-spec =
     tie.close
     (tie.spec
-    ask-requires
+    ask-form1-requires
     enum-known-says
     cast-t15
     enum-known-number

@@ -1,4 +1,4 @@
--- `drobisten::drobisten_ask_all` meets its contract: it hands on what `ask_all` gives.
+-- `drobisten::drobisten_ask_all` meets its contract: it hands on what `ask_all_form1` gives.
 use mathlib.Core.Path.{sym, ap, _∙_}
 use borrow.Author.Needs.{needs}
 use Rattle.ask_all.specs.Batched.{batchedOf}
@@ -6,8 +6,8 @@ use Rattle.drobisten.specs.Host.{hostAskedAll}
 use Rattle.drobisten.proofs.drobisten_ask_all.Statement.{statement}
 use Rattle.drobisten.proofs.drobisten_ask_all.Tie as tie
 
-ask-all-requires : tie.Need-ask-all-requires
-ask-all-requires c κs = search needs
+ask-all-form1-requires : tie.Need-ask-all-form1-requires
+ask-all-form1-requires c κs = search needs
 
 enum-known-count : tie.Need-enum-known-count
 enum-known-count c = search needs
@@ -24,7 +24,7 @@ same-length-2 c = search needs
 returns : tie.Need-returns
 returns c =
     let o = c .before .before .before .before .before .before .before in
-    (ap hostAskedAll (ap batchedOf (sym (c .before .count .given .1)) ∙ o .ask-all .ensures .0), o .ask-all .ensures .1)
+    (ap hostAskedAll (ap batchedOf (sym (c .before .count .given .1)) ∙ o .ask-all-form1 .ensures .0), o .ask-all-form1 .ensures .1)
 
 same-length-3 : tie.Need-same-length-3
 same-length-3 c = search needs
@@ -35,13 +35,13 @@ same-length-4 c = search needs
 returns-2 : tie.Need-returns-2
 returns-2 c =
     let o = c .before .before .before .before .before .before .before in
-    (ap hostAskedAll (ap batchedOf (sym (c .before .number .given .1)) ∙ o .ask-all .ensures .0), o .ask-all .ensures .1)
+    (ap hostAskedAll (ap batchedOf (sym (c .before .number .given .1)) ∙ o .ask-all-form1 .ensures .0), o .ask-all-form1 .ensures .1)
 
 pub drobisten-ask-all-spec : {M : Type 1} → statement M
 drobisten-ask-all-spec =
     tie.close
     (tie.spec
-    ask-all-requires
+    ask-all-form1-requires
     enum-known-count
     enum-known-number
     same-length

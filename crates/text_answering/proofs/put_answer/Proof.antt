@@ -3,8 +3,7 @@ use Prim.Native.Nat.{_+_, _≤_}
 use native.Mathlib.Omega.{arith}
 use borrow.Author.Needs.{needs}
 use lib.ListN.{length}
-use Rattle.lineage.specs.Calls.{askAnswer}
-use Rattle.text.specs.Text.{mostVertices}
+use Rattle.text.specs.Output.{answerTo}
 use Rattle.text_printing.proofs.Putting.{told-short, question-short, put-put}
 use Rattle.text_answering.proofs.put_answer.Statement.{statement}
 use Rattle.text_answering.proofs.put_answer.Tie as tie
@@ -30,7 +29,7 @@ put-byte-requires c κs =
     let t = c .before .before .before in
     let q = t .before .before .before .before in
     let a = start q .args in
-    omega (arith, room q, told-short (askAnswer (a .index .now) (a .source) (a .target) mostVertices), t .put-told .ensures .behind, t .put-told .kept .0)
+    omega (arith, room q, told-short (answerTo (a .index .now) (a .source) (a .target)), t .put-told .ensures .behind, t .put-told .kept .0)
 
 same-length : tie.Need-same-length
 same-length c = search needs

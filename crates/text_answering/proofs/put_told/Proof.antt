@@ -1,4 +1,4 @@
--- `text_answering::put_told` meets its contract: what `ask` gives is put, an answer or a refusal.
+-- `text_answering::put_told` meets its contract: what `ask_form1` gives is put, an answer or a refusal.
 use mathlib.Core.Path.{sym, ap, _∙_}
 use borrow.Author.Needs.{needs}
 use Rattle.ask.specs.Asked.{askedOf}
@@ -7,11 +7,11 @@ use Rattle.text_printing.proofs.Putting.{put-same}
 use Rattle.text_answering.proofs.put_told.Statement.{statement}
 use Rattle.text_answering.proofs.put_told.Tie as tie
 
-slice-aggregate-ask : tie.Need-slice-aggregate-ask
-slice-aggregate-ask c = search needs
+slice-aggregate-ask-form1 : tie.Need-slice-aggregate-ask-form1
+slice-aggregate-ask-form1 c = search needs
 
-ask-requires : tie.Need-ask-requires
-ask-requires c κs = search needs
+ask-form1-requires : tie.Need-ask-form1-requires
+ask-form1-requires c κs = search needs
 
 enum-known-says : tie.Need-enum-known-says
 enum-known-says c = search needs
@@ -31,7 +31,7 @@ same-length c = search needs
 returns : tie.Need-returns
 returns c =
     let s = c .before .before .before .before .before in
-    put-same (ap told (ap askedOf (sym (s .says .given .1)) ∙ s .before .before .before .ask .ensures .0)) (c .before .before .put-said .ensures)
+    put-same (ap told (ap askedOf (sym (s .says .given .1)) ∙ s .before .before .before .ask-form1 .ensures .0)) (c .before .before .put-said .ensures)
 
 same-length-2 : tie.Need-same-length-2
 same-length-2 c = search needs
@@ -39,14 +39,14 @@ same-length-2 c = search needs
 returns-2 : tie.Need-returns-2
 returns-2 c =
     let r = c .before .before .before .before .before in
-    put-same (ap told (ap askedOf (sym (r .number .given .1)) ∙ r .before .before .before .ask .ensures .0)) (c .before .before .put-refusal .ensures)
+    put-same (ap told (ap askedOf (sym (r .number .given .1)) ∙ r .before .before .before .ask-form1 .ensures .0)) (c .before .before .put-refusal .ensures)
 
 pub put-told-spec : {M : Type 1} → statement M
 put-told-spec =
     tie.close
     (tie.spec
-    slice-aggregate-ask
-    ask-requires
+    slice-aggregate-ask-form1
+    ask-form1-requires
     enum-known-says
     put-said-requires
     enum-known-number

@@ -9,7 +9,7 @@ use Rattle.build.proofs.Theorems.{Allowed}
 use Rattle.text.specs.Text.{Text}
 use Rattle.text.specs.Output.{inputOf, afterBuild}
 use Rattle.text_printing.proofs.Putting.{put-same}
-use Rattle.text_run.proofs.Finished.{stored-within, stored-answers}
+use Rattle.text_run.proofs.Finished.{call-form1, stored-within, stored-answers}
 use Rattle.text_run.proofs.put_built.Statement.{statement}
 use Rattle.text_run.proofs.put_built.Tie as tie
 
@@ -25,7 +25,7 @@ text-of b =
 
 -- what the build answered and left
 allowed : (b : tie.After-build)
-    → Allowed (inputOf (text-of b)) (replicate 16256 0) (replicate 28626 0) (b .build .result) (b .build .last .1 .1 .1 .1 .1 .0) (b .build .last .1 .1 .1 .1 .1 .1 .0)
+    → Allowed 1 (inputOf (text-of b)) (replicate 16256 0) (replicate 28626 0) (b .build .result) (b .build .last .1 .1 .1 .1 .1 .1 .0) (b .build .last .1 .1 .1 .1 .1 .1 .1 .0)
 allowed b = record { answers = b .build .ensures .0; leaves = b .build .ensures .1 .0; writes = b .build .ensures .1 .1 }
 
 -- a finished build
@@ -76,7 +76,7 @@ returns : tie.Need-returns
 returns c =
     let f = c .before .before .before .before .before in
     let b = f .before .before .before .before in
-    put-same (ap (afterBuild (text-of b)) (ap builtOf (sym (f .number .given .1)) ∙ b .build .ensures .0)) (c .before .before .put-refused .ensures)
+    put-same (ap (afterBuild (text-of b)) (ap builtOf (sym (f .number .given .1)) ∙ b .build .ensures .0 ∙ call-form1 _ _ _)) (c .before .before .put-refused .ensures)
 
 same-length-2 : tie.Need-same-length-2
 same-length-2 c = search needs
@@ -85,7 +85,7 @@ returns-2 : tie.Need-returns-2
 returns-2 c =
     let f = c .before .before .before .before .before .before in
     let b = built-at f in
-    put-same (stored-answers (text-of b) (allowed b) (done f) (sym (b .build .ensures .0) ∙ done f)) (c .before .before .put-answers .ensures)
+    put-same (stored-answers (text-of b) (allowed b) (done f) (sym (call-form1 _ _ _) ∙ sym (b .build .ensures .0) ∙ done f)) (c .before .before .put-answers .ensures)
 
 pub put-built-spec : {M : Type 1} → statement M
 put-built-spec =

@@ -11,8 +11,8 @@ use Rattle.ask.proofs.Soundness.{fit-marks, marks-few, question-is}
 use Rattle.ask.proofs.question.question.Statement.{statement}
 use Rattle.ask.proofs.question.question.Tie as tie
 
-abbrev entry : tie.After-slice-known → tie.Start
-entry c = c .before .before .before .before .before .before .before
+abbrev entry : tie.After-slice-known2 → tie.Start
+entry c = c .before .before .before .before .before .before .before .before
 
 num-requires : tie.Need-num-requires
 num-requires c κs =
@@ -40,22 +40,25 @@ place-of-requires-2 c κs =
 
 decide-requires : tie.Need-decide-requires
 decide-requires c κs =
-    let t = c .before in
+    let t = c .before .before in
     let x = t .before .before in
     let s = entry (x .before .before) in
     let S = s .pre .0 in
     let long = s .pre .1 .1 .1 .0 in
     let x-low = vertex-low S (s .pre .1 .0) (x .before .num .ensures .0) (x .place-of .ensures) in
     let t-low = vertex-low S (s .pre .1 .1 .0) (t .before .num2 .ensures .0) (t .place-of2 .ensures) in
-    (fit-marks S (s .args .marks .now) long _ t-low, (x-low, (marks-few S (s .args .marks .now) long, s .pre .1 .1 .1 .1)))
+    (fit-marks S (s .args .marks .now) long _ t-low, (x-low, (marks-few S (s .args .marks .now) long, (s .pre .1 .1 .1 .1 .0, rw long (s .pre .1 .1 .1 .1 .1)))))
 
 same-length : tie.Need-same-length
 same-length c = search needs
 
+same-length-2 : tie.Need-same-length-2
+same-length-2 c = search needs
+
 returns : tie.Need-returns
 returns c =
-    let a = c .before .before in
-    let t = a .before .before in
+    let a = c .before .before .before .before in
+    let t = a .before .before .before in
     let x = t .before .before in
     let s = entry (x .before .before) in
     let S = s .pre .0 in (
@@ -63,8 +66,8 @@ returns c =
           ∙ question-is S _ _ _ _ _
           (vertex-placed S (s .pre .1 .0) (x .before .num .ensures .0) (x .place-of .ensures))
           (vertex-placed S (s .pre .1 .1 .0) (t .before .num2 .ensures .0) (t .place-of2 .ensures))
-          (seen-new _ _ (s .pre .1 .1 .1 .1) ∙ ap (λ (z : ℕ). replicate z 0) (s .pre .1 .1 .1 .0)),
-      (a .decide .ensures .1 .0, a .decide .ensures .1 .1),
+          (seen-new _ _ (s .pre .1 .1 .1 .1 .0) ∙ ap (λ (z : ℕ). replicate z 0) (s .pre .1 .1 .1 .0)),
+      (a .decide .ensures .1 .0, (a .decide .ensures .1 .1 .0, rw (s .pre .1 .1 .1 .0) at (a .decide .ensures .1 .1 .1))),
     )
 
 pub question-spec : {M : Type 1} → statement M
@@ -77,4 +80,5 @@ question-spec =
     place-of-requires-2
     decide-requires
     same-length
+    same-length-2
     returns)
