@@ -20,16 +20,16 @@ given c =
     (c .before .before .children .ensures)
 
 groups-requires : tie.Need-groups-requires
-groups-requires c κs = search needs
+groups-requires c κs = c .before .before .pre .0 .laid
 
 starts-requires : tie.Need-starts-requires
-starts-requires c κs = search needs
+starts-requires c κs = c .before .before .before .pre .0 .laid
 
 children-requires : tie.Need-children-requires
-children-requires c κs = search needs
+children-requires c κs = c .before .before .before .before .pre .0 .laid
 
 labels-requires : tie.Need-labels-requires
-labels-requires c κs = search needs
+labels-requires c κs = c .before .before .before .before .before .pre .0 .laid
 
 by-rank-requires : tie.Need-by-rank-requires
 by-rank-requires c κs = search needs

@@ -25,19 +25,19 @@ given c =
     (c .before .before .levels .ensures) (c .before .starts .ensures) (c .children .ensures)
 
 names-requires : tie.Need-names-requires
-names-requires c κs = search needs
+names-requires c κs = c .before .before .before .pre .0 .laid
 
 groups-requires : tie.Need-groups-requires
-groups-requires c κs = search needs
+groups-requires c κs = c .before .before .before .before .pre .0 .laid
 
 levels-requires : tie.Need-levels-requires
-levels-requires c κs = search needs
+levels-requires c κs = c .before .before .before .before .before .pre .0 .laid
 
 starts-requires : tie.Need-starts-requires
-starts-requires c κs = search needs
+starts-requires c κs = c .before .before .before .before .before .before .pre .0 .laid
 
 children-requires : tie.Need-children-requires
-children-requires c κs = search needs
+children-requires c κs = c .before .before .before .before .before .before .before .pre .0 .laid
 
 num-requires : tie.Need-num-requires
 num-requires c κs = let s = entry c in can-read (names-fit (s .pre .0) (given c) _ (s .pre .1 .0 .0) .held) (s .pre .1 .0 .1 .0)
