@@ -5,12 +5,13 @@
 //! stored bytes follow the words; soundness is decided by making the index again and comparing bytes.
 //!
 //! The data's way is the reading order: [`graph`], [`closure`], [`groups`], [`labels`], [`index`], [`form`], [`stored`],
-//! [`sound`] with [`every`] beside it, [`question`], [`calls`], [`batch`], [`convert`], [`turned`], [`host`], [`text`]. [`chance`] makes graphs,
+//! [`sound`] with [`every`] beside it, [`question`], [`calls`], [`batch`], [`chain`], [`convert`], [`turned`], [`host`], [`text`]. [`chance`] makes graphs,
 //! orders and damage for comparisons.
 
 pub mod batch;
 pub mod bounds;
 pub mod calls;
+pub mod chain;
 pub mod chance;
 pub mod closure;
 pub mod convert;
@@ -30,6 +31,7 @@ pub mod turned;
 
 pub use batch::ask_all;
 pub use calls::{ask, build, list, open};
+pub use chain::chain;
 pub use convert::{convert_down, convert_up};
 pub use form::{Form, FORMS, FORM_1, FORM_2, FORM_3, ORDINARY};
 pub use graph::Graph;

@@ -250,6 +250,19 @@ pub fn list_around(library: &mut Library, face: Face, index: &[u8], vertex: u32)
     }
 }
 
+/// The chain into a list of this size: what both say.
+pub fn chain(library: &mut Library, index: &[u8], source: u32, target: u32, lent: Lent, size: usize) -> Outcome<Option<u32>> {
+    let (mut ours, mut theirs) = (lent.buffers(Face::Ordinary), lent.buffers(Face::Ordinary));
+    let (mut got, mut expected) = (vec![BLANK; size], vec![BLANK; size]);
+    let result = library.chain(index, source, target, &mut ours.marks, &mut ours.words, &mut got);
+    let right = independent::chain(index, source, target, &mut theirs.marks, &mut theirs.words, &mut expected);
+    let what = format!("the chain from {source} to {target} of {} bytes with {lent:?} into {size}: {right:?}", index.len());
+    assert_eq!(result, right, "{what}");
+    assert!(got == expected, "{what}: first difference at {:?}", first_difference(&got, &expected));
+    ours.agree(&theirs, &what);
+    result
+}
+
 /// An index of this form turned into the other one, into an output of this size: the number of the refusal, 0 where there is none.
 pub fn convert(library: &mut Library, from: &Form, index: &[u8], lent: Lent, out: usize) -> u32 {
     let (mut ours, mut theirs) = (lent.buffers(Face::Ordinary), lent.buffers(Face::Ordinary));

@@ -96,6 +96,7 @@ const RUN: u32 = 6;
 const ASK_ALL: u32 = 7;
 const CONVERT_UP: u32 = 8;
 const CONVERT_DOWN: u32 = 9;
+const CHAIN: u32 = 10;
 
 /// The signal of a touch that is forbidden.
 const SIGSEGV: i32 = 11;
@@ -252,6 +253,20 @@ impl Library {
         self.marks_back(marks, words);
         self.words_back(out);
         outcome(refusal, extra, count == 0, count)
+    }
+
+    /// The chain into a list of steps: how many it has, or none for a no.
+    pub fn chain(&mut self, index: &[u8], source: u32, target: u32, marks: &mut [u8], words: &mut [u32], steps: &mut [u32]) -> Outcome<Option<u32>> {
+        self.call(CHAIN, Face::Ordinary);
+        self.number(source);
+        self.number(target);
+        self.index(index, marks, words);
+        self.words(steps);
+        let [refusal, extra, yes, count] = self.reply();
+        self.marks_back(marks, words);
+        self.words_back(steps);
+        assert!(yes <= 1 && (yes == 1 || count == 0), "a no has no steps");
+        outcome(refusal, extra, yes == 0, (yes == 1).then_some(count))
     }
 
     /// An index of this form turned into the other one. Form 1 is lent no words.

@@ -19,6 +19,9 @@ use Rattle.convert.specs.Convert.{convertAnswer}
 use Rattle.convert.proofs.convert_up as convert-up-call
 use Rattle.convert.proofs.convert_down as convert-down-call
 use Rattle.convert.proofs.Finished.{converted-once}
+use Rattle.chain.specs.Traced.{chainAnswer}
+use Rattle.chain.proofs.chain as chain-call
+use Rattle.chain.proofs.Theorems.{chained-once}
 use Rattle.turned.proofs.build_turned as build-turned-call
 use Rattle.turned.proofs.open_turned as open-turned-call
 use Rattle.turned.proofs.ask_turned as ask-turned-call
@@ -41,7 +44,7 @@ use Rattle.demands.proofs.Orders.{fewer, on-a-no}
 
 -- 1. The checker's theorem of each call is cited; what the contract says is, equation by equation, what is allowed.
 pub demand-1 : EveryCall
-unfolding buildAnswer buildCall openAnswer askAnswer batchAnswer listAnswer convertAnswer
+unfolding buildAnswer buildCall openAnswer askAnswer batchAnswer listAnswer chainAnswer convertAnswer
 demand-1 = record {
   build = record {
     met = build-call.Met.met;
@@ -103,6 +106,12 @@ demand-1 = record {
     allows = λ κs a r e (answers, (leaves, (clears, writes))). record { answers = answers; leaves = leaves; clears = clears; writes = writes };
     once = λ κs a r r' e e'. converted-once;
   };
+  chain = record {
+    met = chain-call.Met.met;
+    nothing-asked = λ κs a. tt;
+    allows = λ κs a r e (answers, (leaves, (clears, writes))). record { answers = answers; leaves = leaves; clears = clears; writes = writes };
+    once = λ κs a r r' e e'. chained-once;
+  };
   build-turned = record {
     met = build-turned-call.Met.met;
     nothing-asked = λ κs a. tt;
@@ -157,6 +166,7 @@ demand-1 = record {
   ask-refuses = λ T b u v marks work number extra. first-refusal _ number extra _;
   ask-all-refuses = λ T b sources targets marks work answers number extra. first-refusal _ number extra _;
   list-refuses = λ T b u marks work out number extra. first-refusal _ number extra _;
+  chain-refuses = λ T b u v marks work out number extra. first-refusal _ number extra _;
   convert-refuses = λ from to b marks work out number extra. first-refusal _ number extra _;
 }
 

@@ -31,6 +31,9 @@ use Rattle.convert.specs.Convert.{convertEarly, convertLate, convertAnswer}
 use Rattle.convert.specs.Converted as converting
 use Rattle.convert.proofs.convert_up as convert-up-call
 use Rattle.convert.proofs.convert_down as convert-down-call
+use Rattle.chain.specs.Traced.{chainLate, chainAnswer}
+use Rattle.chain.specs.Chained as chaining
+use Rattle.chain.proofs.chain as chain-call
 use Rattle.turned.proofs.build_turned as build-turned-call
 use Rattle.turned.proofs.open_turned as open-turned-call
 use Rattle.turned.proofs.ask_turned as ask-turned-call
@@ -102,6 +105,11 @@ pub record EveryCall : Type 2 where
       listing.Allowed ordinary (now index) vertex (now marks) (now work) (now out) r (now marks') (now work') (now out'))
       (λ κs (_, (_, (marks, (work, (out, _))))) (_, (_, (marks', (work', (out', _))))).
       (now marks ≡ now marks') × ((now work ≡ now work') × (now out ≡ now out')))
+  pub chain : Answers chain-call.Kinds.ps chain-call.Kinds.r chain-call.Statement.statement chain-call.Reads.Asked chain-call.Reads.Learnt
+      (λ κs (index, (source, (target, (marks, (work, (steps, _)))))) r (_, (_, (_, (marks', (work', (steps', _)))))).
+      chaining.Allowed ordinary (now index) source target (now marks) (now work) (now steps) r (now marks') (now work') (now steps'))
+      (λ κs (_, (_, (_, (marks, (work, (steps, _)))))) (_, (_, (_, (marks', (work', (steps', _)))))).
+      (now marks ≡ now marks') × ((now work ≡ now work') × (now steps ≡ now steps')))
   -- the calls on a turned index
   pub build-turned : Answers build-turned-call.Kinds.ps build-turned-call.Kinds.r build-turned-call.Statement.statement build-turned-call.Reads.Asked
       build-turned-call.Reads.Learnt
@@ -168,3 +176,5 @@ pub record EveryCall : Type 2 where
       → (listAnswer T b u marks work out ≡ refused number extra) ↔ Refuses (listEarly T b u marks work ++ listLate b u out) number extra
   pub convert-refuses : (from to : ℕ) (b : List ℕ) (marks work out number extra : ℕ)
       → (convertAnswer from to b marks work out ≡ refused number extra) ↔ Refuses (convertEarly from b marks work ++ convertLate to b out) number extra
+  pub chain-refuses : (T : FormsTaken) (b : List ℕ) (u v marks work out number extra : ℕ)
+      → (chainAnswer T b u v marks work out ≡ refused number extra) ↔ Refuses (askEarly T b u v marks work ++ chainLate b u v out) number extra

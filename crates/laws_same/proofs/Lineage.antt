@@ -20,14 +20,14 @@ use Rattle.laws_same.specs.Same.{ChildGroup, SameLineage}
 use Rattle.laws_same.proofs.Names.{names-by-groups}
 
 -- two tests of which each holds where the other does
-tests-same : (a b : Bool) → (a ≡ true) ↔ (b ≡ true) → a ≡ b
+pub tests-same : (a b : Bool) → (a ≡ true) ↔ (b ≡ true) → a ≡ b
 tests-same true b h = sym (h .0 refl)
 tests-same false true h = h .1 refl
 tests-same false false h = refl
 
 module _ (G : Graph) (ends : Ends G) (names : List ℕ) (are : names ≡ namesOf G) where
   -- a name of the group list is a vertex and its own name
-  listed-own : (a : ℕ) → among a (groupList names) ≡ true → (a < G .n) × (getD names a 0 ≡ a)
+  pub listed-own : (a : ℕ) → among a (groupList names) ≡ true → (a < G .n) × (getD names a 0 ≡ a)
   listed-own a i = let (l, own) = listed-name names a i in (omega (arith, names-long G ends, ap length are), own)
 
   -- vertices have one name exactly where they are in one group
@@ -54,7 +54,7 @@ module _ (G : Graph) (ends : Ends G) (names : List ℕ) (are : names ≡ namesOf
         (sym (one-name a (c .s) la (ends .sources-low (c .s) (c .t) (c .edge)) .1 (c .from)) ∙ na)
         (sym (one-name b (c .t) lb (ends .targets-low (c .s) (c .t) (c .edge)) .1 (c .into)) ∙ nb)
 
-    child-exactly : (isChild G names a b ≡ true) ↔ ChildGroup G a b
+    pub child-exactly : (isChild G names a b ≡ true) ↔ ChildGroup G a b
     child-exactly = (child-to-group, group-to-child)
 
 module _ (G H : Graph) (ends-G : Ends G) (ends-H : Ends H) (size : G .n ≡ H .n) (same : SameLineage G H) where

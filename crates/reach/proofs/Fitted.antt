@@ -95,7 +95,7 @@ module _
     abbrev I : Index
     I = indexAt l names groups levels starts children labels
 
-    index-is : indexIn b ≡ I
+    pub index-is : indexIn b ≡ I
     index-is = sym (index-at (O .laid) P)
 
     S : Lent l names groups levels starts children labels
@@ -153,7 +153,7 @@ module _
     first-labelled = first-sound (I .children) (I .labels) (sound-index .labelled) (omega (arith, labels-long w labels k d, O .laid .least))
 
     module _ (places : List ℕ) (R : Part labels (w * (0 * (4 * k) + 3 * k)) (w * k) places) where
-      places-are : firstLabels (labelsIn w labels k d) .byRank ≡ numbers w places k
+      pub places-are : firstLabels (labelsIn w labels k d) .byRank ≡ numbers w places k
       unfolding labellingIn placesOf
       places-are = ap (λ (z : Labelling). z .byRank) first-is ∙ ap (λ (s : List ℕ). numbers w s k) (sym (R .is))
 

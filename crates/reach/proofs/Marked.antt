@@ -90,7 +90,7 @@ module _ {I : Index} (S : Sound I) (some : 0 < length (I .labels)) where
     there : length (I .names) ≤ length clear
     there = omega (arith, cleared-long (length (I .names)) marks room)
 
-    start-only : (p : ℕ) → p < length (I .children) → marked (I .groups) (markIn I u clear) p ≡ true → p ≡ placeIn I u
+    pub start-only : (p : ℕ) → p < length (I .children) → marked (I .groups) (markIn I u clear) p ≡ true → p ≡ placeIn I u
     start-only p h m =
         elim (mark-exactly S u hu clear there p h .0 m) [
           | inl e ↦ e

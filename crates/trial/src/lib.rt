@@ -3,6 +3,7 @@
 use ask::Asked;
 use ask_all::Batched;
 use build::Built;
+use chain::Chained;
 use convert::Converted;
 use list::Listed;
 use open::Opened;
@@ -228,6 +229,46 @@ pub extern "C" fn trial_list_turned(
     vertex: u32,
 ) -> Counted {
     listed_of(turned::list_turned(index, vertex, marks, work, out))
+}
+
+// Whether there is a chain and how many steps it has, or a refusal with its number and its extra number.
+#[repr(C)]
+pub struct Chain {
+    pub refusal: u32,
+    pub extra: u32,
+    pub yes: u32,
+    pub steps: u32,
+}
+
+#[no_mangle]
+pub extern "C" fn trial_chain(
+    index: &[u8],
+    marks: &mut [u8],
+    work: &mut [u32],
+    steps: &mut [u32],
+    source: u32,
+    target: u32,
+) -> Chain {
+    match chain::chain(index, source, target, marks, work, steps) {
+        Chained::Steps(count) => Chain {
+            refusal: 0,
+            extra: 0,
+            yes: 1,
+            steps: count,
+        },
+        Chained::No => Chain {
+            refusal: 0,
+            extra: 0,
+            yes: 0,
+            steps: 0,
+        },
+        Chained::Refused { number, extra } => Chain {
+            refusal: number,
+            extra,
+            yes: 0,
+            steps: 0,
+        },
+    }
 }
 
 #[no_mangle]
