@@ -25,7 +25,7 @@
  * for each of the d labellings through the k groups and the c child entries; it also looks up each group once, by halving, among the children of another.
  * A question then takes at most k openings and c tries of a child, with at most d labellings read a try.
  *
- * STACK. The walk of a question nests once for each level of the index that it goes down, 368 bytes each time: 1.5 MB for an index that is one line of 4,096
+ * STACK. The walk of a question nests once for each level of the index that it goes down, 384 bytes each time: 1.6 MB for an index that is one line of 4,096
  * groups, and a few hundred bytes for a flat one. drobisten_ask_all takes 16 KB more,
  * for a table. Everything else is loops.
  */
