@@ -107,7 +107,7 @@ fn row_passes(
     num(levels, w, p) == level
 }
 
-// Whether that holds of every group.
+// Whether the children of every group are places, strictly rising, and the level of every group is what they give.
 fn rows_pass(starts: &[u8], children: &[u8], levels: &[u8], w: usize, k: usize, c: usize) -> bool
     requires { ⌜ Children w (now starts) (now children) k c ⌝ }
     requires { ⌜ Holds w (now levels) k ⌝ }
