@@ -1,5 +1,5 @@
 -- Two tests of all numbers below n, made together or one after the other.
-use mathlib.Core.Bool.{Bool, true, false, _&&_, and-false}
+use mathlib.Core.Bool.{Bool, true, false, _&&_}
 use mathlib.Core.Path.{_≡_, refl, ap, _∙_}
 use Prim.Native.Nat.{ℕ, zero, suc}
 use Rattle.lineage.specs.Lists.{allBelow}

@@ -1,7 +1,7 @@
 -- The test of one labelling as the three that the code makes: the lengths that it asks for hold by the count, ranks and inner intervals are tested together,
 -- and so are e, s and the blocks of a group. The first, passed, is what the walks over blocks ask for.
 use mathlib.Core.Bool.{Bool, true, false, not, _&&_}
-use mathlib.Core.Path.{_≡_, refl, sym, ap, ap₂, _∙_}
+use mathlib.Core.Path.{_≡_, refl, ap, ap₂, _∙_}
 use mathlib.Core.List.{List}
 use Prim.Native.Nat.{ℕ}
 use borrow.Author.Tests.{eq-eqb}

@@ -1,5 +1,5 @@
-// The tests of labellings: with those of the groups they decide whether contents are sound. Each labelling is tested by its ranks and by its blocks, while marks tell
-// who is somebody's child.
+// The tests of labellings: with those of the groups they decide whether contents are sound. Each labelling is tested by its ranks, its intervals and its roots, while
+// marks tell who is somebody's child.
 ghost use mathlib.Core.Path.{_≡_};
 ghost use Prim.Native.Nat.{_≤_, _<_};
 ghost use lib.ListN.{length};

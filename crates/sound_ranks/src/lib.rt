@@ -1,4 +1,5 @@
-// The tests of s, m and e of a labelling, group by group: each rank is the rank of its place, e falls along children, s is the least below, m is a rank not above e.
+// The tests of s, m and e of a labelling, rank by rank: each is the rank of its place, whose m is a rank not above e; and group by group: e falls along its children, s is
+// the least below.
 ghost use mathlib.Core.Path.{_≡_};
 ghost use Prim.Native.Nat.{_+_, _*_, _^_, _<_};
 ghost use Rattle.lineage.specs.Lists.{allBelow};
@@ -37,8 +38,8 @@ fn rank_passes(triples: &[u8], places: &[u8], w: usize, k: usize, r: usize) -> b
     (e == r + 1) & ((1 <= m) & (m <= e))
 }
 
-// Whether the place at every rank has that rank, and its m is a rank not above its e. A rank that fails does not end the loop: a loop that goes on only where e
-// is r + 1 is compiled to count by the e that it reads, and waits for each.
+// Whether the place at every rank has that rank, and its m is a rank not above its e. The loop does not end at a rank that fails: if it went on only where e is r + 1, the
+// compiler would take the e that was read for the next r, and each turn would wait for the reads of the one before.
 pub fn ranks_pass(triples: &[u8], places: &[u8], w: usize, k: usize) -> bool
     requires { ⌜ Labels w (now triples) (now places) k ⌝ }
     ensures { λ a. ⌜ a ≡ allBelow k (rankAndInner k (labellingIn w (now (triples .entry)) (now (places .entry)) k)) ⌝ }
