@@ -2,11 +2,11 @@
 use mathlib.Core.Bool.{true}
 use mathlib.Core.Path.{_≡_}
 use mathlib.Core.List.{List}
-use Prim.Native.Nat.{ℕ, suc, _+_, _*_, _≤_, _<_}
+use Prim.Native.Nat.{ℕ, _+_, _*_, _≤_, _<_}
 use native.Mathlib.Omega.{arith}
-use lib.Dec.{eqb, leb, ltb}
+use lib.Dec.{leb}
 use lib.ListN.{getD}
-use borrow.Author.Tests.{ltb-true, leb-true, eqb-true}
+use borrow.Author.Tests.{leb-true}
 use Rattle.lineage.specs.Numbers.{numAt}
 use Rattle.lineage.specs.Labels.{Labelling, nobodysChild}
 use Rattle.lineage.specs.Sound.{walkEnds, rankPasses, innerPasses}
@@ -16,25 +16,17 @@ use Rattle.laws.proofs.Lists.{all-below}
 use Rattle.stored.specs.Sections.{labellingIn}
 use Rattle.stored.proofs.Sections.{places-long}
 use Rattle.sound_ranks.proofs.Read.{m-was, e-was, place-was}
+use Rattle.sound_ranks.proofs.Ranks.{rank-low, rank-own}
 use Rattle.sound_blocks.specs.Fit.{Ranked}
 use Rattle.sound_blocks.specs.Marks.{unmarked, Tells}
 use Rattle.sound_blocks.proofs.Walk.{Left, walk-agrees}
 
-module _ (l : Labelling) (k : ℕ) where
-  abbrev at : ℕ → ℕ
-  at r = getD (l .byRank) r 0
-
+module _ (l : Labelling) where
   abbrev e : ℕ → ℕ
   e p = getD (l .e) p 0
 
   abbrev m : ℕ → ℕ
   m p = getD (l .m) p 0
-
-  rank-low : (r : ℕ) → rankPasses k l r ≡ true → at r < k
-  rank-low r t = ltb-true (at r) k (and-left (ltb (at r) k) (eqb (e (at r)) (suc r)) t)
-
-  rank-own : (r : ℕ) → rankPasses k l r ≡ true → e (at r) ≡ suc r
-  rank-own r t = eqb-true (e (at r)) (suc r) (and-right (ltb (at r) k) (eqb (e (at r)) (suc r)) t)
 
   inner-some : (p : ℕ) → innerPasses l p ≡ true → 1 ≤ m p
   inner-some p t = leb-true 1 (m p) (and-left (leb 1 (m p)) (leb (m p) (e p)) t)
@@ -54,30 +46,30 @@ module _ {w k : ℕ} {triples places : List ℕ} (N : Ranked w triples places k)
 
   -- the place at a rank that was read
   pub place-low : {r p : ℕ} → r < k → p ≡ numAt w places r → p < k
-  place-low {r} {p} h i = omega (arith, rank-low l k r (ranked r h), place-was (N .labels) h i)
+  place-low {r} {p} h i = omega (arith, rank-low k l r (ranked r h), place-was (N .labels) h i)
 
   pub m-some : {p x : ℕ} → p < k → x ≡ numAt w triples (3 * p + 1) → 1 ≤ x
-  m-some {p} h i = omega (arith, inner-some l k p (inner p h), m-was (N .labels .triples-held) places h i)
+  m-some {p} h i = omega (arith, inner-some l p (inner p h), m-was (N .labels .triples-held) places h i)
 
   pub e-some : {p x : ℕ} → p < k → x ≡ numAt w triples (3 * p + 2) → 1 ≤ x
-  e-some {p} h i = omega (arith, inner-some l k p (inner p h), inner-below l k p (inner p h), e-was (N .labels .triples-held) places h i)
+  e-some {p} h i = omega (arith, inner-some l p (inner p h), inner-below l p (inner p h), e-was (N .labels .triples-held) places h i)
 
   pub e-most : {p x : ℕ} → p < k → x ≡ numAt w triples (3 * p + 2) → x ≤ k
   e-most {p} h i =
       omega (
         arith,
         e-was (N .labels .triples-held) places h i,
-        rank-most k (l .byRank) (λ q. getD (l .e) q 0) (places-long w triples places k) (λ r j. rank-low l k r (ranked r j)) (λ r j. rank-own l k r (ranked r j)) p h,
+        rank-most k (l .byRank) (λ q. getD (l .e) q 0) (places-long w triples places k) (λ r j. rank-low k l r (ranked r j)) (λ r j. rank-own k l r (ranked r j)) p h,
       )
 
   pub goes-left : Left l k
   goes-left = record {
     goes = λ r h.
         let p : ℕ = getD (l .byRank) r 0 in
-        omega (arith, rank-own l k r (ranked r h), inner-below l k p (inner p (rank-low l k r (ranked r h))));
+        omega (arith, rank-own k l r (ranked r h), inner-below l p (inner p (rank-low k l r (ranked r h))));
   }
 
   -- the walk over all ranks, by marks that tell who is nobody's child
   pub roots-are : {children : List (List ℕ)} {marks : List ℕ} → Tells children marks k → walkEnds l (unmarked marks) k k 0 ≡ walkEnds l (nobodysChild children) k k 0
   roots-are {children} {marks} T =
-      walk-agrees goes-left (λ r h. rank-low l k r (ranked r h)) (unmarked marks) (nobodysChild children) (T .right) 0 k k (omega arith)
+      walk-agrees goes-left (λ r h. rank-low k l r (ranked r h)) (unmarked marks) (nobodysChild children) (T .right) 0 k k (omega arith)

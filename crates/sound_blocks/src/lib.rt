@@ -1,5 +1,5 @@
-// The tests of inner intervals side by side: that of each group is its own rank and those of children of its own, and all ranks are those of roots. The walks over
-// the blocks of all groups pass each place at most once, and look a child up in its parent's row by halves.
+// The tests of a labelling's intervals in one pass over the groups, and of its roots. The inner interval of each group is its own rank and, side by side, those of children
+// of its own, and all ranks are those of roots. The walks over the blocks of all groups pass each place at most once, and look a child up in its parent's row by halves.
 ghost use mathlib.Core.Path.{_≡_};
 ghost use Prim.Native.Nat.{_≤_, _<_};
 ghost use lib.ListN.{length};
@@ -9,10 +9,12 @@ ghost use Rattle.stored.specs.Sections.{childrenIn, labellingIn};
 ghost use Rattle.stored.specs.Rows.{Places};
 ghost use Rattle.sound_blocks.specs.Marks.{unmarked};
 ghost use Rattle.sound_blocks.specs.Fit.{Ranked};
+ghost use Rattle.sound_blocks.specs.Tests.{intervalsPass};
 use numbers::count_below;
 use numbers::num;
 use numbers::numbers_from;
 use sound_ranks::label;
+use sound_ranks::outer_passes;
 use stored::parts::E;
 use stored::parts::M;
 use stored::rows::row_span;
@@ -70,8 +72,8 @@ fn block_passes(
     rank == low
 }
 
-// Whether the inner interval of every group is its own rank and, side by side, the inner intervals of its children.
-pub fn blocks_pass(
+// Whether the outer and the inner interval of every group are by the rules.
+pub fn intervals_pass(
     starts: &[u8],
     children: &[u8],
     triples: &[u8],
@@ -82,10 +84,13 @@ pub fn blocks_pass(
 ) -> bool
     requires { ⌜ Places w (now starts) (now children) k c ⌝ }
     requires { ⌜ Ranked w (now triples) (now places) k ⌝ }
-    ensures { λ a. ⌜ a ≡ allBelow k (blockPasses (childrenIn w (now (starts .entry)) (now (children .entry)) k c) (labellingIn w (now (triples .entry)) (now (places .entry)) k)) ⌝ }
+    ensures { λ a. ⌜ a ≡ allBelow k (intervalsPass (childrenIn w (now (starts .entry)) (now (children .entry)) k c) (labellingIn w (now (triples .entry)) (now (places .entry)) k)) ⌝ }
 {
     let mut p = 0;
     while p < k {
+        if !outer_passes(starts, children, triples, w, k, c, p) {
+            return false;
+        }
         if !block_passes(starts, children, triples, places, w, k, c, p) {
             return false;
         }

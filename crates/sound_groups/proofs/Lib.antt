@@ -4,4 +4,5 @@ pub mod Listed
 pub mod Starts
 pub mod Rising
 pub mod Greatest
+pub mod Both
 pub mod Groups

@@ -1,6 +1,6 @@
--- The group list beside all names, rising: one passes over the vertices and, at each that is its own name, over one of the list. What is left of
--- the two is the same exactly where the two are.
-use mathlib.Core.Bool.{Bool, false}
+-- Names and the group list, gone through together: one passes over the vertices, whose names are by the rules, and, at each that is its own name, over
+-- one of the list. What is left of list and names is the same exactly where the two are.
+use mathlib.Core.Bool.{Bool, true, false, not, _&&_, and-false}
 use mathlib.Core.Path.{_≡_, refl, sym, ap, _∙_}
 use mathlib.Core.List.{List, [], _∷_}
 use Prim.Native.Nat.{ℕ, suc, _+_, _≤_, _<_}
@@ -11,13 +11,16 @@ use lib.Dec.{eqb}
 use lib.ListN.{length, getD, drop, drop-of-length-le}
 use lib.Seq.{drop-cons}
 use borrow.Author.Tests.{eq-eqb, ne-eqb}
-use Rattle.lineage.specs.Lists.{upto, those, sameList}
+use Rattle.lineage.specs.Lists.{upto, those, allBelow, sameList}
 use Rattle.lineage.specs.Graph.{groupList}
 use Rattle.lineage.specs.Numbers.{numAt, numbers}
+use Rattle.lineage.specs.Sound.{namesPass}
 use Rattle.laws.proofs.Lists.{length-upto, getD-upto, those-yes, those-no}
+use Rattle.laws.proofs.Passed.{Passed, passed-none, passed-more, passed-all, passed-not}
 use Rattle.numbers.proofs.Numbers.{numbers-long}
 use Rattle.stored.specs.Rows.{Holds}
 use Rattle.stored.proofs.Read.{was-read}
+use Rattle.sound_groups.specs.Tests.{ownName}
 
 -- the vertex is its own group's name
 abbrev own : List ℕ → ℕ → Bool
@@ -26,14 +29,18 @@ own names v = eqb (getD names v 0) v
 -- v of n vertices and p of k names listed are passed
 pub record Listed (names groups : List ℕ) (n k v p : ℕ) : Type 0 where
   pub long : length groups ≡ k
-  pub within : v ≤ n
+  pub owned : Passed (ownName names) n v
   pub held : p ≤ k
   pub same : sameList (drop p groups) (those (own names) (drop v (upto n))) ≡ sameList groups (groupList names)
 
 pub listed-none : (w n k : ℕ) (names groups : List ℕ) → Listed (numbers w names n) (numbers w groups k) n k 0 0
 unfolding groupList
-listed-none w n k names groups =
-    record { long = numbers-long w groups k; within = omega arith; held = omega arith; same = rw (numbers-long w names n) }
+listed-none w n k names groups = record {
+  long = numbers-long w groups k;
+  owned = passed-none (ownName (numbers w names n)) n;
+  held = omega arith;
+  same = rw (numbers-long w names n);
+}
 
 -- the next vertex
 next : (n v : ℕ) → v < n → drop v (upto n) ≡ v ∷ drop (v + 1) (upto n)
@@ -48,42 +55,60 @@ none-left xs p h =
       | no g ↦ let l : length xs ≤ p = omega arith in rw (drop-of-length-le xs l, eq-eqb p (length xs) (omega arith)) refl
     ]
 
-module _ {w n k : ℕ} {names groups : List ℕ} (N : Holds w names n) (G : Holds w groups k)
-    {v p x : ℕ} (L : Listed (numbers w names n) (numbers w groups k) n k v p) (low : v < n) (read : x ≡ numAt w names v)
-  where
-    pub listed-skip : (x ≡ v → ⊥) → Listed (numbers w names n) (numbers w groups k) n k (v + 1) p
-    listed-skip f = record {
-      long = L .long;
-      within = omega arith;
-      held = L .held;
-      same =
-          rw (next n v low, those-no (own (numbers w names n)) v (drop (v + 1) (upto n)) (rw (← (was-read N low read)) (ne-eqb x v f))) at (L .same);
-    }
+-- the test of names and group list as its two halves
+module _ (w n k : ℕ) (names groups : List ℕ) where
+  halves : (allBelow n (ownName (numbers w names n)) && sameList (numbers w groups k) (groupList (numbers w names n))) ≡ namesPass (numbers w names n) (numbers w groups k)
+  unfolding namesPass
+  halves = rw (numbers-long w names n)
 
-    -- at a name
-    module _ (t : x ≡ v) where
-      here : sameList (drop p (numbers w groups k)) (v ∷ those (own (numbers w names n)) (drop (v + 1) (upto n))) ≡ sameList (numbers w groups k) (groupList (numbers w names n))
-      here =
-          rw (next n v low, those-yes (own (numbers w names n)) v (drop (v + 1) (upto n)) (rw (← (was-read N low read)) (eq-eqb x v t))) at (L .same)
+  unlisted : sameList (numbers w groups k) (groupList (numbers w names n)) ≡ false → false ≡ namesPass (numbers w names n) (numbers w groups k)
+  unlisted f = sym (rw f (and-false (allBelow n (ownName (numbers w names n))))) ∙ halves
 
-      pub listed-over : p ≡ k → false ≡ sameList (numbers w groups k) (groupList (numbers w names n))
-      listed-over e = rw (drop-of-length-le (numbers w groups k) {i = p} (omega (arith, L .long))) at here
+module _ {w n k : ℕ} {names groups : List ℕ} (N : Holds w names n) (G : Holds w groups k) {v p : ℕ} (L : Listed (numbers w names n) (numbers w groups k) n k v p) where
+  -- at a vertex, of whose name a function tells r, and its caller asks `!r`
+  module _ {r : Bool} (low : v < n) (told : r ≡ ownName (numbers w names n) v) where
+    pub listed-wrong : not r ≡ true → false ≡ namesPass (numbers w names n) (numbers w groups k)
+    listed-wrong f = rw (← (passed-not (L .owned) low told f)) at (halves w n k names groups)
 
-      module _ {y : ℕ} (room : p < k) (beside : y ≡ numAt w groups p) where
-        there : drop p (numbers w groups k) ≡ y ∷ drop (suc p) (numbers w groups k)
-        there =
-            drop-cons (numbers w groups k) p 0 (omega (arith, L .long))
-            ∙ ap (λ (z : ℕ). z ∷ drop (suc p) (numbers w groups k)) (sym (was-read G room beside))
+    module _ (right : not r ≡ false) {x : ℕ} (read : x ≡ numAt w names v) where
+      pub listed-skip : (x ≡ v → ⊥) → Listed (numbers w names n) (numbers w groups k) n k (v + 1) p
+      listed-skip f = record {
+        long = L .long;
+        owned = passed-more (L .owned) low told right;
+        held = L .held;
+        same =
+            rw (next n v low, those-no (own (numbers w names n)) v (drop (v + 1) (upto n)) (rw (← (was-read N low read)) (ne-eqb x v f))) at (L .same);
+      }
 
-        pub listed-next : y ≡ v → Listed (numbers w names n) (numbers w groups k) n k (v + 1) (p + 1)
-        listed-next e =
-            record { long = L .long; within = omega arith; held = omega arith; same = rw (add-one p) (rw (there, eq-eqb y v e) at here) }
+      -- that is a name
+      module _ (t : x ≡ v) where
+        here : sameList (drop p (numbers w groups k)) (v ∷ those (own (numbers w names n)) (drop (v + 1) (upto n))) ≡ sameList (numbers w groups k) (groupList (numbers w names n))
+        here =
+            rw (next n v low, those-yes (own (numbers w names n)) v (drop (v + 1) (upto n)) (rw (← (was-read N low read)) (eq-eqb x v t))) at (L .same)
 
-        pub listed-other : (y ≡ v → ⊥) → false ≡ sameList (numbers w groups k) (groupList (numbers w names n))
-        listed-other f = rw (there, ne-eqb y v f) at here
+        pub listed-over : p ≡ k → false ≡ namesPass (numbers w names n) (numbers w groups k)
+        listed-over e = unlisted w n k names groups (sym (rw (drop-of-length-le (numbers w groups k) {i = p} (omega (arith, L .long))) at here))
 
-pub listed-all : {names groups : List ℕ} {n k v p : ℕ} → Listed names groups n k v p → n ≤ v → eqb p k ≡ sameList groups (groupList names)
-listed-all {names} {groups} {n} {k} {v} {p} L h =
-    let done : drop v (upto n) ≡ [] = drop-of-length-le (upto n) {i = v} (omega (arith, length-upto n)) in
-    let left : sameList (drop p groups) [] ≡ sameList groups (groupList names) = rw done at (L .same) in
-    rw (← (L .long)) (sym (none-left groups p (omega (arith, L .long, L .held))) ∙ left)
+        module _ {y : ℕ} (room : p < k) (beside : y ≡ numAt w groups p) where
+          there : drop p (numbers w groups k) ≡ y ∷ drop (suc p) (numbers w groups k)
+          there =
+              drop-cons (numbers w groups k) p 0 (omega (arith, L .long))
+              ∙ ap (λ (z : ℕ). z ∷ drop (suc p) (numbers w groups k)) (sym (was-read G room beside))
+
+          pub listed-next : y ≡ v → Listed (numbers w names n) (numbers w groups k) n k (v + 1) (p + 1)
+          listed-next e = record {
+            long = L .long;
+            owned = passed-more (L .owned) low told right;
+            held = omega arith;
+            same = rw (add-one p) (rw (there, eq-eqb y v e) at here);
+          }
+
+          pub listed-other : (y ≡ v → ⊥) → false ≡ namesPass (numbers w names n) (numbers w groups k)
+          listed-other f = unlisted w n k names groups (sym (rw (there, ne-eqb y v f) at here))
+
+  pub listed-all : n ≤ v → eqb p k ≡ namesPass (numbers w names n) (numbers w groups k)
+  listed-all h =
+      let done : drop v (upto n) ≡ [] = drop-of-length-le (upto n) {i = v} (omega (arith, length-upto n)) in
+      let left : sameList (drop p (numbers w groups k)) [] ≡ sameList (numbers w groups k) (groupList (numbers w names n)) = rw done at (L .same) in
+      ap (eqb p) (sym (L .long)) ∙ sym (none-left (numbers w groups k) p (omega (arith, L .long, L .held))) ∙ left
+      ∙ (rw (← (passed-all (L .owned) h)) at (halves w n k names groups))

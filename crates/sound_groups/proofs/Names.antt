@@ -1,16 +1,12 @@
--- The two rules of names at one vertex, from what was read of it and of its name; and the test of names and group list as its two halves.
-use mathlib.Core.Bool.{false, _&&_}
+-- The two rules of names at one vertex, from what was read of it and of its name.
+use mathlib.Core.Bool.{false}
 use mathlib.Core.Path.{_≡_}
 use mathlib.Core.List.{List}
 use Prim.Native.Nat.{ℕ, _≤_, _<_}
 use native.Mathlib.Omega.{arith}
 use lib.Dec.{eqb}
 use borrow.Author.Tests.{le-leb, lt-leb}
-use Rattle.lineage.specs.Lists.{allBelow, sameList}
-use Rattle.lineage.specs.Graph.{groupList}
-use Rattle.lineage.specs.Sound.{namesPass}
 use Rattle.lineage.specs.Numbers.{numAt, numbers}
-use Rattle.numbers.proofs.Numbers.{numbers-long}
 use Rattle.stored.specs.Rows.{Holds}
 use Rattle.sound_groups.specs.Tests.{ownName}
 use Rattle.stored.proofs.Read.{was-read}
@@ -21,9 +17,3 @@ module _ {w n : ℕ} {names : List ℕ} (H : Holds w names n) {v x : ℕ} (low :
 
   pub name-below : {y : ℕ} → x ≤ v → y ≡ numAt w names x → eqb y x ≡ ownName (numbers w names n) v
   name-below {y} h e = rw (← (was-read H low read), le-leb x v h, ← (was-read H {i = x} (omega arith) e))
-
-pub names-is : (w n k : ℕ) (names groups : List ℕ)
-    → (allBelow n (ownName (numbers w names n)) && sameList (numbers w groups k) (groupList (numbers w names n)))
-    ≡ namesPass (numbers w names n) (numbers w groups k)
-unfolding namesPass
-names-is w n k names groups = rw (numbers-long w names n)

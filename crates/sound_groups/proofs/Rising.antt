@@ -1,6 +1,6 @@
 -- A row gone through from its first child on: those passed are places, strictly rising, and the next is at least one more than the last.
-use mathlib.Core.Bool.{Bool, true, false, _&&_, and-false}
-use mathlib.Core.Path.{_≡_, refl, sym, ap}
+use mathlib.Core.Bool.{Bool, false, _&&_, and-false}
+use mathlib.Core.Path.{_≡_, refl, ap}
 use mathlib.Core.List.{List, []}
 use Prim.Native.Nat.{ℕ, zero, suc, _+_, _-_, _≤_, _<_}
 use native.Mathlib.Omega.{arith}
@@ -9,14 +9,14 @@ use lib.Dec.{ltb}
 use lib.ListN.{getD}
 use borrow.Author.Tests.{lt-ltb, le-ltb}
 use Rattle.lineage.specs.Lists.{allBelow}
+use Rattle.lineage.specs.Numbers.{numAt}
 use Rattle.lineage.specs.Sound.{rowPasses}
-use Rattle.laws.proofs.Tests.{and-both}
 use Rattle.laws.proofs.Lists.{all-broken}
 use Rattle.laws.proofs.Passed.{Passed, passed-none, passed-next, passed-all}
 use Rattle.stored.specs.Sections.{childrenIn}
 use Rattle.stored.proofs.Sections.{children-long}
 use Rattle.stored.specs.Rows.{Row, Children}
-use Rattle.stored.proofs.Row.{row-has}
+use Rattle.stored.proofs.Row.{row-has, child-was}
 
 -- child i is a place
 abbrev lowAt : ℕ → List ℕ → ℕ → Bool
@@ -55,27 +55,36 @@ slip zero N h e l = absurd (omega (arith, N .follows))
 slip {row = row} {len = len} (suc i) N h e l =
     all-broken (risesAt row) (len - 1) i (omega arith) (le-ltb (getD row i 0) (getD row (suc i) 0) (omega (arith, N .follows)))
 
-module _ {k len i next q : ℕ} {row : List ℕ} (N : Rising k row len i next) (h : i < len) (e : q ≡ getD row i 0) where
-  pub rising-more : q < k → next ≤ q → Rising k row len (i + 1) (q + 1)
-  rising-more l g = record {
-    low = passed-next (N .low) h (rw (← e) (lt-ltb q k l));
-    rises = let z : i + 1 - 1 ≡ i = omega arith in rw z (step i N h e g);
-    follows = rw (add-one i, add-one q) (ap suc e);
-  }
+-- the row of group p, from what was read; b is what is asked after it
+module _ {w k c p from len : ℕ} {starts children : List ℕ} (K : Children w starts children k c) (R : Row w starts k c p from len) where
+  abbrev row : List ℕ
+  row = getD (childrenIn w starts children k c) p []
 
-  pub rising-high : k ≤ q → (allBelow len (lowAt k row) && allBelow (len - 1) (risesAt row)) ≡ false
-  rising-high l = rw (all-broken (lowAt k row) len i h (rw (← e) (le-ltb q k l)))
+  passes-is : (allBelow len (lowAt k row) && allBelow (len - 1) (risesAt row)) ≡ rowPasses (childrenIn w starts children k c) p
+  passes-is = rw (row-has K R, children-long w starts children k c)
 
-  pub rising-back : q < next → (allBelow len (lowAt k row) && allBelow (len - 1) (risesAt row)) ≡ false
-  rising-back l = rw (slip i N h e l) (and-false (allBelow len (lowAt k row)))
+  broken : (b : Bool) → (allBelow len (lowAt k row) && allBelow (len - 1) (risesAt row)) ≡ false → false ≡ (rowPasses (childrenIn w starts children k c) p && b)
+  broken b f = rw (← passes-is, f)
 
-pub rising-all : {k len i next : ℕ} {row : List ℕ} → Rising k row len i next → len ≤ i → (allBelow len (lowAt k row) && allBelow (len - 1) (risesAt row)) ≡ true
-rising-all {k} {len} {i} {next} {row} N l =
-    let a : i ≡ len = omega (arith, N .low .within) in
-    and-both (sym (passed-all (N .low) l)) (sym (passed-all (N .rises) (omega arith)))
+  module _ {i next q : ℕ} (N : Rising k (getD (childrenIn w starts children k c) p []) len i next) (h : i < len) (read : q ≡ numAt w children (from + i)) where
+    e : q ≡ getD row i 0
+    e = child-was K R h read
 
--- and so with the row of group p
-pub row-passes-is : {w k c p from len : ℕ} {starts children : List ℕ} → Children w starts children k c → Row w starts k c p from len
-    → (allBelow len (lowAt k (getD (childrenIn w starts children k c) p [])) && allBelow (len - 1) (risesAt (getD (childrenIn w starts children k c) p [])))
-    ≡ rowPasses (childrenIn w starts children k c) p
-row-passes-is {w} {k} {c} {p} {from} {len} {starts} {children} K R = rw (row-has K R, children-long w starts children k c)
+    pub rising-more : q < k → next ≤ q → Rising k (getD (childrenIn w starts children k c) p []) len (i + 1) (q + 1)
+    rising-more l g = record {
+      low = passed-next (N .low) h (rw (← e) (lt-ltb q k l));
+      rises = let z : i + 1 - 1 ≡ i = omega arith in rw z (step i N h e g);
+      follows = rw (add-one i, add-one q) (ap suc e);
+    }
+
+    pub rising-high : (b : Bool) → k ≤ q → false ≡ (rowPasses (childrenIn w starts children k c) p && b)
+    rising-high b l = broken b (rw (all-broken (lowAt k row) len i h (rw (← e) (le-ltb q k l))))
+
+    pub rising-back : (b : Bool) → q < next → false ≡ (rowPasses (childrenIn w starts children k c) p && b)
+    rising-back b l = broken b (rw (slip i N h e l) (and-false (allBelow len (lowAt k row))))
+
+  pub rising-all : {i next : ℕ} {a b : Bool} → Rising k (getD (childrenIn w starts children k c) p []) len i next → len ≤ i → a ≡ b
+      → a ≡ (rowPasses (childrenIn w starts children k c) p && b)
+  rising-all {i} N l t =
+      let all : i ≡ len = omega (arith, N .low .within) in
+      rw (← passes-is, ← (passed-all (N .low) l), ← (passed-all (N .rises) (omega arith))) t

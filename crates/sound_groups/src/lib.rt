@@ -3,14 +3,13 @@
 ghost use mathlib.Core.Bool.{_&&_};
 ghost use mathlib.Core.Path.{_≡_};
 ghost use Prim.Native.Nat.{_+_, _<_};
-ghost use Rattle.lineage.specs.Lists.{allBelow, sameList};
-ghost use Rattle.lineage.specs.Graph.{groupList};
+ghost use Rattle.lineage.specs.Lists.{allBelow};
 ghost use Rattle.lineage.specs.Numbers.{numbers};
-ghost use Rattle.lineage.specs.Sound.{namesPass, startsPass, rowPasses, levelPasses, groupsPass};
+ghost use Rattle.lineage.specs.Sound.{namesPass, startsPass, groupsPass};
 ghost use Rattle.stored.specs.Sections.{childrenIn};
-ghost use Rattle.stored.specs.Rows.{Holds, Starts, Children, Places};
+ghost use Rattle.stored.specs.Rows.{Holds, Starts, Children};
 ghost use Rattle.sound_groups.specs.Fit.{Groups};
-ghost use Rattle.sound_groups.specs.Tests.{ownName, levelAbove};
+ghost use Rattle.sound_groups.specs.Tests.{ownName, rowAndLevel};
 use numbers::greater;
 use numbers::num;
 use stored::rows::row_span;
@@ -28,30 +27,18 @@ fn own_name(names: &[u8], w: usize, n: usize, v: usize) -> bool
     num(names, w, name) == name
 }
 
-// Whether the name of each of n vertices is.
-fn own_names(names: &[u8], w: usize, n: usize) -> bool
-    requires { ⌜ Holds w (now names) n ⌝ }
-    ensures { λ r. ⌜ r ≡ allBelow n (ownName (numbers w (now (names .entry)) n)) ⌝ }
-{
-    let mut v = 0;
-    while v < n {
-        if !own_name(names, w, n, v) {
-            return false;
-        }
-        v += 1;
-    }
-    true
-}
-
-// Whether the group list, k names, is all names, rising.
-fn lists_names(names: &[u8], groups: &[u8], w: usize, n: usize, k: usize) -> bool
+// Whether every name is not above its vertex and is its own name, and the group list, k names, is all names, rising.
+fn names_pass(names: &[u8], groups: &[u8], w: usize, n: usize, k: usize) -> bool
     requires { ⌜ Holds w (now names) n ⌝ }
     requires { ⌜ Holds w (now groups) k ⌝ }
-    ensures { λ r. ⌜ r ≡ sameList (numbers w (now (groups .entry)) k) (groupList (numbers w (now (names .entry)) n)) ⌝ }
+    ensures { λ r. ⌜ r ≡ namesPass (numbers w (now (names .entry)) n) (numbers w (now (groups .entry)) k) ⌝ }
 {
     let mut v = 0;
     let mut p = 0;
     while v < n {
+        if !own_name(names, w, n, v) {
+            return false;
+        }
         if num(names, w, v) == v {
             if p == k {
                 return false;
@@ -64,18 +51,6 @@ fn lists_names(names: &[u8], groups: &[u8], w: usize, n: usize, k: usize) -> boo
         v += 1;
     }
     p == k
-}
-
-// Whether every name is not above its vertex and is its own name, and the group list is all names, rising.
-fn names_pass(names: &[u8], groups: &[u8], w: usize, n: usize, k: usize) -> bool
-    requires { ⌜ Holds w (now names) n ⌝ }
-    requires { ⌜ Holds w (now groups) k ⌝ }
-    ensures { λ r. ⌜ r ≡ namesPass (numbers w (now (names .entry)) n) (numbers w (now (groups .entry)) k) ⌝ }
-{
-    if !own_names(names, w, n) {
-        return false;
-    }
-    lists_names(names, groups, w, n, k)
 }
 
 // Whether the child starts are first 0, never falling, last c.
@@ -96,17 +71,27 @@ fn starts_pass(starts: &[u8], w: usize, k: usize, c: usize) -> bool
     num(starts, w, k) == c
 }
 
-// Whether the children of group p are places, strictly rising.
-fn row_passes(starts: &[u8], children: &[u8], w: usize, k: usize, c: usize, p: usize) -> bool
+// Whether the children of group p are places, strictly rising, and its level is what they give.
+fn row_passes(
+    starts: &[u8],
+    children: &[u8],
+    levels: &[u8],
+    w: usize,
+    k: usize,
+    c: usize,
+    p: usize,
+) -> bool
     requires { ⌜ Children w (now starts) (now children) k c ⌝ }
+    requires { ⌜ Holds w (now levels) k ⌝ }
     requires { ⌜ p < k ⌝ }
-    ensures { λ r. ⌜ r ≡ rowPasses (childrenIn w (now (starts .entry)) (now (children .entry)) k c) p ⌝ }
+    ensures { λ r. ⌜ r ≡ rowAndLevel (childrenIn w (now (starts .entry)) (now (children .entry)) k c) (numbers w (now (levels .entry)) k) p ⌝ }
 {
     let row = row_span(starts, w, k, c, p);
     let from = row.from;
     let len = row.len;
     let mut i = 0;
     let mut next = 0;
+    let mut level = 0;
     while i < len {
         let q = num(children, w, from + i);
         if k <= q {
@@ -116,81 +101,21 @@ fn row_passes(starts: &[u8], children: &[u8], w: usize, k: usize, c: usize, p: u
             return false;
         }
         next = q + 1;
-        i += 1;
-    }
-    true
-}
-
-// Whether the children of every group are places, strictly rising.
-fn rows_pass(starts: &[u8], children: &[u8], w: usize, k: usize, c: usize) -> bool
-    requires { ⌜ Children w (now starts) (now children) k c ⌝ }
-    ensures { λ r. ⌜ r ≡ allBelow k (rowPasses (childrenIn w (now (starts .entry)) (now (children .entry)) k c)) ⌝ }
-{
-    let mut p = 0;
-    while p < k {
-        if !row_passes(starts, children, w, k, c, p) {
-            return false;
-        }
-        p += 1;
-    }
-    true
-}
-
-// 0 without children, otherwise one more than the greatest level among the children of group p.
-fn level_above(
-    starts: &[u8],
-    children: &[u8],
-    levels: &[u8],
-    w: usize,
-    k: usize,
-    c: usize,
-    p: usize,
-) -> usize
-    requires { ⌜ Places w (now starts) (now children) k c ⌝ }
-    requires { ⌜ Holds w (now levels) k ⌝ }
-    requires { ⌜ p < k ⌝ }
-    ensures { λ r. ⌜ r ≡ levelAbove (childrenIn w (now (starts .entry)) (now (children .entry)) k c) (numbers w (now (levels .entry)) k) p ⌝ }
-{
-    let row = row_span(starts, w, k, c, p);
-    let from = row.from;
-    let len = row.len;
-    let mut i = 0;
-    let mut level = 0;
-    while i < len {
-        let q = num(children, w, from + i);
         level = greater(level, num(levels, w, q) + 1);
         i += 1;
     }
-    level
+    num(levels, w, p) == level
 }
 
-// Whether the level of group p is what its children give.
-fn level_passes(
-    starts: &[u8],
-    children: &[u8],
-    levels: &[u8],
-    w: usize,
-    k: usize,
-    c: usize,
-    p: usize,
-) -> bool
-    requires { ⌜ Places w (now starts) (now children) k c ⌝ }
+// Whether the children of every group are places, strictly rising, and the level of every group is what they give.
+fn rows_pass(starts: &[u8], children: &[u8], levels: &[u8], w: usize, k: usize, c: usize) -> bool
+    requires { ⌜ Children w (now starts) (now children) k c ⌝ }
     requires { ⌜ Holds w (now levels) k ⌝ }
-    requires { ⌜ p < k ⌝ }
-    ensures { λ r. ⌜ r ≡ levelPasses (childrenIn w (now (starts .entry)) (now (children .entry)) k c) (numbers w (now (levels .entry)) k) p ⌝ }
-{
-    num(levels, w, p) == level_above(starts, children, levels, w, k, c, p)
-}
-
-// Whether the level of every group is what its children give.
-fn levels_pass(starts: &[u8], children: &[u8], levels: &[u8], w: usize, k: usize, c: usize) -> bool
-    requires { ⌜ Places w (now starts) (now children) k c ⌝ }
-    requires { ⌜ Holds w (now levels) k ⌝ }
-    ensures { λ r. ⌜ r ≡ allBelow k (levelPasses (childrenIn w (now (starts .entry)) (now (children .entry)) k c) (numbers w (now (levels .entry)) k)) ⌝ }
+    ensures { λ r. ⌜ r ≡ allBelow k (rowAndLevel (childrenIn w (now (starts .entry)) (now (children .entry)) k c) (numbers w (now (levels .entry)) k)) ⌝ }
 {
     let mut p = 0;
     while p < k {
-        if !level_passes(starts, children, levels, w, k, c, p) {
+        if !row_passes(starts, children, levels, w, k, c, p) {
             return false;
         }
         p += 1;
@@ -221,8 +146,5 @@ pub fn groups_pass(
     if !names_pass(names, groups, w, n, k) {
         return false;
     }
-    if !rows_pass(starts, children, w, k, c) {
-        return false;
-    }
-    levels_pass(starts, children, levels, w, k, c)
+    rows_pass(starts, children, levels, w, k, c)
 }

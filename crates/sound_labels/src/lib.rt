@@ -1,5 +1,5 @@
-// The tests of labellings: with those of the groups they decide whether contents are sound. Each labelling is tested by its ranks and by its blocks, while marks tell
-// who is somebody's child.
+// The tests of labellings: with those of the groups they decide whether contents are sound. Each labelling is tested by its ranks, its intervals and its roots, while
+// marks tell who is somebody's child.
 ghost use mathlib.Core.Path.{_≡_};
 ghost use Prim.Native.Nat.{_≤_, _<_};
 ghost use lib.ListN.{length};
@@ -15,11 +15,8 @@ ghost use Rattle.sound_labels.specs.Tests.{labellingPasses};
 ghost use Rattle.sound_labels.specs.Fit.{Within};
 use numbers::clear_marks;
 use numbers::num;
-use sound_blocks::blocks_pass;
+use sound_blocks::intervals_pass;
 use sound_blocks::roots_pass;
-use sound_ranks::falls_pass;
-use sound_ranks::inners_pass;
-use sound_ranks::outers_pass;
 use sound_ranks::ranks_pass;
 
 // Marks every child: sets the mark of each of the c child entries to 1.
@@ -54,16 +51,7 @@ fn labels_pass(
     if !ranks_pass(triples, places, w, k) {
         return false;
     }
-    if !falls_pass(starts, children, triples, w, k, c) {
-        return false;
-    }
-    if !outers_pass(starts, children, triples, w, k, c) {
-        return false;
-    }
-    if !inners_pass(triples, w, k) {
-        return false;
-    }
-    if !blocks_pass(starts, children, triples, places, w, k, c) {
+    if !intervals_pass(starts, children, triples, places, w, k, c) {
         return false;
     }
     roots_pass(triples, places, marks, w, k)

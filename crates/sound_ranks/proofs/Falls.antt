@@ -1,5 +1,5 @@
--- e along the children of one group, from what was read.
-use mathlib.Core.Bool.{true, false}
+-- e along the children of one group, from what was read; b is what is asked after it.
+use mathlib.Core.Bool.{Bool, false, _&&_}
 use mathlib.Core.Path.{_≡_, _∙_}
 use mathlib.Core.List.{List, []}
 use Prim.Native.Nat.{ℕ, _+_, _*_, _≤_, _<_}
@@ -8,6 +8,8 @@ use borrow.Author.Tests.{lt-ltb, le-ltb}
 use Rattle.lineage.specs.Lists.{allBelow}
 use Rattle.lineage.specs.Numbers.{numAt}
 use Rattle.lineage.specs.Sound.{fallPasses}
+use Rattle.laws.proofs.Lists.{all-broken}
+use Rattle.laws.proofs.Passed.{Passed, passed-next, passed-all}
 use Rattle.stored.specs.Sections.{childrenIn}
 use Rattle.stored.specs.Rows.{Row}
 use Rattle.stored.proofs.Row.{row-has, child-was, child-low}
@@ -18,8 +20,8 @@ use Rattle.sound_ranks.proofs.Read.{e-was}
 module _ {w k c p from len : ℕ} {starts children triples : List ℕ}
     (L : LabelledRows w starts children triples k c) (R : Row w starts k c p from len)
   where
-    pub fall-is : allBelow len (fallsTo (childrenIn w starts children k c) (triplesAlone w triples k) p) ≡ fallPasses (childrenIn w starts children k c) (triplesAlone w triples k) p
-    fall-is = rw (row-has (L .below .entries) R)
+    passes-is : allBelow len (fallsTo (childrenIn w starts children k c) (triplesAlone w triples k) p) ≡ fallPasses (childrenIn w starts children k c) (triplesAlone w triples k) p
+    passes-is = rw (row-has (L .below .entries) R)
 
     module _ {i q x top : ℕ} (low : i < len) (child : q ≡ numAt w children (from + i))
         (its : x ≡ numAt w triples (3 * q + 2)) (own : top ≡ numAt w triples (3 * p + 2))
@@ -28,8 +30,14 @@ module _ {w k c p from len : ℕ} {starts children triples : List ℕ}
         these =
             rw (← (child-was (L .below .entries) R low child), ← (e-was (L .triples-held) [] (child-low (L .below) R low child) its), ← (e-was (L .triples-held) [] (R .low) own))
 
-        pub falls : x < top → fallsTo (childrenIn w starts children k c) (triplesAlone w triples k) p i ≡ true
-        falls h = these ∙ lt-ltb x top h
+        pub falls-more : Passed (fallsTo (childrenIn w starts children k c) (triplesAlone w triples k) p) len i → x < top
+            → Passed (fallsTo (childrenIn w starts children k c) (triplesAlone w triples k) p) len (i + 1)
+        falls-more P h = passed-next P low (these ∙ lt-ltb x top h)
 
-        pub falls-not : top ≤ x → fallsTo (childrenIn w starts children k c) (triplesAlone w triples k) p i ≡ false
-        falls-not h = these ∙ le-ltb x top h
+        pub falls-not : (b : Bool) → top ≤ x → false ≡ (fallPasses (childrenIn w starts children k c) (triplesAlone w triples k) p && b)
+        falls-not b h =
+            rw (← passes-is, all-broken (fallsTo (childrenIn w starts children k c) (triplesAlone w triples k) p) len i low (these ∙ le-ltb x top h))
+
+    pub falls-all : {i : ℕ} {a b : Bool} → Passed (fallsTo (childrenIn w starts children k c) (triplesAlone w triples k) p) len i → len ≤ i → a ≡ b
+        → a ≡ (fallPasses (childrenIn w starts children k c) (triplesAlone w triples k) p && b)
+    falls-all P l t = rw (← passes-is, ← (passed-all P l)) t

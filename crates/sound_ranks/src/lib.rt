@@ -1,11 +1,11 @@
-// The tests of s, m and e of a labelling, group by group: each rank is the rank of its place, e falls along children, s is the least below, m is a rank not above e.
+// The tests of s, m and e of a labelling, rank by rank: each is the rank of its place, whose m is a rank not above e; and group by group: e falls along its children, s is
+// the least below.
 ghost use mathlib.Core.Path.{_≡_};
 ghost use Prim.Native.Nat.{_+_, _*_, _^_, _<_};
 ghost use Rattle.lineage.specs.Lists.{allBelow};
 ghost use Rattle.lineage.specs.Numbers.{numAt};
-ghost use Rattle.lineage.specs.Sound.{rankPasses, fallPasses, outerPasses, innerPasses};
 ghost use Rattle.stored.specs.Sections.{childrenIn, labellingIn};
-ghost use Rattle.sound_ranks.specs.Tests.{triplesAlone, leastBelow};
+ghost use Rattle.sound_ranks.specs.Tests.{triplesAlone, rankAndInner, fallAndOuter};
 ghost use Rattle.sound_ranks.specs.Fit.{Triples, Labels, LabelledRows};
 use numbers::lesser;
 use numbers::num;
@@ -23,36 +23,38 @@ pub fn label(triples: &[u8], w: usize, k: usize, p: usize, j: usize) -> usize
     num(triples, w, 3 * p + j)
 }
 
-// Whether the place at rank r, from 0, has that rank.
+// Whether the place at rank r, from 0, has that rank, and its m is a rank not above its e.
 fn rank_passes(triples: &[u8], places: &[u8], w: usize, k: usize, r: usize) -> bool
     requires { ⌜ Labels w (now triples) (now places) k ⌝ }
     requires { ⌜ r < k ⌝ }
-    ensures { λ a. ⌜ a ≡ rankPasses k (labellingIn w (now (triples .entry)) (now (places .entry)) k) r ⌝ }
+    ensures { λ a. ⌜ a ≡ rankAndInner k (labellingIn w (now (triples .entry)) (now (places .entry)) k) r ⌝ }
 {
     let p = num(places, w, r);
     if k <= p {
         return false;
     }
-    label(triples, w, k, p, E) == r + 1
+    let m = label(triples, w, k, p, M);
+    let e = label(triples, w, k, p, E);
+    (e == r + 1) & ((1 <= m) & (m <= e))
 }
 
-// Whether the place at every rank has that rank.
+// Whether the place at every rank has that rank, and its m is a rank not above its e. The loop does not end at a rank that fails: if it went on only where e is r + 1, the
+// compiler would take the e that was read for the next r, and each turn would wait for the reads of the one before.
 pub fn ranks_pass(triples: &[u8], places: &[u8], w: usize, k: usize) -> bool
     requires { ⌜ Labels w (now triples) (now places) k ⌝ }
-    ensures { λ a. ⌜ a ≡ allBelow k (rankPasses k (labellingIn w (now (triples .entry)) (now (places .entry)) k)) ⌝ }
+    ensures { λ a. ⌜ a ≡ allBelow k (rankAndInner k (labellingIn w (now (triples .entry)) (now (places .entry)) k)) ⌝ }
 {
     let mut r = 0;
+    let mut passed = true;
     while r < k {
-        if !rank_passes(triples, places, w, k, r) {
-            return false;
-        }
+        passed = passed & rank_passes(triples, places, w, k, r);
         r += 1;
     }
-    true
+    passed
 }
 
-// Whether e falls along the children of group p.
-fn fall_passes(
+// Whether e falls along the children of group p, and its s is the least of its own e and their s.
+pub fn outer_passes(
     starts: &[u8],
     children: &[u8],
     triples: &[u8],
@@ -63,135 +65,21 @@ fn fall_passes(
 ) -> bool
     requires { ⌜ LabelledRows w (now starts) (now children) (now triples) k c ⌝ }
     requires { ⌜ p < k ⌝ }
-    ensures { λ a. ⌜ a ≡ fallPasses (childrenIn w (now (starts .entry)) (now (children .entry)) k c) (triplesAlone w (now (triples .entry)) k) p ⌝ }
+    ensures { λ a. ⌜ a ≡ fallAndOuter (childrenIn w (now (starts .entry)) (now (children .entry)) k c) (triplesAlone w (now (triples .entry)) k) p ⌝ }
 {
     let row = row_span(starts, w, k, c, p);
     let from = row.from;
     let len = row.len;
     let top = label(triples, w, k, p, E);
+    let mut s = top;
     let mut i = 0;
     while i < len {
         let q = num(children, w, from + i);
         if top <= label(triples, w, k, q, E) {
             return false;
         }
-        i += 1;
-    }
-    true
-}
-
-// Whether e falls along the children of every group.
-pub fn falls_pass(
-    starts: &[u8],
-    children: &[u8],
-    triples: &[u8],
-    w: usize,
-    k: usize,
-    c: usize,
-) -> bool
-    requires { ⌜ LabelledRows w (now starts) (now children) (now triples) k c ⌝ }
-    ensures { λ a. ⌜ a ≡ allBelow k (fallPasses (childrenIn w (now (starts .entry)) (now (children .entry)) k c) (triplesAlone w (now (triples .entry)) k)) ⌝ }
-{
-    let mut p = 0;
-    while p < k {
-        if !fall_passes(starts, children, triples, w, k, c, p) {
-            return false;
-        }
-        p += 1;
-    }
-    true
-}
-
-// The least of group p's own e and its children's s.
-fn least_below(
-    starts: &[u8],
-    children: &[u8],
-    triples: &[u8],
-    w: usize,
-    k: usize,
-    c: usize,
-    p: usize,
-) -> usize
-    requires { ⌜ LabelledRows w (now starts) (now children) (now triples) k c ⌝ }
-    requires { ⌜ p < k ⌝ }
-    ensures { λ r. ⌜ r ≡ leastBelow (childrenIn w (now (starts .entry)) (now (children .entry)) k c) (triplesAlone w (now (triples .entry)) k) p ⌝ }
-{
-    let row = row_span(starts, w, k, c, p);
-    let from = row.from;
-    let len = row.len;
-    let mut s = label(triples, w, k, p, E);
-    let mut i = 0;
-    while i < len {
-        let q = num(children, w, from + i);
         s = lesser(s, label(triples, w, k, q, S));
         i += 1;
     }
-    s
-}
-
-// Whether s of group p is the least of its own e and its children's s.
-fn outer_passes(
-    starts: &[u8],
-    children: &[u8],
-    triples: &[u8],
-    w: usize,
-    k: usize,
-    c: usize,
-    p: usize,
-) -> bool
-    requires { ⌜ LabelledRows w (now starts) (now children) (now triples) k c ⌝ }
-    requires { ⌜ p < k ⌝ }
-    ensures { λ a. ⌜ a ≡ outerPasses (childrenIn w (now (starts .entry)) (now (children .entry)) k c) (triplesAlone w (now (triples .entry)) k) p ⌝ }
-{
-    label(triples, w, k, p, S) == least_below(starts, children, triples, w, k, c, p)
-}
-
-// Whether s of every group is the least of its own e and its children's s.
-pub fn outers_pass(
-    starts: &[u8],
-    children: &[u8],
-    triples: &[u8],
-    w: usize,
-    k: usize,
-    c: usize,
-) -> bool
-    requires { ⌜ LabelledRows w (now starts) (now children) (now triples) k c ⌝ }
-    ensures { λ a. ⌜ a ≡ allBelow k (outerPasses (childrenIn w (now (starts .entry)) (now (children .entry)) k c) (triplesAlone w (now (triples .entry)) k)) ⌝ }
-{
-    let mut p = 0;
-    while p < k {
-        if !outer_passes(starts, children, triples, w, k, c, p) {
-            return false;
-        }
-        p += 1;
-    }
-    true
-}
-
-// Whether m of group p is a rank not above its e.
-fn inner_passes(triples: &[u8], w: usize, k: usize, p: usize) -> bool
-    requires { ⌜ Triples w (now triples) k ⌝ }
-    requires { ⌜ p < k ⌝ }
-    ensures { λ a. ⌜ a ≡ innerPasses (triplesAlone w (now (triples .entry)) k) p ⌝ }
-{
-    let m = label(triples, w, k, p, M);
-    if m < 1 {
-        return false;
-    }
-    m <= label(triples, w, k, p, E)
-}
-
-// Whether m of every group is a rank not above its e.
-pub fn inners_pass(triples: &[u8], w: usize, k: usize) -> bool
-    requires { ⌜ Triples w (now triples) k ⌝ }
-    ensures { λ a. ⌜ a ≡ allBelow k (innerPasses (triplesAlone w (now (triples .entry)) k)) ⌝ }
-{
-    let mut p = 0;
-    while p < k {
-        if !inner_passes(triples, w, k, p) {
-            return false;
-        }
-        p += 1;
-    }
-    true
+    label(triples, w, k, p, S) == s
 }

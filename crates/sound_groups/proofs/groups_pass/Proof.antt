@@ -1,7 +1,7 @@
--- `sound_groups::groups_pass` meets its contract: the four functions compute the test's parts, each looked at where those before it hold.
+-- `sound_groups::groups_pass` meets its contract: the three functions compute the test's parts, each looked at where those before it hold.
 use mathlib.Core.Path.{_∙_}
 use Rattle.laws.proofs.Tests.{and-fails, and-goes, told-true}
-use Rattle.sound_groups.proofs.Groups.{groups-is, children-after, places-after}
+use Rattle.sound_groups.proofs.Groups.{groups-is, children-after}
 use Rattle.sound_groups.proofs.groups_pass.Statement.{statement}
 use Rattle.sound_groups.proofs.groups_pass.Tie as tie
 
@@ -27,31 +27,15 @@ returns-2 c =
 rows-pass-requires : tie.Need-rows-pass-requires
 rows-pass-requires c κs =
     let one = c .before .before in
-    children-after (entry (one .before .before) .pre) (told-true (one .before .starts-pass .ensures) (one .if1 .left))
+    let G = entry (one .before .before) .pre in
+    (children-after G (told-true (one .before .starts-pass .ensures) (one .if1 .left)), G .levels-held)
 
 returns-3 : tie.Need-returns-3
 returns-3 c =
-    let two = c .before .before in
+    let two = c .before in
     let one = two .before .before in
     and-goes (one .before .starts-pass .ensures) (one .if1 .left)
-    (and-goes (two .before .names-pass .ensures) (two .if2 .left) (and-fails (c .before .rows-pass .ensures) _ (c .if3 .taken))
-    ∙ groups-is _ _ _ _ _ _ _ _ _)
-
-levels-pass-requires : tie.Need-levels-pass-requires
-levels-pass-requires c κs =
-    let one = c .before .before .before .before in
-    let G = entry (one .before .before) .pre in
-    (places-after G (told-true (one .before .starts-pass .ensures) (one .if1 .left)) (told-true (c .before .rows-pass .ensures) (c .if3 .left)), G .levels-held)
-
-returns-4 : tie.Need-returns-4
-returns-4 c =
-    let three = c .before in
-    let two = three .before .before in
-    let one = two .before .before in
-    and-goes (one .before .starts-pass .ensures) (one .if1 .left)
-    (and-goes (two .before .names-pass .ensures) (two .if2 .left)
-    (and-goes (three .before .rows-pass .ensures) (three .if3 .left) (c .levels-pass .ensures))
-    ∙ groups-is _ _ _ _ _ _ _ _ _)
+    (and-goes (two .before .names-pass .ensures) (two .if2 .left) (c .rows-pass .ensures) ∙ groups-is _ _ _ _ _ _ _ _ _)
 
 pub groups-pass-spec : {M : Type 1} → statement M
 groups-pass-spec =
@@ -62,6 +46,4 @@ groups-pass-spec =
     names-pass-requires
     returns-2
     rows-pass-requires
-    returns-3
-    levels-pass-requires
-    returns-4)
+    returns-3)

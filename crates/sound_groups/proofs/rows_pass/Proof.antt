@@ -1,20 +1,21 @@
--- `sound_groups::rows_pass` meets its contract. The invariant: the rows passed have passed.
+-- `sound_groups::rows_pass` meets its contract. The invariant: the rows passed, and their levels, have passed.
 use Prim.Native.Nat.{_-_}
 use native.Mathlib.Omega.{arith}
-use Rattle.lineage.specs.Sound.{rowPasses}
+use Rattle.lineage.specs.Numbers.{numbers}
 use Rattle.laws.proofs.Passed.{Passed, passed-none, passed-more, passed-all, passed-not}
 use Rattle.stored.specs.Sections.{childrenIn}
+use Rattle.sound_groups.specs.Tests.{rowAndLevel}
 use Rattle.sound_groups.proofs.rows_pass.Statement.{statement}
 use Rattle.sound_groups.proofs.rows_pass.Tie as tie
 
 abbrev Inv-loop : tie.InvT-loop
-Inv-loop starts children w k c p₀ p = Passed (rowPasses (childrenIn w starts children k c)) k p
+Inv-loop starts children levels w k c p₀ p = Passed (rowAndLevel (childrenIn w starts children k c) (numbers w levels k)) k p
 
 abbrev μ-loop : tie.MeasureT-loop
-μ-loop starts children w k c p₀ p = k - p
+μ-loop starts children levels w k c p₀ p = k - p
 
 row-passes-requires : tie.Need-row-passes-requires Inv-loop μ-loop
-row-passes-requires c κs = (c .before .before .before .before .pre, c .loop-test .taken)
+row-passes-requires c κs = let s = c .before .before .before .before .before in (s .pre .0, (s .pre .1, c .loop-test .taken))
 
 returns : tie.Need-returns Inv-loop μ-loop
 returns c = passed-not (c .before .before .before .loop .inv) (c .before .before .loop-test .taken) (c .before .row-passes .ensures) (c .if1 .taken)

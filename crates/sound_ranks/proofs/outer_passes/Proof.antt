@@ -1,18 +1,115 @@
--- `sound_ranks::outer_passes` meets its contract: the s read stands beside the least that e and the children give.
+-- `sound_ranks::outer_passes` meets its contract. The invariant: e has fallen to every child passed, and s is the least of the group's own e and the s of
+-- those.
+use mathlib.Core.Path.{ap₂}
 use mathlib.Core.List.{[]}
+use Prim.Native.Nat.{_-_}
 use native.Mathlib.Omega.{arith}
-use Rattle.sound_ranks.proofs.Read.{s-was}
+use lib.Dec.{eqb}
+use lib.ListN.{getD}
+use Rattle.laws.proofs.Passed.{Passed, passed-none}
+use Rattle.stored.specs.Sections.{childrenIn}
+use Rattle.stored.proofs.Row.{can-read-child, row-has, child-was, child-low}
+use Rattle.sound_ranks.specs.Tests.{triplesAlone, fallsTo}
+use Rattle.sound_ranks.proofs.Read.{s-was, e-was}
+use Rattle.sound_ranks.proofs.Falls.{falls-more, falls-not, falls-all}
+use Rattle.sound_ranks.proofs.Least.{Least, least-none, least-more, least-all}
 use Rattle.sound_ranks.proofs.outer_passes.Statement.{statement}
 use Rattle.sound_ranks.proofs.outer_passes.Tie as tie
 
-label-requires : tie.Need-label-requires
-label-requires c κs = (c .before .before .before .pre .0 .triples-held, omega arith)
+abbrev Inv-loop : tie.InvT-loop
+Inv-loop starts children triples w k c p from len top s₀ i₀ s i =
+    Passed (fallsTo (childrenIn w starts children k c) (triplesAlone w triples k) p) len i
+    × Least (getD (triplesAlone w triples k .e) p 0) (λ q. getD (triplesAlone w triples k .s) q 0) (getD (childrenIn w starts children k c) p []) i s
 
-least-below-requires : tie.Need-least-below-requires
-least-below-requires c κs = c .before .before .before .before .pre
+abbrev μ-loop : tie.MeasureT-loop
+μ-loop starts children triples w k c p from len top s₀ i₀ s i = len - i
 
-returns : tie.Need-returns
-returns c = let s = c .before .before .before .before .before in rw (s-was (s .pre .0 .triples-held) [] (s .pre .1) (c .before .label .ensures .0), c .least-below .ensures)
+-- where the row is found, and where the function starts, from its loop
+abbrev spanned : tie.At-loop Inv-loop μ-loop → tie.After-row-span Inv-loop μ-loop
+spanned l = l .before .before
+
+abbrev start : tie.At-loop Inv-loop μ-loop → tie.Start Inv-loop μ-loop
+start l = spanned l .before .before .before .before
+
+row-span-requires : tie.Need-row-span-requires Inv-loop μ-loop
+row-span-requires c κs = (c .before .before .before .pre .0 .below .entries .rows, c .before .before .before .pre .1)
+
+label-requires : tie.Need-label-requires Inv-loop μ-loop
+label-requires c κs = (c .before .before .before .before .pre .0 .triples-held, omega arith)
+
+loop-holds : tie.Need-loop-holds Inv-loop μ-loop
+loop-holds c =
+    let s = c .before .before .before .before .before in
+    (passed-none _ _, least-none _ _ (e-was (s .pre .0 .triples-held) [] (s .pre .1) (c .label .ensures .0)))
+
+add-num : tie.Need-add-num Inv-loop μ-loop
+add-num c = let l = c .before in omega (arith, spanned l .row-span .ensures, start l .pre)
+
+num-requires : tie.Need-num-requires Inv-loop μ-loop
+num-requires c κs = let l = c .before in can-read-child (start l .pre .0 .below .entries) (spanned l .row-span .ensures) (c .loop-test .taken)
+
+label-requires-2 : tie.Need-label-requires-2 Inv-loop μ-loop
+label-requires-2 c κs =
+    let l = c .before .before in
+    let L = start l .pre .0 in
+    (L .triples-held, (child-low (L .below) (spanned l .row-span .ensures) (c .before .loop-test .taken) (c .num .ensures .0), omega arith))
+
+returns : tie.Need-returns Inv-loop μ-loop
+returns c =
+    let n = c .before .before in
+    let l = n .before .before in
+    falls-not (start l .pre .0) (spanned l .row-span .ensures) (n .before .loop-test .taken) (n .num .ensures .0) (c .before .label2 .ensures .0) (l .before .label .ensures .0) _ (c .if1 .taken)
+
+label-requires-3 : tie.Need-label-requires-3 Inv-loop μ-loop
+label-requires-3 c κs =
+    let n = c .before .before in
+    let l = n .before .before in
+    let L = start l .pre .0 in
+    (L .triples-held, (child-low (L .below) (spanned l .row-span .ensures) (n .before .loop-test .taken) (n .num .ensures .0), omega arith))
+
+loop-again : tie.Need-loop-again Inv-loop μ-loop
+loop-again c =
+    let e = c .before .before .before in
+    let n = e .before in
+    let l = n .before .before in
+    let L = start l .pre .0 in
+    let R = spanned l .row-span .ensures in
+    let low = n .before .loop-test .taken in
+    let q = n .num .ensures .0 in (
+      falls-more L R low q (e .label2 .ensures .0) (l .before .label .ensures .0) (l .loop .inv .0) (c .before .before .if1 .left),
+      least-more (l .loop .inv .1) (omega (arith, row-has (L .below .entries) R)) (child-was (L .below .entries) R low q)
+          (s-was (L .triples-held) [] (child-low (L .below) R low q) (c .before .label3 .ensures .0)) (c .lesser .ensures),
+    )
+
+label-requires-4 : tie.Need-label-requires-4 Inv-loop μ-loop
+label-requires-4 c κs = let s = start (c .before) in (s .pre .0 .triples-held, (s .pre .1, omega arith))
+
+returns-2 : tie.Need-returns-2 Inv-loop μ-loop
+returns-2 c =
+    let t = c .before in
+    let l = t .before in
+    let L = start l .pre .0 in
+    let R = spanned l .row-span .ensures in
+    falls-all L R (l .loop .inv .0) (t .loop-test .left)
+    (ap₂ eqb (s-was (L .triples-held) [] (start l .pre .1) (c .label4 .ensures .0)) (least-all (l .loop .inv .1) (omega (arith, row-has (L .below .entries) R))))
 
 pub outer-passes-spec : {M : Type 1} → statement M
-outer-passes-spec = tie.close (tie.spec label-requires least-below-requires returns)
+outer-passes-spec =
+    tie.close
+    (tie.spec
+    Inv-loop
+    μ-loop
+    row-span-requires
+    label-requires
+    loop-holds
+    add-num
+    num-requires
+    label-requires-2
+    returns
+    label-requires-3
+    (λ c κs. tt)
+    (λ c. omega arith)
+    (λ c. omega arith)
+    loop-again
+    label-requires-4
+    returns-2)
