@@ -119,16 +119,20 @@ part-by w from count a e s ea ee h =
 pub part-from : (w from from' size : ℕ) (s r : List ℕ) → from ≡ from' → Part s (w * from) size r → Part s (w * from') size r
 part-from w from from' size s r e P = rw (← e) P
 
+-- a number has room at the width that is told
+pub room-at : (w v i l : ℕ) → w ≡ v → w * i + w ≤ l → v * i + v ≤ l
+room-at w v i l e h = rw (← e) h
+
 -- two bytes and four, read
-pub num-two : (w i r : ℕ) (s : List ℕ) → w ≡ 2 → r ≡ leAt 2 s (w * i) → r ≡ numAt w s i
+pub num-two : (w i r : ℕ) (s : List ℕ) → w ≡ 2 → r ≡ leAt 2 s (2 * i) → r ≡ numAt w s i
 num-two w i r s e h = cc
 
 le-four : (s : List ℕ) (p : ℕ) → leAt 4 s p ≡ leAt 2 s p + 65536 * leAt 2 s (p + 2)
 unfolding leAt
 le-four s p = simp add-assoc (omega arith)
 
-pub num-four : (w i a b : ℕ) (s : List ℕ) → w ≡ 4 → a ≡ leAt 2 s (w * i) → b ≡ leAt 2 s (w * i + 2) → a + 65536 * b ≡ numAt w s i
-num-four w i a b s e h k = cc (le-four s (w * i))
+pub num-four : (w i a b : ℕ) (s : List ℕ) → w ≡ 4 → a ≡ leAt 2 s (4 * i) → b ≡ leAt 2 s (4 * i + 2) → a + 65536 * b ≡ numAt w s i
+num-four w i a b s e h k = cc (le-four s (4 * i))
 
 -- two bytes and four, stored one by one
 put-first : (s : List ℕ) (p v : ℕ) → p + 2 ≤ length s → set (set s p (v % 256)) (p + 1) (v / 256 % 256) ≡ put s p (leBytes 2 v)

@@ -62,18 +62,17 @@ fn pair(s: &[u8], p: usize) -> usize
     wide(s[p]) + 256 * wide(s[p + 1])
 }
 
-// Number i of a stretch of numbers of w bytes.
+// Number i of a stretch of numbers of w bytes. Each width has its own product, so that the machine multiplies by a number that it knows.
 pub fn num(s: &[u8], w: usize, i: usize) -> usize
     requires { ⌜ Width w ⌝ }
     requires { ⌜ w * i + w ≤ length (now s) ⌝ }
     ensures { λ r. ⌜ (r ≡ numAt w (now (s .entry)) i) × (r < 2 ^ 32) ⌝ }
 {
-    let p = w * i;
     if w == 2 {
-        pair(s, p)
-    } else {
-        pair(s, p) + 65536 * pair(s, p + 2)
+        return pair(s, 2 * i);
     }
+    let p = 4 * i;
+    pair(s, p) + 65536 * pair(s, p + 2)
 }
 
 // The part that holds count numbers from number `from` on.
