@@ -1,0 +1,2 @@
+-- Adding an edge.
+pub mod Adds
