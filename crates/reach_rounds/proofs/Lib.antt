@@ -5,3 +5,4 @@ pub mod Fitted
 pub mod Groups
 pub mod Closes
 pub mod Exactly
+pub mod Kept

@@ -18,7 +18,7 @@ groupsWith I sources targets =
       targets = joined (map (λ p. map (λ q. q) (getD (I .children) p [])) places) ++ map (placeIn I) targets;
     }
 
--- u reaches v over the indexed edges together with the added ones: a path leads from its group to v's, down children and along added edges
-unfoldable pub reachesOver : Index → (sources targets : List ℕ) → ℕ → ℕ → Bool
+-- yes exactly when a path exists over the indexed edges together with the added ones: one leads from u's group to v's, down children and along added edges
+unfoldable pub addedSays : Index → (sources targets : List ℕ) → ℕ → ℕ → Bool
 unfolding reaches
-reachesOver I sources targets u v = reaches (groupsWith I sources targets) (placeIn I u) (placeIn I v)
+addedSays I sources targets u v = reaches (groupsWith I sources targets) (placeIn I u) (placeIn I v)
