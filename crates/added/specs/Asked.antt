@@ -10,48 +10,54 @@ use Rattle.lineage.specs.Graph.{Graph}
 use Rattle.lineage.specs.Stored.{countsIn, decode}
 use Rattle.lineage.specs.Sound.{contentsSound}
 use Rattle.lineage.specs.Calls.{Check, check, Outcome, refused, answered, outcome, FormsTaken, badEdge, contentsCheck, indexIn, marksAfter, workAfter, askEarly}
-use Rattle.reach_rounds.specs.Over.{reachesOver}
+use Rattle.build_orders.specs.Input.{graphOf}
+use Rattle.reach_rounds.specs.Over.{addedSays}
 use Rattle.added.specs.declared.Added.{Added}
-use Rattle.added.specs.declared.AskedOver.{AskedOver}
-use Rattle.added.specs.declared.AskedOver.the-variants.{Yes, No, Refused}
+use Rattle.added.specs.declared.AskedAdded.{AskedAdded}
+use Rattle.added.specs.declared.AskedAdded.the-variants.{Yes, No, Refused}
 use Rattle.added.specs.Adding.{mostAdded}
+
+-- those that stand: the first `count`
+abbrev pub standing : Added → List ℕ → List ℕ
+standing a ends = take (a .count) ends
 
 -- the added edges
 abbrev pub sourcesOf : Added → List ℕ
-sourcesOf a = take (a .count) (a .sources)
+sourcesOf a = standing a (a .sources)
 
 abbrev pub targetsOf : Added → List ℕ
-targetsOf a = take (a .count) (a .targets)
+targetsOf a = standing a (a .targets)
 
--- as the edges of n vertices
-abbrev pub addedOf : ℕ → Added → Graph
-addedOf n a = record { n = n; sources = sourcesOf a; targets = targetsOf a }
+-- 21 for more than 256 added edges
+abbrev pub manyAdded : Added → Check
+manyAdded a = check (ltb mostAdded (a .count)) 21 0
 
--- 21 for more than 256 added edges, then 7 with the first bad one
+-- 7 with the first bad one
+abbrev pub badAdded : Graph → Check
+badAdded G = check (any (badEdge G) (upto (length (G .sources)))) 7 (firstOf (badEdge G) (upto (length (G .sources))) 0)
+
+-- the one, then the other, beside n vertices
 abbrev pub addedChecks : ℕ → Added → List Check
-addedChecks n a =
-    check (ltb mostAdded (a .count)) 21 0
-    ∷ check (any (badEdge (addedOf n a)) (upto (a .count))) 7 (firstOf (badEdge (addedOf n a)) (upto (a .count)) 0)
-    ∷ []
+addedChecks n a = manyAdded a ∷ badAdded (graphOf n (sourcesOf a) (targetsOf a)) ∷ []
 
 -- 15, then these
 abbrev pub addedLate : List ℕ → Added → List Check
 addedLate b a = contentsCheck b ∷ addedChecks (countsIn b .n) a
 
 -- the refusals of a question, then 21 and 7; yes or no only
-unfoldable pub overAnswer : FormsTaken → List ℕ → Added → (source target marks work : ℕ) → Outcome Bool
-unfolding contentsSound reachesOver decode
-overAnswer T b a source target marks work =
-    outcome (askEarly T b source target marks work ++ addedLate b a) (reachesOver (indexIn b) (sourcesOf a) (targetsOf a) source target)
+unfoldable pub addedAnswer : FormsTaken → List ℕ → Added → (source target marks work : ℕ) → Outcome Bool
+unfolding contentsSound addedSays decode
+addedAnswer T b a source target marks work =
+    outcome (askEarly T b source target marks work ++ addedLate b a) (addedSays (indexIn b) (sourcesOf a) (targetsOf a) source target)
 
-unfoldable pub overMarks : FormsTaken → List ℕ → (source target : ℕ) → (marks : List ℕ) → (work : ℕ) → List ℕ
-overMarks T b source target marks work = marksAfter (askEarly T b source target (length marks) work) b marks
+unfoldable pub addedMarks : FormsTaken → List ℕ → (source target : ℕ) → (marks : List ℕ) → (work : ℕ) → List ℕ
+addedMarks T b source target marks work = marksAfter (askEarly T b source target (length marks) work) b marks
 
-unfoldable pub overWork : FormsTaken → List ℕ → (source target marks : ℕ) → (work : List ℕ) → List ℕ
-overWork T b source target marks work = workAfter (askEarly T b source target marks (length work)) b work
+unfoldable pub addedWork : FormsTaken → List ℕ → (source target marks : ℕ) → (work : List ℕ) → List ℕ
+addedWork T b source target marks work = workAfter (askEarly T b source target marks (length work)) b work
 
 -- the number and values that the document gives each case
-abbrev pub overOf : AskedOver → Outcome Bool
-overOf Yes = answered true
-overOf No = answered false
-overOf (Refused number extra) = refused number extra
+abbrev pub askedAddedOf : AskedAdded → Outcome Bool
+askedAddedOf Yes = answered true
+askedAddedOf No = answered false
+askedAddedOf (Refused number extra) = refused number extra
