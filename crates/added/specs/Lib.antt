@@ -2,3 +2,5 @@
 pub mod Adding
 pub mod Asked
 pub mod Allowed
+pub mod Right
+pub mod Examples
