@@ -15,6 +15,9 @@ sources-long s = search needs
 targets-long : (s : tie.Start) → length (s .args .state .targets) ≡ 256
 targets-long s = search needs
 
+returns : tie.Need-returns
+returns c = let s = c .before .before .before .args in (sound-many (s .l .n) (s .state) _ (c .if1 .taken), refl)
+
 -- the edges that stand are as many as the count says
 few : (e : tie.Else1) → let a = e .before .before .before .args .state in
     (a .count ≤ 256) × ((length (take (a .count) (a .sources)) ≡ a .count) × (length (take (a .count) (a .targets)) ≡ a .count))
@@ -27,9 +30,6 @@ few e =
         omega (arith, length-take (a .count) (a .targets), targets-long s, e .if1 .left),
       ),
     )
-
-returns : tie.Need-returns
-returns c = let s = c .before .before .before .args in (sound-many (s .l .n) (s .state) _ (c .if1 .taken), refl)
 
 cast-m : tie.Need-cast-m
 cast-m c = search needs
