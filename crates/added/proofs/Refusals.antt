@@ -1,5 +1,5 @@
 -- What the question over added edges answers and leaves, by where its checks stop: at one of 10 to 13 and 6, at 14, at 15, or as the checks of the added edges decide.
-use mathlib.Core.Bool.{Bool, true, false, cond}
+use mathlib.Core.Bool.{Bool, false, cond}
 use mathlib.Core.Path.{_≡_, refl, sym, ap, _∙_}
 use mathlib.Core.List.{List, [], _∷_, _++_}
 use Prim.Native.Nat.{ℕ, _≤_, _<_}

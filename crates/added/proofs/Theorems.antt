@@ -1,7 +1,7 @@
 -- What a question over added edges says, wherever it is answered, and whatever edge list and orders yield the bytes: yes exactly where a path leads over the indexed
 -- edges together with the added ones; so it says what a question says of any index built of all these edges, under whatever orders. Without added edges it says what a
 -- question says, and a question's refusal is its own. The contracts of the two calls allow one result.
-use mathlib.Core.Bool.{Bool, true, false}
+use mathlib.Core.Bool.{Bool, true}
 use mathlib.Core.Logic.{_↔_, Iff·symm, Iff·trans}
 use mathlib.Core.Path.{_≡_, refl, sym, ap, subst, _∙_}
 use mathlib.Core.List.{List, [], _∷_, _++_, append-nil, append-assoc}
@@ -9,15 +9,14 @@ use Prim.Native.Nat.{ℕ, _≤_, _<_}
 use native.Mathlib.Omega.{arith}
 use lib.Dec.{leb}
 use lib.ListN.{length, take, length-take}
-use borrow.Author.Tests.{leb-false, ltb-false, not-false}
-use Rattle.lineage.specs.Lists.{upto, any, Every}
+use borrow.Author.Tests.{leb-false, ltb-false}
+use Rattle.lineage.specs.Lists.{Every}
 use Rattle.lineage.specs.Graph.{Graph, Edge, Ends, Reaches}
 use Rattle.lineage.specs.Labels.{Order}
 use Rattle.lineage.specs.Index.{Index, indexOf, Made}
-use Rattle.lineage.specs.Stored.{Form, countsIn, headerAt, formOf}
-use Rattle.lineage.specs.Sound.{contentsSound}
+use Rattle.lineage.specs.Stored.{Form, countsIn}
 use Rattle.lineage.specs.Question.{placeIn, answer}
-use Rattle.lineage.specs.Calls.{Check, check, refused, answered, outcome, FormsTaken, Input, ordersOf, badEdge, formChecks, contentsCheck, indexIn, Said, saidOf, askEarly, askAnswer}
+use Rattle.lineage.specs.Calls.{Check, check, refused, answered, outcome, FormsTaken, Input, ordersOf, formChecks, contentsCheck, indexIn, Said, saidOf, askEarly, askAnswer}
 use Rattle.laws.specs.Checks.{Pass}
 use Rattle.laws.specs.Leads.{Down}
 use Rattle.laws.specs.Sound.{Sound}
@@ -28,7 +27,6 @@ use Rattle.laws_same.specs.Same.{SameEdges}
 use Rattle.laws_same.proofs.Lineage.{tests-same, lineage-same}
 use Rattle.laws_same.proofs.Edges.{edges-lineage}
 use Rattle.stored.proofs.Contents.{names-many, labels-many}
-use Rattle.build_orders.specs.Input.{graphOf}
 use Rattle.build.proofs.Theorems.{Finished, input-right, orders-right, stored-index}
 use Rattle.ask.proofs.Answered.{answered-only}
 use Rattle.ask.proofs.Theorems.{asked-right}

@@ -30,6 +30,7 @@ use Rattle.reach.proofs.Marked.{first-sound, sweep-exactly}
 use Rattle.reach_rounds.specs.Over.{groupsWith}
 use Rattle.reach_rounds.specs.Rounds.{isMarked, leadsOut, crossed, spreadOver, oneLedOut, goOn, rounds, sweptAll, roundsIn}
 use Rattle.reach_rounds.proofs.Groups.{Step, child, added, edge-step, step-edge, step-low}
+use Rattle.reach_rounds.proofs.Kept.{rounds-keep}
 use Rattle.reach_rounds.proofs.Closes.{either, spread-long, bare, Keeps, spread-keeps, bare-less, bare-falls, still-closed}
 
 -- a sweep takes no mark away
@@ -126,20 +127,10 @@ module _
           spread-led S' T' (crossed (I .names) s t m) (λ a b e. in-all a b (later e)) (crossed-led s t (in-all s t first) m A)
 
       rounds-led : (v f : ℕ) (m : List ℕ) → length (I .names) ≤ length m → All m → All (rounds (I .names) S T v (sweptAll I) f m)
-      unfolding rounds
-      rounds-led v zero m room A = swept-led m room A
-      rounds-led v (suc f) m room A =
-          let B : All (sweptAll I m) = swept-led m room A in
-          at (isMarked (I .names) (sweptAll I m) v) (oneLedOut (I .names) S T (sweptAll I m)) B
-          (rounds-led v f (spreadOver (I .names) S T (sweptAll I m)) (omega (arith, sweep-long m, spread-long (I .names) S T (sweptAll I m)))
-          (spread-led S T (sweptAll I m) (λ a b e. e) B))
-        where
-          at :
-              (a b : Bool) → All (sweptAll I m) → All (rounds (I .names) S T v (sweptAll I) f (spreadOver (I .names) S T (sweptAll I m)))
-              → All (goOn a b (λ x. rounds (I .names) S T v (sweptAll I) f x) (sweptAll I m) (spreadOver (I .names) S T (sweptAll I m)))
-          at true b B C = B
-          at false false B C = B
-          at false true B C = C
+      rounds-led v f m room A =
+          rounds-keep (I .names) S T v (sweptAll I) (λ y. (length (I .names) ≤ length y) × All y)
+          (λ y h. (omega (arith, sweep-long y, h .0), swept-led y (h .0) (h .1)))
+          (λ y h. (omega (arith, spread-long (I .names) S T y, h .0), spread-led S T y (λ a b e. e) (h .1))) f m (room, A) .1
 
     -- every marked group has its children marked, after a sweep; and no mark is taken away
     record Shut (m : List ℕ) : Type 0 where

@@ -21,7 +21,7 @@ module _
     (names S T : List ℕ) (v : ℕ) (sweep : List ℕ → List ℕ) (P : List ℕ → Type 0)
     (by-sweep : (m : List ℕ) → P m → P (sweep m)) (by-edges : (m : List ℕ) → P m → P (spreadOver names S T m))
   where
-    rounds-keep : (f : ℕ) (m : List ℕ) → P m → P (rounds names S T v sweep f m)
+    pub rounds-keep : (f : ℕ) (m : List ℕ) → P m → P (rounds names S T v sweep f m)
     unfolding rounds
     rounds-keep zero m p = by-sweep m p
     rounds-keep (suc f) m p =

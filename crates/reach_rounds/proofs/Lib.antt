@@ -4,5 +4,5 @@ pub mod Rounding
 pub mod Fitted
 pub mod Groups
 pub mod Closes
-pub mod Exactly
 pub mod Kept
+pub mod Exactly

@@ -1,12 +1,17 @@
 -- `added::ask_sound` meets its contract: a count of up to 256 is within both lists, and the two parts are of one length.
 use mathlib.Core.Path.{_≡_, refl, sym, _∙_}
-use Prim.Native.Nat.{_≤_}
+use mathlib.Core.List.{List}
+use Prim.Native.Nat.{ℕ, _≤_}
 use native.Mathlib.Omega.{arith}
 use lib.ListN.{length, take, length-take}
 use borrow.Author.Needs.{needs}
 use Rattle.added.proofs.Refusals.{sound-many, sound-over}
 use Rattle.added.proofs.ask_sound.Statement.{statement}
 use Rattle.added.proofs.ask_sound.Tie as tie
+
+-- so many of a list are as many
+taken : (m : ℕ) (xs : List ℕ) → m ≤ length xs → m ≡ length (take m xs)
+taken m xs h = omega (arith, length-take m xs)
 
 -- a state holds 256 pairs
 sources-long : (s : tie.Start) → length (s .args .state .sources) ≡ 256
@@ -18,19 +23,6 @@ targets-long s = search needs
 returns : tie.Need-returns
 returns c = let s = c .before .before .before .args in (sound-many (s .l .n) (s .state) _ (c .if1 .taken), refl)
 
--- the edges that stand are as many as the count says
-few : (e : tie.Else1) → let a = e .before .before .before .args .state in
-    (a .count ≤ 256) × ((length (take (a .count) (a .sources)) ≡ a .count) × (length (take (a .count) (a .targets)) ≡ a .count))
-few e =
-    let s = e .before .before .before in
-    let a = s .args .state in (
-      e .if1 .left,
-      (
-        omega (arith, length-take (a .count) (a .sources), sources-long s, e .if1 .left),
-        omega (arith, length-take (a .count) (a .targets), targets-long s, e .if1 .left),
-      ),
-    )
-
 cast-m : tie.Need-cast-m
 cast-m c = search needs
 
@@ -38,20 +30,21 @@ array-share-prefix-sources : tie.Need-array-share-prefix-sources
 array-share-prefix-sources c = let e = c .before .before in omega (arith, sources-long (e .before .before .before), e .if1 .left)
 
 slice-aggregate-ask-over : tie.Need-slice-aggregate-ask-over
-slice-aggregate-ask-over c = sym (few (c .before .before .before) .1 .0)
+slice-aggregate-ask-over c = let t = c .before in taken _ (t .before .before .before .before .before .args .state .sources) (array-share-prefix-sources t)
 
 array-share-prefix-targets : tie.Need-array-share-prefix-targets
 array-share-prefix-targets c = let e = c .before .before .before in omega (arith, targets-long (e .before .before .before), e .if1 .left)
 
 slice-aggregate-ask-over-2 : tie.Need-slice-aggregate-ask-over-2
-slice-aggregate-ask-over-2 c = sym (few (c .before .before .before .before) .1 .1)
+slice-aggregate-ask-over-2 c = let t = c .before in taken _ (t .before .before .before .before .before .before .args .state .targets) (array-share-prefix-targets t)
 
 ask-over-requires : tie.Need-ask-over-requires
 ask-over-requires c κs =
-    let e = c .before .before .before .before .before in
+    let t = c .before in
+    let e = t .before .before .before .before in
     let s = e .before .before .before in
-    let f = few e in
-    (s .pre .0, ((f .1 .0 ∙ sym (f .1 .1), omega (arith, f)), s .pre .1))
+    let many = slice-aggregate-ask-over (t .before) in
+    (s .pre .0, ((sym many ∙ slice-aggregate-ask-over-2 t, omega (arith, many, e .if1 .left)), s .pre .1))
 
 same-length : tie.Need-same-length
 same-length c = search needs
