@@ -9,7 +9,7 @@ use outside::compare::{self, Lent};
 use outside::Library;
 
 /// The bytes of stack that a question over added edges has to do with.
-const STACK: u32 = 32_768;
+const STACK: u32 = 16_384;
 
 /// A state with these edges, and what stands behind them: numbers of any size, and vertices.
 fn state(chance: &mut Chance, n: usize, edges: &[(usize, usize)]) -> Added {
