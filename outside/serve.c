@@ -10,10 +10,13 @@
 #include <sys/mman.h>
 #include <unistd.h>
 
-/* the calls that take stored forms 1 and 2, those on a turned index, list, chain, build and the text program's run are exported for these tests alone (crate trial); where one is not linked, a request
+/* the calls that take stored forms 1 and 2, those on a turned index, list, chain, those on added edges, build and the text program's run are exported for these tests alone (crate trial); where one is not linked, a request
  * for it ends this process */
 typedef struct { uint32_t refusal, extra, count; } counted;
 typedef struct { uint32_t refusal, extra, yes, steps; } chain_of;
+typedef struct { uint32_t sources[256], targets[256], count; } edges;
+typedef struct { uint32_t refusal, extra; edges after; } more;
+typedef struct { uint32_t refusal, extra, yes; } over;
 
 __attribute__((weak)) drobisten_opened trial_open(const uint8_t *index, size_t index_len, uint8_t *marks, size_t marks_len, uint32_t *work, size_t work_len);
 __attribute__((weak)) drobisten_asked trial_ask(const uint8_t *index, size_t index_len, uint8_t *marks, size_t marks_len, uint32_t *work, size_t work_len,
@@ -36,6 +39,9 @@ __attribute__((weak)) counted trial_build_turned(const uint32_t *sources, size_t
                                                  uint32_t n, uint32_t d);
 __attribute__((weak)) chain_of trial_chain(const uint8_t *index, size_t index_len, uint8_t *marks, size_t marks_len, uint32_t *work, size_t work_len, uint32_t *steps,
                                            size_t steps_len, uint32_t source, uint32_t target);
+__attribute__((weak)) more trial_add(edges added, uint32_t n, uint32_t from, uint32_t to);
+__attribute__((weak)) over trial_ask_added(const uint8_t *index, size_t index_len, uint8_t *marks, size_t marks_len, uint32_t *work, size_t work_len, edges added,
+                                           uint32_t source, uint32_t target);
 __attribute__((weak)) counted trial_convert_up(const uint8_t *index, size_t index_len, uint8_t *marks, size_t marks_len, uint8_t *out, size_t out_len);
 __attribute__((weak)) counted trial_convert_down(const uint8_t *index, size_t index_len, uint8_t *marks, size_t marks_len, uint32_t *work, size_t work_len, uint8_t *out,
                                                  size_t out_len);
@@ -46,7 +52,7 @@ _Static_assert(sizeof(drobisten_opened) == 24, "drobisten_opened is 24 bytes");
 _Static_assert(sizeof(drobisten_asked) == 24 && offsetof(drobisten_asked, labelling) == 20, "drobisten_asked is 24 bytes, labelling its last four");
 
 /* what a request asks for, and of whom: the calls that Rattle code makes, the C host's, which are lent no words, or those on a turned index */
-enum { OPEN = 1, ASK = 2, LIST = 3, BUILD = 4, ASK_MANY = 5, RUN = 6, ASK_ALL = 7, CONVERT_UP = 8, CONVERT_DOWN = 9, CHAIN = 10 };
+enum { OPEN = 1, ASK = 2, LIST = 3, BUILD = 4, ASK_MANY = 5, RUN = 6, ASK_ALL = 7, CONVERT_UP = 8, CONVERT_DOWN = 9, CHAIN = 10, ADD = 22, ASK_ADDED = 23 };
 enum { ORDINARY = 0, HOST = 1, TURNED = 2 };
 
 /* the bytes that a run is lent for its output, and what they hold before it */
@@ -117,7 +123,8 @@ static void on_stack(uint32_t bytes, void *(*work)(void *), void *job) {
 typedef struct {
     uint32_t face, source, target;
     lent index, marks, work, sources, targets, out;
-    union { drobisten_opened opened; drobisten_asked asked; drobisten_asked_all all; counted listed, converted; chain_of chained; } r;
+    edges added;
+    union { drobisten_opened opened; drobisten_asked asked; drobisten_asked_all all; counted listed, converted; chain_of chained; over over; } r;
 } asking;
 
 static void *open_index(void *job) {
@@ -155,6 +162,12 @@ static void *list(void *job) {
 static void *chain(void *job) {
     asking *a = job;
     a->r.chained = trial_chain(a->index.at, a->index.length, a->marks.at, a->marks.length, words(a->work), a->work.length, words(a->out), a->out.length, a->source, a->target);
+    return NULL;
+}
+
+static void *ask_added(void *job) {
+    asking *a = job;
+    a->r.over = trial_ask_added(a->index.at, a->index.length, a->marks.at, a->marks.length, words(a->work), a->work.length, a->added, a->source, a->target);
     return NULL;
 }
 
@@ -272,6 +285,26 @@ static void serve_chain(uint32_t stack) {
     give_back(a.out);
 }
 
+static void serve_ask_added(uint32_t stack) {
+    asking a = {.face = ORDINARY};
+    a.source = number();
+    a.target = number();
+    take(&a.added, sizeof a.added);
+    take_index(&a);
+    on_stack(stack, ask_added, &a);
+    give(&a.r.over, sizeof a.r.over);
+    give_marks(&a);
+}
+
+static void serve_add(void) {
+    edges added;
+    uint32_t ends[3];
+    take(&added, sizeof added);
+    take(ends, sizeof ends);
+    more r = trial_add(added, ends[0], ends[1], ends[2]);
+    give(&r, sizeof r);
+}
+
 static void serve_convert(uint32_t stack, void *(*convert)(void *)) {
     asking a = {.face = ORDINARY};
     take_index(&a);
@@ -341,6 +374,8 @@ int main(void) {
         case LIST: if (!linked(face, trial_list != NULL, 0, trial_list_turned != NULL)) return 5; serve_list(face, stack); break;
         case BUILD: if (!linked(face, trial_build != NULL, 0, trial_build_turned != NULL)) return 5; serve_build(face, stack); break;
         case CHAIN: if (!trial_chain) return 5; serve_chain(stack); break;
+        case ADD: if (!trial_add) return 5; serve_add(); break;
+        case ASK_ADDED: if (!trial_ask_added) return 5; serve_ask_added(stack); break;
         case CONVERT_UP: if (!trial_convert_up) return 5; serve_convert(stack, convert_up); break;
         case CONVERT_DOWN: if (!trial_convert_down) return 5; serve_convert(stack, convert_down); break;
         case RUN: if (!trial_run) return 5; serve_run(); break;

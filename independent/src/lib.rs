@@ -5,9 +5,10 @@
 //! stored bytes follow the words; soundness is decided by making the index again and comparing bytes.
 //!
 //! The data's way is the reading order: [`graph`], [`closure`], [`groups`], [`labels`], [`index`], [`form`], [`stored`],
-//! [`sound`] with [`every`] beside it, [`question`], [`calls`], [`batch`], [`chain`], [`convert`], [`turned`], [`host`], [`text`]. [`chance`] makes graphs,
+//! [`sound`] with [`every`] beside it, [`question`], [`calls`], [`batch`], [`chain`], [`added`], [`convert`], [`turned`], [`host`], [`text`]. [`chance`] makes graphs,
 //! orders and damage for comparisons.
 
+pub mod added;
 pub mod batch;
 pub mod bounds;
 pub mod calls;
@@ -29,6 +30,7 @@ pub mod stored;
 pub mod text;
 pub mod turned;
 
+pub use added::{add, ask_added, Added, MOST_ADDED};
 pub use batch::ask_all;
 pub use calls::{ask, build, list, open};
 pub use chain::chain;

@@ -10,7 +10,7 @@ use independent::chance::Chance;
 use independent::closure::Closure;
 use independent::graph::flat;
 use independent::stored::{encode, little_endian};
-use independent::{Answer, Counts, Form, Graph, Index, FORMS, FORM_1, ORDINARY};
+use independent::{Added, Answer, Counts, Form, Graph, Index, FORMS, FORM_1, ORDINARY};
 
 /// What bytes, the words lent with an index, and lists hold before a call.
 const PATTERN: u8 = 0xa5;
@@ -259,6 +259,26 @@ pub fn chain(library: &mut Library, index: &[u8], source: u32, target: u32, lent
     let what = format!("the chain from {source} to {target} of {} bytes with {lent:?} into {size}: {right:?}", index.len());
     assert_eq!(result, right, "{what}");
     assert!(got == expected, "{what}: first difference at {:?}", first_difference(&got, &expected));
+    ours.agree(&theirs, &what);
+    result
+}
+
+/// Adding an edge beside an index of n vertices, which alters the state: what both say.
+pub fn add(library: &mut Library, state: &mut Added, n: u32, from: u32, to: u32) -> Outcome<()> {
+    let (mut ours, what) = (state.clone(), format!("{from} to {to} below {n} beside {}", state.count));
+    let result = library.add(&mut ours, n, from, to);
+    assert_eq!(result, independent::add(state, n, from, to), "{what}");
+    assert!(ours == *state, "the state after {what}");
+    result
+}
+
+/// The question over an index and added edges: what both say.
+pub fn ask_added(library: &mut Library, index: &[u8], state: &Added, source: u32, target: u32, lent: Lent) -> Outcome<bool> {
+    let (mut ours, mut theirs) = (lent.buffers(Face::Ordinary), lent.buffers(Face::Ordinary));
+    let result = library.ask_added(index, state, source, target, &mut ours.marks, &mut ours.words);
+    let right = independent::ask_added(index, state, source, target, &mut theirs.marks, &mut theirs.words);
+    let what = format!("{source} to {target} over {} bytes and {} edges with {lent:?}: {right:?}", index.len(), state.count);
+    assert_eq!(result, right, "{what}");
     ours.agree(&theirs, &what);
     result
 }

@@ -5,7 +5,7 @@ pub mod compare;
 pub mod texts;
 
 use compare::Input;
-use independent::{host, Answer, Counts, Form, Refusal, FORM_1};
+use independent::{host, Added, Answer, Counts, Form, Refusal, FORM_1};
 use std::io::{BufReader, BufWriter, Read, Write};
 use std::os::unix::process::ExitStatusExt;
 use std::process::{Child, ChildStdin, ChildStdout, Command, Stdio};
@@ -97,6 +97,8 @@ const ASK_ALL: u32 = 7;
 const CONVERT_UP: u32 = 8;
 const CONVERT_DOWN: u32 = 9;
 const CHAIN: u32 = 10;
+const ADD: u32 = 22;
+const ASK_ADDED: u32 = 23;
 
 /// The signal of a touch that is forbidden.
 const SIGSEGV: i32 = 11;
@@ -267,6 +269,40 @@ impl Library {
         self.words_back(steps);
         assert!(yes <= 1 && (yes == 1 || count == 0), "a no has no steps");
         outcome(refusal, extra, yes == 0, (yes == 1).then_some(count))
+    }
+
+    /// A state of added edges, as 256 sources, 256 targets and a count.
+    fn added(&mut self, state: &Added) {
+        for &x in state.sources.iter().chain(&state.targets).chain([&state.count]) {
+            self.number(x);
+        }
+    }
+
+    /// Adds an edge beside an index of n vertices.
+    pub fn add(&mut self, state: &mut Added, n: u32, from: u32, to: u32) -> Outcome<()> {
+        self.call(ADD, Face::Ordinary);
+        self.added(state);
+        for x in [n, from, to] {
+            self.number(x);
+        }
+        let [refusal, extra] = self.reply();
+        self.words_back(&mut state.sources);
+        self.words_back(&mut state.targets);
+        [state.count] = self.reply();
+        outcome(refusal, extra, true, ())
+    }
+
+    /// The question over an index and the edges added beside it.
+    pub fn ask_added(&mut self, index: &[u8], state: &Added, source: u32, target: u32, marks: &mut [u8], words: &mut [u32]) -> Outcome<bool> {
+        self.call(ASK_ADDED, Face::Ordinary);
+        self.number(source);
+        self.number(target);
+        self.added(state);
+        self.index(index, marks, words);
+        let [refusal, extra, yes] = self.reply();
+        self.marks_back(marks, words);
+        assert!(yes <= 1, "yes is 0 or 1");
+        outcome(refusal, extra, yes == 0, yes == 1)
     }
 
     /// An index of this form turned into the other one. Form 1 is lent no words.

@@ -22,6 +22,10 @@ use Rattle.convert.proofs.Finished.{converted-once}
 use Rattle.chain.specs.Traced.{chainAnswer}
 use Rattle.chain.proofs.chain as chain-call
 use Rattle.chain.proofs.Theorems.{chained-once}
+use Rattle.added.specs.Asked.{addedAnswer}
+use Rattle.added.proofs.add as add-call
+use Rattle.added.proofs.ask_added as ask-added-call
+use Rattle.added.proofs.Theorems.{add-once, added-once}
 use Rattle.turned.proofs.build_turned as build-turned-call
 use Rattle.turned.proofs.open_turned as open-turned-call
 use Rattle.turned.proofs.ask_turned as ask-turned-call
@@ -44,7 +48,7 @@ use Rattle.demands.proofs.Orders.{fewer, on-a-no}
 
 -- 1. The checker's theorem of each call is cited; what the contract says is, equation by equation, what is allowed.
 pub demand-1 : EveryCall
-unfolding buildAnswer buildCall openAnswer askAnswer batchAnswer listAnswer chainAnswer convertAnswer
+unfolding buildAnswer buildCall openAnswer askAnswer batchAnswer listAnswer chainAnswer addedAnswer convertAnswer
 demand-1 = record {
   build = record {
     met = build-call.Met.met;
@@ -112,6 +116,18 @@ demand-1 = record {
     allows = λ κs a r e (answers, (leaves, (clears, writes))). record { answers = answers; leaves = leaves; clears = clears; writes = writes };
     once = λ κs a r r' e e'. chained-once;
   };
+  add = record {
+    met = add-call.Met.met;
+    nothing-asked = λ κs a. tt;
+    allows = λ κs a r e (answers, changes). record { answers = answers; changes = changes };
+    once = λ κs a r r' e e' A B. (add-once A B, tt);
+  };
+  ask-added = record {
+    met = ask-added-call.Met.met;
+    nothing-asked = λ κs a. tt;
+    allows = λ κs a r e (answers, (leaves, clears)). record { answers = answers; leaves = leaves; clears = clears };
+    once = λ κs a r r' e e'. added-once;
+  };
   build-turned = record {
     met = build-turned-call.Met.met;
     nothing-asked = λ κs a. tt;
@@ -167,6 +183,8 @@ demand-1 = record {
   ask-all-refuses = λ T b sources targets marks work answers number extra. first-refusal _ number extra _;
   list-refuses = λ T b u marks work out number extra. first-refusal _ number extra _;
   chain-refuses = λ T b u v marks work out number extra. first-refusal _ number extra _;
+  add-refuses = λ count n from to number extra. first-refusal _ number extra _;
+  ask-added-refuses = λ T b state u v marks work number extra. first-refusal _ number extra _;
   convert-refuses = λ from to b marks work out number extra. first-refusal _ number extra _;
 }
 

@@ -34,6 +34,12 @@ use Rattle.convert.proofs.convert_down as convert-down-call
 use Rattle.chain.specs.Traced.{chainLate, chainAnswer}
 use Rattle.chain.specs.Chained as chaining
 use Rattle.chain.proofs.chain as chain-call
+use Rattle.added.specs.declared.Added.{Added}
+use Rattle.added.specs.Adding.{addChecks, addAnswer}
+use Rattle.added.specs.Asked.{addedLate, addedAnswer}
+use Rattle.added.specs.Allowed as adding
+use Rattle.added.proofs.add as add-call
+use Rattle.added.proofs.ask_added as ask-added-call
 use Rattle.turned.proofs.build_turned as build-turned-call
 use Rattle.turned.proofs.open_turned as open-turned-call
 use Rattle.turned.proofs.ask_turned as ask-turned-call
@@ -110,6 +116,14 @@ pub record EveryCall : Type 2 where
       chaining.Allowed ordinary (now index) source target (now marks) (now work) (now steps) r (now marks') (now work') (now steps'))
       (λ κs (_, (_, (_, (marks, (work, (steps, _)))))) (_, (_, (_, (marks', (work', (steps', _)))))).
       (now marks ≡ now marks') × ((now work ≡ now work') × (now steps ≡ now steps')))
+  -- adding an edge lends nothing: the state goes in and out by value
+  pub add : Answers add-call.Kinds.ps add-call.Kinds.r add-call.Statement.statement add-call.Reads.Asked add-call.Reads.Learnt
+      (λ κs (state, (n, (from, (to, _)))) r _. adding.Adds state n from to r)
+      (λ κs _ _. Unit {0})
+  pub ask-added : Answers ask-added-call.Kinds.ps ask-added-call.Kinds.r ask-added-call.Statement.statement ask-added-call.Reads.Asked ask-added-call.Reads.Learnt
+      (λ κs (index, (state, (source, (target, (marks, (work, _)))))) r (_, (_, (_, (_, (marks', (work', _)))))).
+      adding.Allowed ordinary (now index) state source target (now marks) (now work) r (now marks') (now work'))
+      (λ κs (_, (_, (_, (_, (marks, (work, _)))))) (_, (_, (_, (_, (marks', (work', _)))))). (now marks ≡ now marks') × (now work ≡ now work'))
   -- the calls on a turned index
   pub build-turned : Answers build-turned-call.Kinds.ps build-turned-call.Kinds.r build-turned-call.Statement.statement build-turned-call.Reads.Asked
       build-turned-call.Reads.Learnt
@@ -178,3 +192,6 @@ pub record EveryCall : Type 2 where
       → (convertAnswer from to b marks work out ≡ refused number extra) ↔ Refuses (convertEarly from b marks work ++ convertLate to b out) number extra
   pub chain-refuses : (T : FormsTaken) (b : List ℕ) (u v marks work out number extra : ℕ)
       → (chainAnswer T b u v marks work out ≡ refused number extra) ↔ Refuses (askEarly T b u v marks work ++ chainLate b u v out) number extra
+  pub add-refuses : (count n from to number extra : ℕ) → (addAnswer count n from to ≡ refused number extra) ↔ Refuses (addChecks count n from to) number extra
+  pub ask-added-refuses : (T : FormsTaken) (b : List ℕ) (state : Added) (u v marks work number extra : ℕ)
+      → (addedAnswer T b state u v marks work ≡ refused number extra) ↔ Refuses (askEarly T b u v marks work ++ addedLate b state) number extra

@@ -1,5 +1,8 @@
 // Calls that only Rattle code makes, exported for the outside tests alone: plain numbers and buffers, a refusal of 0 where there is none. No contract is stated
 // here; what is compared outside is the call itself.
+use added::Added;
+use added::AskedAdded;
+use added::Taken;
 use ask::Asked;
 use ask_all::Batched;
 use build::Built;
@@ -267,6 +270,93 @@ pub extern "C" fn trial_chain(
             extra,
             yes: 0,
             steps: 0,
+        },
+    }
+}
+
+// Added edges.
+#[repr(C)]
+pub struct Edges {
+    pub sources: [u32; 256],
+    pub targets: [u32; 256],
+    pub count: u32,
+}
+
+fn added_of(edges: Edges) -> Added {
+    let sources = edges.sources;
+    let targets = edges.targets;
+    Added {
+        sources,
+        targets,
+        count: edges.count,
+    }
+}
+
+// What adding one came to, a refusal of 0 where it was taken, and the edges afterwards.
+#[repr(C)]
+pub struct More {
+    pub refusal: u32,
+    pub extra: u32,
+    pub sources: [u32; 256],
+    pub targets: [u32; 256],
+    pub count: u32,
+}
+
+fn more_of(refusal: u32, extra: u32, state: Added) -> More {
+    let sources = state.sources;
+    let targets = state.targets;
+    More {
+        refusal,
+        extra,
+        sources,
+        targets,
+        count: state.count,
+    }
+}
+
+#[no_mangle]
+pub extern "C" fn trial_add(edges: Edges, n: u32, from: u32, to: u32) -> More {
+    let r = added::add(added_of(edges), n, from, to);
+    let answer = r.answer;
+    let state = r.state;
+    match answer {
+        Taken::Done => more_of(0, 0, state),
+        Taken::Refused { number, extra } => more_of(number, extra, state),
+    }
+}
+
+// Yes or no, or a refusal with its number and its extra number.
+#[repr(C)]
+pub struct Over {
+    pub refusal: u32,
+    pub extra: u32,
+    pub yes: u32,
+}
+
+#[no_mangle]
+pub extern "C" fn trial_ask_added(
+    index: &[u8],
+    marks: &mut [u8],
+    work: &mut [u32],
+    edges: Edges,
+    source: u32,
+    target: u32,
+) -> Over {
+    match added::ask_added(index, added_of(edges), source, target, marks, work) {
+        AskedAdded::Yes => Over {
+            refusal: 0,
+            extra: 0,
+            yes: 1,
+        },
+        AskedAdded::No => Over {
+            refusal: 0,
+            extra: 0,
+            yes: 0,
+        },
+        AskedAdded::Refused { number, extra } => Over {
+            refusal: number,
+            extra,
+            yes: 0,
         },
     }
 }

@@ -1,5 +1,6 @@
 //! The rules of the document, tried one by one. Each test is named after the rule it tries.
 
+mod adding;
 mod chaining;
 mod chance;
 mod commands;
