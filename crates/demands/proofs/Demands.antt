@@ -27,6 +27,9 @@ use Rattle.turned.proofs.open_turned as open-turned-call
 use Rattle.turned.proofs.ask_turned as ask-turned-call
 use Rattle.turned.proofs.list_turned as list-turned-call
 use Rattle.turned.proofs.Theorems.{turned-once, finished-turned}
+use Rattle.rules_states.specs.Rules.{rulesAnswer}
+use Rattle.rules.proofs.settle_lists as settle-lists-call
+use Rattle.rules.proofs.Theorems.{settled-once}
 use Rattle.text_run.proofs.run as run-call
 use Rattle.text_run.proofs.Theorems.{ran-once}
 use Rattle.drobisten.proofs.drobisten_open as host-open-call
@@ -44,7 +47,7 @@ use Rattle.demands.proofs.Orders.{fewer, on-a-no}
 
 -- 1. The checker's theorem of each call is cited; what the contract says is, equation by equation, what is allowed.
 pub demand-1 : EveryCall
-unfolding buildAnswer buildCall openAnswer askAnswer batchAnswer listAnswer chainAnswer convertAnswer
+unfolding buildAnswer buildCall openAnswer askAnswer batchAnswer listAnswer chainAnswer convertAnswer rulesAnswer
 demand-1 = record {
   build = record {
     met = build-call.Met.met;
@@ -136,6 +139,12 @@ demand-1 = record {
     allows = λ κs a r e (answers, (leaves, (clears, writes))). record { answers = answers; leaves = leaves; clears = clears; writes = writes };
     once = λ κs a r r' e e'. listed-once;
   };
+  settle-lists = record {
+    met = settle-lists-call.Met.met;
+    nothing-asked = λ κs a. tt;
+    allows = λ κs a r e (answers, (leaves, (clears, turns))). record { answers = answers; leaves = leaves; clears = clears; turns = turns };
+    once = λ κs a r r' e e'. settled-once;
+  };
   run = record {
     met = run-call.Met.met;
     nothing-asked = λ κs a. tt;
@@ -167,6 +176,7 @@ demand-1 = record {
   ask-all-refuses = λ T b sources targets marks work answers number extra. first-refusal _ number extra _;
   list-refuses = λ T b u marks work out number extra. first-refusal _ number extra _;
   chain-refuses = λ T b u v marks work out number extra. first-refusal _ number extra _;
+  rules-refuses = λ T b changed marks work number extra. first-refusal _ number extra _;
   convert-refuses = λ from to b marks work out number extra. first-refusal _ number extra _;
 }
 

@@ -39,6 +39,9 @@ use Rattle.turned.proofs.open_turned as open-turned-call
 use Rattle.turned.proofs.ask_turned as ask-turned-call
 use Rattle.turned.proofs.list_turned as list-turned-call
 use Rattle.turned.proofs.Theorems as turning
+use Rattle.rules_states.specs.Rules.{rulesChecks, rulesAnswer}
+use Rattle.rules.specs.Settled as settling
+use Rattle.rules.proofs.settle_lists as settle-lists-call
 use Rattle.text_run.proofs.run as run-call
 use Rattle.text_run.proofs.Theorems as run
 use Rattle.drobisten.proofs.drobisten_open as host-open-call
@@ -142,6 +145,13 @@ pub record EveryCall : Type 2 where
       converting.Allowed 2 1 (now index) (now marks) (now work) (now out) r (now marks') (now work') (now out'))
       (λ κs (_, (marks, (work, (out, _)))) (_, (marks', (work', (out', _)))).
       (now marks ≡ now marks') × ((now work ≡ now work') × (now out ≡ now out')))
+  -- the rule desk's call on parallel lists
+  pub settle-lists : Answers settle-lists-call.Kinds.ps settle-lists-call.Kinds.r settle-lists-call.Statement.statement settle-lists-call.Reads.Asked
+      settle-lists-call.Reads.Learnt
+      (λ κs (index, (changed, (marks, (work, (vertices, (states, _)))))) r (_, (_, (marks', (work', (_, (states', _)))))).
+      settling.Allowed ordinary (now index) (now changed) (now marks) (now work) (now vertices) (now states) r (now marks') (now work') (now states'))
+      (λ κs (_, (_, (marks, (work, (_, (states, _)))))) (_, (_, (marks', (work', (_, (states', _)))))).
+      (now marks ≡ now marks') × ((now work ≡ now work') × (now states ≡ now states')))
   -- the text program's run
   pub run : Answers run-call.Kinds.ps run-call.Kinds.r run-call.Statement.statement run-call.Reads.Asked run-call.Reads.Learnt
       (λ κs (text, (out, _)) r (_, (out', _)). run.Allowed (now text) (now out) r (now out'))
@@ -178,3 +188,5 @@ pub record EveryCall : Type 2 where
       → (convertAnswer from to b marks work out ≡ refused number extra) ↔ Refuses (convertEarly from b marks work ++ convertLate to b out) number extra
   pub chain-refuses : (T : FormsTaken) (b : List ℕ) (u v marks work out number extra : ℕ)
       → (chainAnswer T b u v marks work out ≡ refused number extra) ↔ Refuses (askEarly T b u v marks work ++ chainLate b u v out) number extra
+  pub rules-refuses : (T : FormsTaken) (b changed : List ℕ) (marks work number extra : ℕ)
+      → (rulesAnswer T b changed marks work ≡ refused number extra) ↔ Refuses (rulesChecks T b changed marks work) number extra
