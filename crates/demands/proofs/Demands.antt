@@ -1,5 +1,6 @@
 -- The three demands on the calls, proved. specs/ says what each is; what follows is the laws of this crate and of those below, cited.
 use mathlib.Core.Path.{sym}
+use base.Logic.{emp, id⊢}
 use Rattle.lineage.specs.Calls.{buildAnswer, buildCall, openAnswer, askAnswer, listAnswer}
 use Rattle.build.proofs.build as build-call
 use Rattle.build.proofs.Theorems.{built-once, build-finishes}
@@ -30,6 +31,8 @@ use Rattle.turned.proofs.Theorems.{turned-once, finished-turned}
 use Rattle.rules_states.specs.Rules.{rulesAnswer}
 use Rattle.rules.proofs.settle_lists as settle-lists-call
 use Rattle.rules.proofs.Theorems.{settled-once}
+use Rattle.rules_table.proofs.drobisten_settle_rules as settle-rules-call
+use Rattle.rules_table.proofs.Theorems.{table-once}
 use Rattle.text_run.proofs.run as run-call
 use Rattle.text_run.proofs.Theorems.{ran-once}
 use Rattle.drobisten.proofs.drobisten_open as host-open-call
@@ -144,6 +147,12 @@ demand-1 = record {
     nothing-asked = λ κs a. tt;
     allows = λ κs a r e (answers, (leaves, (clears, turns))). record { answers = answers; leaves = leaves; clears = clears; turns = turns };
     once = λ κs a r r' e e'. settled-once;
+  };
+  settle-rules = record {
+    met = λ 𝓤 H 𝓜 𝓖 𝓡. settle-rules-call.Met.met 𝓤 H 𝓜 𝓖 𝓡;
+    nothing-asked = λ 𝓤 H A mem run κs a g. id⊢ 𝓤 (emp 𝓤);
+    allows = λ 𝓤 H A mem run κs a g r e. id⊢ 𝓤 _;
+    once = λ κs a r r' e e'. table-once;
   };
   run = record {
     met = run-call.Met.met;

@@ -16,10 +16,11 @@ use Rattle.lineage.specs.Question.{placeIn}
 use Rattle.lineage.specs.Calls.{indexIn}
 use Rattle.laws.specs.Leads.{Down}
 use Rattle.laws.specs.Sound.{Sound}
-use Rattle.laws.proofs.Tests.{is-false, clash}
+use Rattle.laws.proofs.Tests.{clash}
 use Rattle.laws.proofs.Lists.{here, there, in-cons, any-in, in-any}
 use Rattle.laws.proofs.Grouped.{name-in, group-name, place-low, name-of-place, leads-exactly}
 use Rattle.laws.proofs.Inverse.{e-most}
+use Rattle.laws_same.proofs.Lineage.{tests-same}
 use Rattle.numbers.proofs.Numbers.{numbers-at}
 use Rattle.numbers.proofs.Cleared.{cleared-long, cleared-at, cleared-past}
 use Rattle.stored_header.specs.declared.Layout.{Layout}
@@ -86,11 +87,6 @@ module _ {I : Index} (S : Sound I) where
   each-past [] marks R = refl
   each-past (u ∷ us) marks R = each-past us (markIn I u marks) (later u us R) ∙ mark-past S u (R .low u (here u us)) marks
 
--- two tests that hold of the same are one
-pub same-test : (a b : Bool) → (a ≡ true) ↔ (b ≡ true) → a ≡ b
-same-test a true h = h .1 refl
-same-test a false h = is-false a (λ t. clash (h .0 t) refl)
-
 module _
     {I : Index} (S : Sound I) (some : 0 < length (I .labels))
     (changed : List ℕ) (R : InRange (length (I .names)) changed) (marks : List ℕ) (room : length (I .names) ≤ length marks)
@@ -149,7 +145,7 @@ module _
     pub vertices-affected : vertexMarks (I .names) (sweptIn I (length (I .children)) start) ≡ affectedMarks I changed marks
     unfolding vertexMarks affectedMarks marksOf sweptIn
     vertices-affected =
-        marks-same (length (I .names)) _ _ _ (λ v hv. ap (λ (t : Bool). cond t 1 0) (same-test _ _ (rw (name-of-place (S .condensed) v hv) at (affected-marked v hv))))
+        marks-same (length (I .names)) _ _ _ (λ v hv. ap (λ (t : Bool). cond t 1 0) (tests-same _ _ (rw (name-of-place (S .condensed) v hv) at (affected-marked v hv))))
         ∙ ap (map (λ v. cond (affected I changed v) 1 0) (upto (length (I .names))) ++_)
         (swept-past (S .condensed) (first-sound (I .children) (I .labels) (S .labelled) some) (length (I .children)) start (omega arith)
         ∙ each-past S changed clear R

@@ -11,15 +11,15 @@ use borrow.Author.Tests.{ltb-false}
 use Rattle.lineage.specs.Lists.{any, among, cleared}
 use Rattle.lineage.specs.Index.{Index}
 use Rattle.lineage.specs.Stored.{countsIn}
-use Rattle.lineage.specs.Calls.{Check, anyApplies, FormsTaken, wordsIn, contentsCheck}
+use Rattle.lineage.specs.Calls.{anyApplies, FormsTaken, wordsIn, contentsCheck}
 use Rattle.laws.specs.Checks.{Pass}
-use Rattle.laws.proofs.Checks.{pass-front}
+use Rattle.laws.proofs.Checks.{stops-early}
 use Rattle.laws.proofs.Lists.{here, there, any-in, in-any, any-none}
+use Rattle.laws_same.proofs.Lineage.{tests-same}
 use Rattle.numbers.proofs.Cleared.{cleared-long, cleared-twice}
 use Rattle.rules_states.specs.Rules.{suspect, unknown, reachesIn, affected, stateAfter, eachState, statesAfter, rulesEarly, rulesChecks, rulesMarks, rulesWork}
 use Rattle.rules_states.specs.After.{SameMembers, Turning, OneByOne, none, next, Steady}
 use Rattle.rules_states.proofs.States.{each-same}
-use Rattle.rules_states.proofs.Affected.{same-test}
 
 any-append : (p : ℕ → Bool) (us vs : List ℕ) → any p (us ++ vs) ≡ (any p us || any p vs)
 any-append p [] vs = refl
@@ -27,7 +27,7 @@ any-append p (u ∷ us) vs = rw (any-append p us vs) (sym (or-assoc (p u) (any p
 
 any-members : (p : ℕ → Bool) (us vs : List ℕ) → SameMembers us vs → any p us ≡ any p vs
 any-members p us vs same =
-    same-test _ _ (
+    tests-same _ _ (
       (λ t. let (u, i, h) = in-any p us t in any-in p u vs (sym (same u) ∙ i) h),
       λ t. let (u, i, h) = in-any p vs t in any-in p u us (same u ∙ i) h,
     )
@@ -62,12 +62,7 @@ module _ (I : Index) where
     members = λ us vs same states. each-same _ _ vertices states (state-members us vs same);
   }
 
--- Calls in sequence.
-passed-any : (cs : List Check) → Pass cs → anyApplies cs ≡ false
-passed-any [] p = refl
-passed-any (c ∷ cs) p = rw (p .0) (passed-any cs (p .1))
-
--- one changed vertex of some that pass
+-- Calls in sequence. One changed vertex of some that pass:
 one-passes : (T : FormsTaken) (b changed : List ℕ) (marks work u : ℕ) → among u changed ≡ true → Pass (rulesChecks T b changed marks work) → Pass (rulesChecks T b (u ∷ []) marks work)
 one-passes T b changed marks work u i p =
     let low : any (leb (countsIn b .n)) (u ∷ []) ≡ false = rw (any-none (leb (countsIn b .n)) changed (p .1 .1 .1 .1 .1 .0) u i) in
@@ -88,8 +83,8 @@ module _
     done changed marks work p call =
         let L = K .leaves call in
         let early : anyApplies (rulesEarly T b changed (length marks) (length work)) ≡ false =
-        passed-any (rulesEarly T b changed (length marks) (length work)) (pass-front (rulesEarly T b changed (length marks) (length work)) (contentsCheck b ∷ []) p) in
-        ((L .leaves ∙ rw early refl, L .clears ∙ rw early refl), L .turns ∙ rw (passed-any (rulesChecks T b changed (length marks) (length work)) p) refl)
+        stops-early (rulesEarly T b changed (length marks) (length work)) (contentsCheck b ∷ []) 7 p in
+        ((L .leaves ∙ rw early refl, L .clears ∙ rw early refl), L .turns ∙ rw (stops-early (rulesChecks T b changed (length marks) (length work)) [] 7 p) refl)
 
     module _ (S : Steady turn) (marks work changed : List ℕ) (p : Pass (rulesChecks T b changed (length marks) (length work))) where
       -- marks and words that were cleared are as long as before, and cleared again they are the same

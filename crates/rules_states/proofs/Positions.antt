@@ -2,11 +2,11 @@
 use mathlib.Core.Bool.{Bool, true, false, _||_, cond}
 use mathlib.Core.Path.{_≡_, refl, sym, ap, _∙_}
 use mathlib.Core.List.{List, [], _∷_}
-use Prim.Native.Nat.{ℕ, zero, suc, _+_, _≤_, _<_}
+use Prim.Native.Nat.{ℕ, suc, _+_, _≤_, _<_}
 use native.Mathlib.Numerals.{add-one}
 use native.Mathlib.Omega.{arith}
 use lib.Dec.{ltb, leb·suc-zero, leb·suc-suc}
-use lib.ListN.{length, getD, drop}
+use lib.ListN.{length, getD, drop, drop-of-length-le}
 use lib.Seq.{drop-cons}
 use borrow.Author.Tests.{lt-ltb, le-ltb}
 use Rattle.lineage.specs.Lists.{any}
@@ -15,13 +15,6 @@ use Rattle.rules_states.specs.Rules.{positionOf}
 -- none of the first i passes
 pub record PassedOver (p : ℕ → Bool) (xs : List ℕ) (i : ℕ) : Type 0 where
   pub behind : positionOf p xs ≡ i + positionOf p (drop i xs)
-
--- nothing is behind the last
-behind-last : {A : Type 0} (xs : List A) (i : ℕ) → length xs ≤ i → drop i xs ≡ []
-behind-last [] zero h = refl
-behind-last [] (suc i) h = refl
-behind-last (x ∷ xs) zero h = absurd (omega arith)
-behind-last (x ∷ xs) (suc i) h = behind-last xs i (omega arith)
 
 module _ {p : ℕ → Bool} (xs : List ℕ) where
   pub over-none : PassedOver p xs 0
@@ -40,7 +33,7 @@ module _ {p : ℕ → Bool} (xs : List ℕ) where
         omega (arith, O .behind, here)
 
     pub over-all : length xs ≤ i → i ≡ positionOf p xs
-    over-all h = let end : positionOf p (drop i xs) ≡ 0 = ap (positionOf p) (behind-last xs i h) in omega (arith, O .behind, end)
+    over-all h = let end : positionOf p (drop i xs) ≡ 0 = ap (positionOf p) (drop-of-length-le xs h) in omega (arith, O .behind, end)
 
 -- one passes exactly where the position is below the length
 pub any-position : (p : ℕ → Bool) (xs : List ℕ) → any p xs ≡ ltb (positionOf p xs) (length xs)

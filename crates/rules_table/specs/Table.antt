@@ -6,11 +6,12 @@ use Prim.Native.Nat.{ℕ}
 use lib.Dec.{eqb}
 use lib.ListN.{length, take, drop}
 use Rattle.lineage.specs.Index.{Index}
-use Rattle.lineage.specs.Calls.{Outcome, refused, answered, anyApplies, FormsTaken, indexIn}
+use Rattle.lineage.specs.Calls.{Outcome, refused, answered, anyApplies, FormsTaken, ordinary, indexIn}
 use Rattle.lineage.specs.Sound.{contentsSound}
 use Rattle.lineage.specs.Stored.{decode}
 use Rattle.rules_states.specs.Rules.{stateAfter, rulesChecks, rulesAnswer, rulesMarks, rulesWork}
 use Rattle.rules_states.specs.Marks.{stateBy}
+use Rattle.rules.specs.Settled.{preparedAnswer, preparedMarks}
 use Rattle.rules_table.specs.declared.Rule.{Rule}
 use Rattle.rules_table.specs.declared.Work.{Work}
 use Rattle.rules_table.specs.declared.RulesSettled.{RulesSettled}
@@ -56,6 +57,12 @@ turnedFirst marks n count table = map (ruleBy marks n) (take count table) ++ dro
 abbrev pub workOf : Outcome ℕ → ℕ → Work
 workOf (refused number extra) have = record { refusal = number; extra = extra; n = 0; count = 0 }
 workOf (answered n) have = record { refusal = 0; extra = 0; n = n; count = have }
+
+-- of bytes, changed vertices, marks, words and so many records: what is to be done, and what marks and words hold then
+pub record Readied (b changed marks work : List ℕ) (have : ℕ) (r : Work) (marks' work' : List ℕ) : Type 0 where
+  pub answers : r ≡ workOf (preparedAnswer ordinary b changed (length marks) (length work)) have
+  pub leaves : marks' ≡ preparedMarks ordinary b changed marks (length work)
+  pub clears : work' ≡ rulesWork ordinary b changed (length marks) work
 
 -- what is read past the end of a table
 abbrev pub noRule : Rule

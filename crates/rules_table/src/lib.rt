@@ -4,9 +4,7 @@ ghost use mathlib.Core.Path.{_≡_};
 ghost use Prim.Native.Nat.{_≤_, _<_};
 ghost use lib.ListN.{length};
 ghost use Rattle.lineage.specs.Calls.{ordinary};
-ghost use Rattle.rules_states.specs.Rules.{rulesAnswer, rulesMarks, rulesWork};
-ghost use Rattle.rules.specs.Settled.{preparedAnswer, preparedMarks};
-ghost use Rattle.rules_table.specs.Table.{rulesTable, deskSettled, ruleBy, turnedFirst, workOf};
+ghost use Rattle.rules_table.specs.Table.{Allowed, ruleBy, turnedFirst, Readied};
 use numbers::clear_marks;
 use rules::Prepared;
 use rules::prepare;
@@ -62,7 +60,7 @@ fn turn_all(marks: &[u8], rules: &mut [Rule], n: usize, count: usize)
 
 // The checks, and the marks of what the changed vertices reach. After a refusal no record is to be turned, and no mark cleared.
 fn ready(index: &[u8], changed: &[u32], marks: &mut [u8], work: &mut [u32], have: usize) -> Work
-    ensures { λ r. ⌜ (r ≡ workOf (preparedAnswer ordinary (now (index .entry)) (now (changed .entry)) (length (now (marks .entry))) (length (now (work .entry)))) have) × (now (marks .exit) ≡ preparedMarks ordinary (now (index .entry)) (now (changed .entry)) (now (marks .entry)) (length (now (work .entry)))) × (now (work .exit) ≡ rulesWork ordinary (now (index .entry)) (now (changed .entry)) (length (now (marks .entry))) (now (work .entry))) ⌝ }
+    ensures { λ r. ⌜ Readied (now (index .entry)) (now (changed .entry)) (now (marks .entry)) (now (work .entry)) have r (now (marks .exit)) (now (work .exit)) ⌝ }
 {
     match prepare(1, 2, index, changed, marks, work) {
         Prepared::Refused { number, extra } => Work {
@@ -89,7 +87,7 @@ pub extern "C" fn drobisten_settle_rules(
     work: &mut [u32],
     rules: &mut [Rule],
 ) -> RulesSettled
-    ensures { λ r. ⌜ (r ≡ deskSettled (rulesAnswer ordinary (now (index .entry)) (now (changed .entry)) (length (now (marks .entry))) (length (now (work .entry))))) × (now (marks .exit) ≡ rulesMarks ordinary (now (index .entry)) (now (changed .entry)) (now (marks .entry)) (length (now (work .entry)))) × (now (work .exit) ≡ rulesWork ordinary (now (index .entry)) (now (changed .entry)) (length (now (marks .entry))) (now (work .entry))) × (now (rules .exit) ≡ rulesTable ordinary (now (index .entry)) (now (changed .entry)) (length (now (marks .entry))) (length (now (work .entry))) (now (rules .entry))) ⌝ }
+    ensures { λ r. ⌜ Allowed ordinary (now (index .entry)) (now (changed .entry)) (now (marks .entry)) (now (work .entry)) (now (rules .entry)) r (now (marks .exit)) (now (work .exit)) (now (rules .exit)) ⌝ }
 {
     let w = ready(index, changed, marks, work, rules.len());
     let n = w.n;

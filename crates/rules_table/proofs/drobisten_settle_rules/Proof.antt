@@ -55,7 +55,7 @@ use Rattle.numbers.proofs.clear_marks.Symbol.{name as #numbers·clear-marks}
 use Rattle.numbers.proofs.clear_marks.Met as clear-thm
 use Rattle.rules_states.specs.Rules.{rulesWork}
 use Rattle.rules.specs.Settled.{preparedAnswer, preparedMarks}
-use Rattle.rules_table.specs.Table.{turnedFirst, workOf}
+use Rattle.rules_table.specs.Table.{turnedFirst, workOf, Readied}
 use Rattle.rules_table.specs.declared.Rule.{Rule}
 use Rattle.rules_table.specs.declared.Work.{Work}
 use Rattle.rules_table.specs.declared.RulesSettled.{RulesSettled}
@@ -144,7 +144,7 @@ module _ {M : Type 1} (𝓤 : URA M) (H : Heap 𝓤) (A : Atoms 𝓤) (W : Given
   wk = workOf (preparedAnswer ordinary (i .now) (c .now) (length ms) (length ws)) (length ys)
 
   abbrev Left : Work → List ℕ → List ℕ → Type 0
-  Left r ms′ ws′ = (r ≡ wk) × (ms′ ≡ preparedMarks ordinary (i .now) (c .now) ms (length ws)) × (ws′ ≡ rulesWork ordinary (i .now) (c .now) (length ms) ws)
+  Left r ms′ ws′ = Readied (i .now) (c .now) ms ws (length ys) r ms′ ws′
 
   left : (ms′ : List ℕ) → ms′ ≡ preparedMarks ordinary (i .now) (c .now) ms (length ws) → Settles (i .now) (c .now) ms ws ys ms′ wk
   left ms′ e = settles (i .now) (c .now) ms ws ys e
@@ -226,7 +226,7 @@ module _ {M : Type 1} (𝓤 : URA M) (H : Heap 𝓤) (A : Atoms 𝓤) (W : Given
   exits ms′ ws′ rs cs e ew er ec lc lw lr fits =
       qed W ((‵ (flft κm qm) ⊛ ‵ ftrue) ∷ ‵ (finally u8 γm cs) ∷ (‵ (flft κr qr) ⊛ ‵ ftrue) ∷ ‵ (finally T.the-row γr rs) ∷ (‵ (flft κw qw) ⊛ ‵ ftrue) ∷ ‵ (flft κc qc) ∷ ‵ (flft κi qi) ∷ ‵ (finally u32 γw ws′) ∷ ‵ OwnC ∷ ‵ OwnI ∷ []) ∵
       suffices ! _ (ends-at 𝓤 H A settle.ended stayed (settle.clauses 𝓤 H A mem run) W ((κs, qs, tt, a, vals), tt) (O′.lowered (given wk)) (given wk) (tt, (tt, (cs, (ws′, (rs, tt))))) (tt, (tt, (lc, (lw, (lr, tt)))))) $
-      says ! (left ms′ e .says, ec ∙ left ms′ e .clears, ew, er ∙ left ms′ e .turns) $
+      says ! (record { answers = left ms′ e .says; leaves = ec ∙ left ms′ e .clears; clears = ew; turns = er ∙ left ms′ e .turns }) $
       -- the tokens, put together from the last to the first
       move ! (4 ∷ []) $ split ! $ move ! (0 ∷ 4 ∷ []) $ join ! $ move ! (2 ∷ []) $ split ! $ move ! (0 ∷ 2 ∷ []) $ join ! $ move ! (5 ∷ 0 ∷ []) $ join ! $ move ! (5 ∷ 0 ∷ []) $ join ! $ frame ! $ drop ! $
       -- [true; the last marks, rules and words; what changed and index own]
@@ -262,13 +262,13 @@ module _ {M : Type 1} (𝓤 : URA M) (H : Heap 𝓤) (A : Atoms 𝓤) (W : Given
         split ! $ move ! (1 ∷ []) $ heard ! (Left r (zs .1 .1 .0) (zs .1 .1 .1 .0)) (λ e. fsplit ! $ drop ! $ fsplit ! $ drop ! $ fsplit ! $ fsplit ! $ move ! (1 ∷ []) $ feqL ! (λ lm. move ! (1 ∷ []) $ fsplit ! $ fsplit ! $ move ! (1 ∷ []) $ feqL ! (λ lw. move ! (1 ∷ []) $ drop ! $
         -- [the last words and marks; the tokens and the result; what changed and index own; the lender's part; the token of rules; what rules owns; _20; …]
         move ! (2 ∷ []) $ split ! $ move ! (1 ∷ []) $ facts ! U.the-row (Is U.the-row) (shows 𝓤 H A U.the-row) r (v ∷ []) (λ is.
-        land ! (from ! (stop !)) (init ! 36 refl (LL.lawful U.the-type U′.the-laws 𝓤 H A W .typed r _ is .0)) $ rewrite ! 36 (λ (z : Val). ‵ (fat fullShare U′.mir l₆ 0 z)) (ap only (U′.lowers .val-is r (v ∷ []) is) ∙ ap U′.lowered (e .0)) refl $
+        land ! (from ! (stop !)) (init ! 36 refl (LL.lawful U.the-type U′.the-laws 𝓤 H A W .typed r _ is .0)) $ rewrite ! 36 (λ (z : Val). ‵ (fat fullShare U′.mir l₆ 0 z)) (ap only (U′.lowers .val-is r (v ∷ []) is) ∙ ap U′.lowered (e .answers)) refl $
         -- ν is ended, and the marks come back at the list that `ready` left
         split ! $ move ! (1 ∷ []) $ split ! $ move ! (1 ∷ []) $ split ! $ lft-end ! tt $ move ! (0 ∷ 8 ∷ 5 ∷ []) $
         use3 W (later (‵ (MutSlice (named 2) κm u8 .own (m γm (zs .1 .1 .0)) (sm ∷ [])) ⊛ ‵ (flft κm qm))) (comes-back u8 κm (ν ∷ []) qm γm bm om 𝓤 H A W (named 2) (named 2) ms δ (zs .1 .1 .0) room-m lm) $ await ! tt $ split ! $
         -- [what marks owns; its token; those of work, changed and index; the last words; what changed and index own; the token of rules; what rules owns; _20; …]
-        assigns ! (of-opd ! (load ! (from ! (fld ! refl (stop !))) (look-in ! 38 (sub ! 2 refl (whole !))))) (from ! (stop !)) (init ! 36 refl (tt, record { fits = work-fits r v is (e .0) .2 })) $
-        assigns ! (of-opd ! (load ! (from ! (fld ! refl (stop !))) (look-in ! 38 (sub ! 3 refl (whole !))))) (from ! (stop !)) (init ! 34 refl (tt, record { fits = work-fits r v is (e .0) .3 })) $
+        assigns ! (of-opd ! (load ! (from ! (fld ! refl (stop !))) (look-in ! 38 (sub ! 2 refl (whole !))))) (from ! (stop !)) (init ! 36 refl (tt, record { fits = work-fits r v is (e .answers) .2 })) $
+        assigns ! (of-opd ! (load ! (from ! (fld ! refl (stop !))) (look-in ! 38 (sub ! 3 refl (whole !))))) (from ! (stop !)) (init ! 34 refl (tt, record { fits = work-fits r v is (e .answers) .3 })) $
         assigns ! (addr ! (from ! (fld ! refl (hop ! (look-in ! 44 (sub ! 0 refl (whole !))) (stop !))))) (from ! (stop !)) (init ! 20 refl (tt, tt)) $
         assigns ! (agg ! (and-then ! (load ! (from ! (stop !)) (look ! 20 refl)) (and-then ! (load ! (from ! (fld ! refl (stop !))) (look-in ! 44 (sub ! 1 refl (whole !)))) (no-more !)))) (from ! (stop !)) (init ! 18 refl (tt, (tt, (record { fits = room-m .0 }, tt)))) $
         assigns ! (addr ! (from ! (fld ! refl (hop ! (look-in ! 40 (sub ! 0 refl (whole !))) (stop !))))) (from ! (stop !)) (init ! 16 refl (tt, tt)) $
@@ -278,8 +278,8 @@ module _ {M : Type 1} (𝓤 : URA M) (H : Heap 𝓤) (A : Atoms 𝓤) (W : Given
         use1 W (later (some (λ (δ′ : GName). ‵ (ShrSlice (named 0) (ν′ ∷ []) u8 .own (m δ′ (zs .1 .1 .0)) (sliceVal (bm, om) (length (zs .1 .1 .0)) ∷ [])) ⊛ ‵ (flent (ν′ ∷ []) (arr-parts (shares u8) (length (zs .1 .1 .0)) .part fullShare (zs .1 .1 .0) bm om))))) (lends-shr-slice 𝓤 H A W u8 (named 0) (ν′ ∷ []) fullShare (zs .1 .1 .0) bm om (room-left (zs .1 .1 .0) lm)) $ await ! tt $ pick ! (λ δ′. split ! $
         rewrite ! 0 (λ (k : ℕ). ‵ (ShrSlice (named 0) (ν′ ∷ []) u8 .own (m δ′ (zs .1 .1 .0)) (sliceVal (bm, om) k ∷ []))) lm refl $
         -- [the marks as a `&[u8]`; the lender's part; ν′'s token; the open borrow; obs; auth; the tokens of work, changed and index; the last words; what changed and index own; the token of rules; what rules owns; _20; …]
-        nothing ! $ owned ! usize (Is usize) (uint-makes 𝓤 H A W w64) (wk .count) _ (refl, work-fits r v is (e .0) .3) $ fjoin ! $ owned ! usize (Is usize) (uint-makes 𝓤 H A W w64) (wk .n) _ (refl, work-fits r v is (e .0) .2) $ fjoin ! $ move ! (14 ∷ 0 ∷ []) $ fjoin ! $ move ! (1 ∷ 0 ∷ []) $ fjoin ! $
-        nothing ! $ move ! (13 ∷ 0 ∷ []) $ join ! $ move ! (3 ∷ 0 ∷ []) $ join ! $ use2 W (raw (AllC 𝓤 H A mem run .pre (to-all ν′ δ′ (zs .1 .1 .0)))) (goes-all ν′ δ′ (zs .1 .1 .0) (e .1)) $
+        nothing ! $ owned ! usize (Is usize) (uint-makes 𝓤 H A W w64) (wk .count) _ (refl, work-fits r v is (e .answers) .3) $ fjoin ! $ owned ! usize (Is usize) (uint-makes 𝓤 H A W w64) (wk .n) _ (refl, work-fits r v is (e .answers) .2) $ fjoin ! $ move ! (14 ∷ 0 ∷ []) $ fjoin ! $ move ! (1 ∷ 0 ∷ []) $ fjoin ! $
+        nothing ! $ move ! (13 ∷ 0 ∷ []) $ join ! $ move ! (3 ∷ 0 ∷ []) $ join ! $ use2 W (raw (AllC 𝓤 H A mem run .pre (to-all ν′ δ′ (zs .1 .1 .0)))) (goes-all ν′ δ′ (zs .1 .1 .0) (e .leaves)) $
         calls-at ! fm (AllC 𝓤 H A mem run) known-all (to-all ν′ δ′ (zs .1 .1 .0)) (and-then ! (load ! (from ! (stop !)) (look ! 19 refl)) (and-then ! (load ! (from ! (stop !)) (look ! 15 refl)) (and-then ! (load ! (from ! (stop !)) (look ! 37 refl)) (and-then ! (load ! (from ! (stop !)) (look ! 35 refl)) (no-more !))))) (λ v₁.
         use1 W (later (some (λ (u : Unit {0}). ((‵ (flft (ν′ ∷ []) fullShare) ⊛ ‵ (flft κr qr) ⊛ ‵ ftrue) ⊛ ‵ (unit .own u (v₁ ∷ []))) ⊛ raw (ensured 𝓤 H A turn-all.ended (turn-all.clauses 𝓤 H A mem run) (for-all ν′) (turned-with δ′ (zs .1 .1 .0)) tt u)))) (id⊢ 𝓤 _) $ await ! tt $ pick ! (λ u.
         split ! $ move ! (1 ∷ []) $ use1 W (some (λ (rs : Unit {0} × (List Rule × (Unit {0} × (Unit {0} × Unit {0})))). ‵ (lasts turn-all.ended (for-all ν′) (turned-with δ′ (zs .1 .1 .0)) rs) ⊛ raw (fact 𝓤 (rs .1 .0 ≡ turnedFirst (zs .1 .1 .0) (wk .n) (wk .count) ys)))) (id⊢ 𝓤 _) $ pick ! (λ rs.
@@ -291,17 +291,17 @@ module _ {M : Type 1} (𝓤 : URA M) (H : Heap 𝓤) (A : Atoms 𝓤) (W : Given
         -- `clear_marks`: [what marks owns; its token; the token of rules; the last rules; the tokens of work, changed and index; the last words; what changed and index own; _20; …]
         assigns ! (addr ! (from ! (fld ! refl (hop ! (look-in ! 44 (sub ! 0 refl (whole !))) (stop !))))) (from ! (stop !)) (init ! 12 refl (tt, tt)) $
         assigns ! (agg ! (and-then ! (load ! (from ! (stop !)) (look ! 12 refl)) (and-then ! (load ! (from ! (fld ! refl (stop !))) (look-in ! 44 (sub ! 1 refl (whole !)))) (no-more !)))) (from ! (stop !)) (init ! 10 refl (tt, (tt, (record { fits = room-m .0 }, tt)))) $
-        nothing ! $ owned ! usize (Is usize) (uint-makes 𝓤 H A W w64) (wk .n) _ (refl, work-fits r v is (e .0) .2) $ fjoin ! $ move ! (1 ∷ 0 ∷ []) $ fjoin ! $ nothing ! $ move ! (2 ∷ 0 ∷ []) $ join ! $ use2 W (raw (ClearC 𝓤 H A mem run .pre (to-clear (zs .1 .1 .0)))) (goes-clear (zs .1 .1 .0) (e .1)) $
+        nothing ! $ owned ! usize (Is usize) (uint-makes 𝓤 H A W w64) (wk .n) _ (refl, work-fits r v is (e .answers) .2) $ fjoin ! $ move ! (1 ∷ 0 ∷ []) $ fjoin ! $ nothing ! $ move ! (2 ∷ 0 ∷ []) $ join ! $ use2 W (raw (ClearC 𝓤 H A mem run .pre (to-clear (zs .1 .1 .0)))) (goes-clear (zs .1 .1 .0) (e .leaves)) $
         calls-at ! fm (ClearC 𝓤 H A mem run) known-clear (to-clear (zs .1 .1 .0)) (and-then ! (load ! (from ! (stop !)) (look ! 9 refl)) (and-then ! (load ! (from ! (stop !)) (look ! 35 refl)) (no-more !))) (λ v₂.
         use1 W (later (some (λ (u′ : Unit {0}). ((‵ (flft κm qm) ⊛ ‵ ftrue) ⊛ ‵ (unit .own u′ (v₂ ∷ []))) ⊛ raw (ensured 𝓤 H A clear.ended (clear.clauses 𝓤 H A mem run) (κm, tt) (m γm (zs .1 .1 .0), (wk .n, tt)) tt u′)))) (id⊢ 𝓤 _) $ await ! tt $ pick ! (λ u′.
         split ! $ move ! (1 ∷ []) $ use1 W (some (λ (cs : List ℕ × (Unit {0} × Unit {0})). ‵ (lasts clear.ended (κm, tt) (m γm (zs .1 .1 .0), (wk .n, tt)) cs) ⊛ raw (fact 𝓤 (cs .0 ≡ cleared (wk .n) (zs .1 .1 .0))))) (id⊢ 𝓤 _) $ pick ! (λ cs.
         split ! $ move ! (1 ∷ []) $ heard ! (cs .0 ≡ cleared (wk .n) (zs .1 .1 .0)) (λ e₂. fsplit ! $ fsplit ! $ move ! (1 ∷ []) $ feqL ! (λ lc. move ! (1 ∷ []) $ drop ! $ move ! (1 ∷ []) $ split ! $ move ! (1 ∷ []) $ feqL ! (λ is₂.
         land ! (from ! (stop !)) (store ! 22 refl (subst (λ (z : Val). Holds (hasTy tyUnit z) × WT z) (sym (ap only is₂)) (tt, tt))) $
         -- [the marks' token; the last marks; the token of rules; the last rules; the tokens of work, changed and index; the last words; what changed and index own; _20; …]
-        assigns ! (agg ! (and-then ! (load ! (from ! (fld ! refl (stop !))) (look-in ! 38 (sub ! 0 refl (whole !)))) (and-then ! (load ! (from ! (fld ! refl (stop !))) (look-in ! 38 (sub ! 1 refl (whole !)))) (no-more !)))) (from ! (stop !)) (init ! 50 refl (tt, (record { fits = work-fits r v is (e .0) .0 }, (record { fits = work-fits r v is (e .0) .1 }, tt)))) $
+        assigns ! (agg ! (and-then ! (load ! (from ! (fld ! refl (stop !))) (look-in ! 38 (sub ! 0 refl (whole !)))) (and-then ! (load ! (from ! (fld ! refl (stop !))) (look-in ! 38 (sub ! 1 refl (whole !)))) (no-more !)))) (from ! (stop !)) (init ! 50 refl (tt, (record { fits = work-fits r v is (e .answers) .0 }, (record { fits = work-fits r v is (e .answers) .1 }, tt)))) $
         returns ! (look ! 50 refl) $ forget ! 10 refl $ forget ! 12 refl $ forget ! 14 refl $ forget ! 16 refl $ forget ! 18 refl $ forget ! 20 refl $ forget ! 22 refl $ forget ! 24 refl $ forget ! 26 refl $ forget ! 28 refl $ forget ! 30 refl $ forget ! 32 refl $ forget ! 34 refl $ forget ! 36 refl $ forget ! 38 refl $ forget ! 40 refl $ forget ! 42 refl $ forget ! 44 refl $ forget ! 46 refl $ forget ! 48 refl $ forget ! 50 refl $
         move ! (50 ∷ 51 ∷ []) $ free1 ! $ move ! (48 ∷ 49 ∷ []) $ free1 ! $ move ! (46 ∷ 47 ∷ []) $ free1 ! $ move ! (44 ∷ 45 ∷ []) $ free1 ! $ move ! (42 ∷ 43 ∷ []) $ free1 ! $ move ! (40 ∷ 41 ∷ []) $ free1 ! $ move ! (38 ∷ 39 ∷ []) $ free1 ! $ move ! (36 ∷ 37 ∷ []) $ free1 ! $ move ! (34 ∷ 35 ∷ []) $ free1 ! $ move ! (32 ∷ 33 ∷ []) $ free1 ! $ move ! (30 ∷ 31 ∷ []) $ free1 ! $ move ! (28 ∷ 29 ∷ []) $ free1 ! $ move ! (26 ∷ 27 ∷ []) $ free1 ! $ move ! (24 ∷ 25 ∷ []) $ free1 ! $ move ! (22 ∷ 23 ∷ []) $ free1 ! $ move ! (20 ∷ 21 ∷ []) $ free1 ! $ move ! (18 ∷ 19 ∷ []) $ free1 ! $ move ! (16 ∷ 17 ∷ []) $ free1 ! $ move ! (14 ∷ 15 ∷ []) $ free1 ! $ move ! (12 ∷ 13 ∷ []) $ free1 ! $ move ! (10 ∷ 11 ∷ []) $ free1 ! $ free0 ! $
-        by ! (exits (zs .1 .1 .0) (zs .1 .1 .1 .0) (rs .1 .0) (cs .0) (e .1) (e .2) e₁ e₂ (lc ∙ lm) lw lr (work-fits r v is (e .0)))))))))))))))))))))))))))))))))))))))))))))))
+        by ! (exits (zs .1 .1 .0) (zs .1 .1 .1 .0) (rs .1 .0) (cs .0) (e .leaves) (e .clears) e₁ e₂ (lc ∙ lm) lw lr (work-fits r v is (e .answers)))))))))))))))))))))))))))))))))))))))))))))))
 
 module _ {M : Type 1} (𝓤 : URA M) (H : Heap 𝓤) (A : Atoms 𝓤) (W : Given 𝓤 H A) (mem : Memory → SProp 𝓤) (run : Routine → Fun 𝓤) where
   settle-walks : (C : Calls 𝓤 H) (Λ : Loops 𝓤 H) → FmC 𝓤 H (W .laws) C → Triple 𝓤 (C #rules-table·ready) (ReadyC 𝓤 H A mem run) → Triple 𝓤 (C #rules-table·turn-all) (AllC 𝓤 H A mem run) → Triple 𝓤 (C #numbers·clear-marks) (ClearC 𝓤 H A mem run)

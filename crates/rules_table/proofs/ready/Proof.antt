@@ -46,7 +46,7 @@ same-length-2 c = search needs
 returns : tie.Need-returns
 returns c =
     let p = refused-at (c .before) in
-    (ap (λ (o : Outcome ℕ). workOf o (entry p .args .have)) (refuses (c .before)), p .prepare .ensures .1 .0, p .prepare .ensures .1 .1)
+    record { answers = ap (λ (o : Outcome ℕ). workOf o (entry p .args .have)) (refuses (c .before)); leaves = p .prepare .ensures .1 .0; clears = p .prepare .ensures .1 .1 }
 
 same-length-3 : tie.Need-same-length-3
 same-length-3 c = search needs
@@ -57,7 +57,7 @@ same-length-4 c = search needs
 returns-2 : tie.Need-returns-2
 returns-2 c =
     let p = reached-at (c .before) in
-    (ap (λ (o : Outcome ℕ). workOf o (entry p .args .have)) (reaches (c .before)), p .prepare .ensures .1 .0, p .prepare .ensures .1 .1)
+    record { answers = ap (λ (o : Outcome ℕ). workOf o (entry p .args .have)) (reaches (c .before)); leaves = p .prepare .ensures .1 .0; clears = p .prepare .ensures .1 .1 }
 
 pub ready-spec : {M : Type 1} → statement M
 ready-spec =
