@@ -20,12 +20,12 @@ function times(who,    r, line) {
 function mean(us, peer) { return sprintf("%.2f", exp(sum[us, peer] / rows)) }
 
 END {
-    print "### A table of rules under two orders, 1,000 records and 1,000,000: ours to a search in C++, to the same check and search in C++, and with the check cut to the search\n"
+    print "### A table of rules under two orders, 1,000 records and 1,000,000: ours to a search in C++, to the same check and search in C++, and, over parallel lists with the check cut, to the search\n"
     heading("| graph, vertices | changed | to search: 1,000 | 1,000,000 | to check and search: 1,000 | 1,000,000 | check cut, to search: 1,000 | 1,000,000 | ours: 1,000 | 1,000,000 | search: 1,000 | 1,000,000 |", 12)
     for (a = 1; a in KIND; a++) for (s = 1; s in N; s++) for (c = 1; c in CHANGED; c++) {
         kind = KIND[a]; n = N[s]; changed = CHANGED[c]
-        print "| " title[kind] ", " size[n] " | " changed both("ours", "search") both("ours", "check") both("alone", "search") times("ours") times("search") " |"
+        print "| " title[kind] ", " size[n] " | " changed both("ours", "search") both("ours", "check") both("alone", "lists") times("ours") times("search") " |"
         rows += 2
     }
-    print "\nGeometric mean of the " rows " ratios: to search " mean("ours", "search") ", to check and search " mean("ours", "check") ", with the check cut to search " mean("alone", "search") "."
+    print "\nGeometric mean of the " rows " ratios: to search " mean("ours", "search") ", to check and search " mean("ours", "check") ", over lists with the check cut to search " mean("alone", "lists") "."
 }

@@ -3,19 +3,30 @@
 //
 //     rules all | quick
 //
-// prints the figures (measure.hpp) of one call with its check, and without it, under two orders: 4,096 vertices in form 1 and 200,000 in form 2, each with 1, 100 and all
-// vertices changed and tables of 1,000 and 1,000,000 records. `quick` is one small size in each form with few repetitions.
+// prints the figures (measure.hpp) of one call with its check on records, and without it on parallel lists, under two orders: 4,096 vertices in form 1 and 200,000 in form 2,
+// each with 1, 100 and all vertices changed and tables of 1,000 and 1,000,000 records. `quick` is one small size in each form with few repetitions.
 #include "measure.hpp"
 #include "peers.hpp"
 #include <drobisten.h>
 
 extern "C" {
-// the same in a copy whose check of the contents says yes and does nothing (bench/run makes it)
-drobisten_rules_settled unchecked_settle_rules(const uint8_t *index, size_t index_len, const uint32_t *changed, size_t changed_len, uint8_t *marks, size_t marks_len,
-                                               uint32_t *work, size_t work_len, drobisten_rule *rules, size_t rules_len);
+drobisten_rules_settled trial_settle_lists(const uint8_t *index, size_t index_len, const uint32_t *changed, size_t changed_len, uint8_t *marks, size_t marks_len, uint32_t *work,
+                                           size_t work_len, const uint32_t *vertices, size_t vertices_len, uint32_t *states, size_t states_len);
+// the same in a copy whose check of the contents says yes and does nothing (bench/run makes it; the call on records has its check within itself, so it cannot be cut there)
+drobisten_rules_settled unchecked_settle_lists(const uint8_t *index, size_t index_len, const uint32_t *changed, size_t changed_len, uint8_t *marks, size_t marks_len,
+                                               uint32_t *work, size_t work_len, const uint32_t *vertices, size_t vertices_len, uint32_t *states, size_t states_len);
 }
 
 using Table = std::vector<drobisten_rule>;
+
+// The same table as parallel lists.
+struct Lists {
+    Numbers vertices, states;
+
+    explicit Lists(const Table &table) {
+        for (const drobisten_rule &r : table) vertices.push_back(r.vertex), states.push_back(r.state);
+    }
+};
 
 const int ORDERS = 2;
 
@@ -26,18 +37,35 @@ struct Desk {
     Bytes index, marks, scratch;
     Numbers words;
 
-    template <class Call> uint32_t settle(Call call, const Numbers &changed, Table &table) {
-        return call(index.data(), index.size(), changed.data(), changed.size(), marks.data(), marks.size(), words.data(), words.size(), table.data(), table.size()).refusal;
+    uint32_t settle(const Numbers &changed, Table &table) {
+        return drobisten_settle_rules(index.data(), index.size(), changed.data(), changed.size(), marks.data(), marks.size(), words.data(), words.size(), table.data(),
+                                      table.size())
+            .refusal;
+    }
+
+    template <class Call> uint32_t settle(Call call, const Numbers &changed, Lists &table) {
+        return call(index.data(), index.size(), changed.data(), changed.size(), marks.data(), marks.size(), words.data(), words.size(), table.vertices.data(),
+                    table.vertices.size(), table.states.data(), table.states.size())
+            .refusal;
     }
 
     bool sound() { return form == 1 ? Stored<uint16_t>(index.data()).sound(scratch) : Stored<uint32_t>(index.data()).sound(scratch); }
 
     // What the library does, by search.
-    void search_and_settle(const Numbers &changed, Table &table) {
+    void by_search(const Numbers &changed, Table &table) {
         search.from_all(changed);
-        for (drobisten_rule &r : table)
-            if (r.vertex >= graph.n) r.state = DROBISTEN_UNKNOWN;
-            else if (search.stamp[r.vertex] == search.now) r.state = DROBISTEN_SUSPECT;
+        for (drobisten_rule &r : table) r.state = turned(r.vertex, r.state);
+    }
+
+    void by_search(const Numbers &changed, Lists &table) {
+        search.from_all(changed);
+        for (size_t i = 0; i < table.states.size(); i++) table.states[i] = turned(table.vertices[i], table.states[i]);
+    }
+
+  private:
+    uint32_t turned(uint32_t vertex, uint32_t state) const {
+        if (vertex >= graph.n) return DROBISTEN_UNKNOWN;
+        return search.stamp[vertex] == search.now ? (uint32_t)DROBISTEN_SUSPECT : state;
     }
 };
 
@@ -51,22 +79,24 @@ static Table rules(uint32_t count, uint32_t n, Chance &chance) {
 static bool same(const Table &a, const Table &b) { return a.size() == b.size() && !memcmp(a.data(), b.data(), sizeof(drobisten_rule) * a.size()); }
 
 static void settle(Where w, Desk &desk, const Numbers &changed, const Table &table) {
-    Table ours = table, alone = table, theirs = table;
-    auto call = [&](auto settle, Table &rules) { must(desk.settle(settle, changed, rules) == 0, "a table is refused"); };
-    auto search = [&] { desk.search_and_settle(changed, theirs); };
-    call(drobisten_settle_rules, ours), call(unchecked_settle_rules, alone), search();
-    must(same(ours, theirs) && same(alone, theirs), "search settles another table");
-    measure(w, 1, {{"ours", [&] { call(drobisten_settle_rules, ours); }},
-                   {"check", [&] { must(desk.sound(), "the peer refuses an index"), search(); }},
-                   {"alone", [&] { call(unchecked_settle_rules, alone); }}, {"search", search}});
+    Table ours = table, theirs = table;
+    Lists alone(table), listed(table);
+    auto records = [&] { must(desk.settle(changed, ours) == 0, "a table is refused"); };
+    auto lists = [&] { must(desk.settle(unchecked_settle_lists, changed, alone) == 0, "lists are refused"); };
+    auto search = [&] { desk.by_search(changed, theirs); };
+    auto search_lists = [&] { desk.by_search(changed, listed); };
+    records(), lists(), search(), search_lists();
+    must(same(ours, theirs), "search settles another table");
+    must(alone.states == listed.states && alone.states == Lists(theirs).states, "search settles other lists");
+    measure(w, 1, {{"ours", records}, {"check", [&] { must(desk.sound(), "the peer refuses an index"), search(); }}, {"search", search}, {"alone", lists}, {"lists", search_lists}});
 }
 
 // The copy without the check has none: it settles by an index whose last place by rank is wrong, which no sweep reads and every check finds.
 static void check_is_cut(Desk &desk) {
-    Table none;
+    Lists none({});
     desk.index.back() ^= 0x80;
-    must(desk.settle(drobisten_settle_rules, {}, none) == DROBISTEN_CONTENTS, "unsound contents are taken");
-    must(desk.settle(unchecked_settle_rules, {}, none) == 0, "the copy without the check checks");
+    must(desk.settle(trial_settle_lists, {}, none) == DROBISTEN_CONTENTS, "unsound contents are taken");
+    must(desk.settle(unchecked_settle_lists, {}, none) == 0, "the copy without the check checks");
     desk.index.back() ^= 0x80;
 }
 
