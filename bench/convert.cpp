@@ -32,10 +32,7 @@ template <class From, class To> static void plain(const Bytes &index, uint32_t f
     for (size_t i = 0; i < (index.size() - 48) / sizeof(From); i++) to[i] = (To)from[i];
 }
 
-int main(int words, char **word) {
-    std::string what = words == 2 ? word[1] : "";
-    must(what == "all" || what == "quick", "all or quick?");
-    quick = what == "quick";
+static void *measure_all(void *) {
     const uint32_t n = quick ? 500 : 4096;
     for (const std::string &kind : KINDS) {
         Chance chance(n);
@@ -70,4 +67,7 @@ int main(int words, char **word) {
             must(narrow == one, "another form 1 is written");
         }
     }
+    return nullptr;
 }
+
+int main(int words, char **word) { run(words, word, measure_all); }

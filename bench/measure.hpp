@@ -1,4 +1,4 @@
-// How bench.cpp and region.cpp measure: processor time, the least of several repetitions, in which those that are compared take turns. A line is printed for each figure:
+// How the programs of this folder measure: processor time, the least of several repetitions, in which those that are compared take turns. A line is printed for each figure:
 // measure, kind of graph, n, d, kind of pairs, who, and nanoseconds for one of what is measured.
 #pragma once
 #include <algorithm>
@@ -7,6 +7,8 @@
 #include <cstdlib>
 #include <ctime>
 #include <functional>
+#include <pthread.h>
+#include <string>
 #include <vector>
 
 static void must(bool holds, const char *what) {
@@ -61,4 +63,15 @@ static void measure(const Where &w, double count, const std::vector<Job> &jobs) 
     for (int r = 0; r < rounds && (r < 3 || now() - begun < long_enough); r++)
         for (size_t i = 0; i < jobs.size(); i++) least[i] = std::min(least[i], once(jobs[i], times[i]));
     for (size_t i = 0; i < jobs.size(); i++) figure(w, jobs[i].who, least[i] * 1e9 / count);
+}
+
+// Runs `all`, as the program's one word says it, `all` or `quick`, on a large stack: the peers nest a call for each level of a line.
+inline void run(int words, char **word, void *(*all)(void *)) {
+    std::string what = words == 2 ? word[1] : "";
+    must(what == "all" || what == "quick", "all or quick?");
+    quick = what == "quick";
+    pthread_attr_t large;
+    pthread_t thread;
+    must(!pthread_attr_init(&large) && !pthread_attr_setstacksize(&large, 1 << 29), "no stack of 512 MB");
+    must(!pthread_create(&thread, &large, all, nullptr) && !pthread_join(thread, nullptr), "no thread");
 }

@@ -11,7 +11,6 @@
 #include <malloc.h>
 #include <map>
 #include <new>
-#include <pthread.h>
 
 extern "C" {
 struct counted {
@@ -294,13 +293,4 @@ static void *measure_all(void *) {
     return nullptr;
 }
 
-// The peers nest a call for each level of a line, so they are run on a large stack.
-int main(int words, char **word) {
-    std::string what = words == 2 ? word[1] : "";
-    must(what == "all" || what == "quick", "all or quick?");
-    quick = what == "quick";
-    pthread_attr_t large;
-    pthread_t thread;
-    must(!pthread_attr_init(&large) && !pthread_attr_setstacksize(&large, 1 << 29), "no stack of 512 MB");
-    must(!pthread_create(&thread, &large, measure_all, nullptr) && !pthread_join(thread, nullptr), "no thread");
-}
+int main(int words, char **word) { run(words, word, measure_all); }

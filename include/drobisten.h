@@ -2,7 +2,7 @@
  *
  * The calls take plain numbers and byte buffers that the caller lends. They allocate nothing, keep nothing between calls, and always return: whatever
  * bytes are lent as an index, the result is an answer or a refusal with its number. That they return what this page says is proved
- * (crates/drobisten; the definitions are in crates/lineage/specs/Calls.antt).
+ * (crates/drobisten, crates/rules_table; the definitions are in crates/lineage/specs/Calls.antt, those of the rules' table in crates/rules_states/specs/Rules.antt).
  *
  *     static uint8_t marks[4096];                     a byte for each vertex, of which there are at most 4,096
  *     drobisten_opened o = drobisten_open(index, index_len, marks, sizeof marks);
@@ -15,6 +15,8 @@
  * memset:
  *
  *     gcc -Iinclude examples/host.c target/staticlib/libdrobisten.a -o host
+ *
+ * drobisten_settle_rules is in an archive of its own: `rt staticlib rules_table` proves it and writes target/staticlib/librules_table.a.
  *
  * A host is compiled with the header of its archive. Either call writes a struct of 24 bytes where the host has made room for its own; an object file that was
  * compiled with a header whose struct is shorter has the bytes behind it written over.
@@ -45,7 +47,9 @@ enum {
     DROBISTEN_FORM = 11,     /* the form is not 1; extra: the form found */
     DROBISTEN_HEADER = 12,   /* n over 4,096, k over n, c over 16,384, d not 1 to 5, an offset or the total not as these give, or bytes not of that total */
     DROBISTEN_MARKS = 13,    /* marks shorter than n; extra: n */
-    DROBISTEN_VERTEX = 14,   /* a vertex is n or more, in drobisten_ask_all in its own pair's answer; extra: 0 where it is the source, 1 where it is the target alone */
+    DROBISTEN_WORDS = 6,     /* drobisten_settle_rules only: work shorter than an index of form 2 needs; extra: what it needs */
+    DROBISTEN_VERTEX = 14,   /* a vertex is n or more, in drobisten_ask_all in its own pair's answer; extra: 0 where it is the source, 1 where it is the target alone;
+                                in drobisten_settle_rules a changed vertex; extra: the position of the first such, from 0 */
     DROBISTEN_CONTENTS = 15, /* no edge list and no orders yield these bytes */
     DROBISTEN_LISTS = 2,     /* drobisten_ask_all only, checked behind 15: sources and targets differ in length */
     DROBISTEN_ANSWERS = 16   /* drobisten_ask_all only: the answer list is short; extra: the number of pairs */
@@ -130,6 +134,51 @@ typedef struct {
  */
 drobisten_asked_all drobisten_ask_all(const uint8_t *index, size_t index_len, uint8_t *marks, size_t marks_len, const uint32_t *sources, size_t sources_len,
                                       const uint32_t *targets, size_t targets_len, uint32_t *answers, size_t answers_len);
+
+/* A rule record: 12 bytes, three numbers of 4 in this order. */
+typedef struct {
+    uint32_t rule;   /* the rule's number: any; it is never looked at */
+    uint32_t vertex; /* the vertex that the rule rests on: any number */
+    uint32_t state;  /* one of the three below, or any other number, which is kept like a state that nothing touches */
+} drobisten_rule;
+
+enum {
+    DROBISTEN_FRESH = 0,
+    DROBISTEN_SUSPECT = 1, /* a changed vertex reaches the record's vertex */
+    DROBISTEN_UNKNOWN = 2  /* the record's vertex is n or more */
+};
+
+/* What drobisten_settle_rules returns: 16 bytes, `extra` its last eight. */
+typedef struct {
+    uint32_t refusal; /* 0: every record has its state; otherwise why not */
+    size_t extra;     /* the refusal's extra number; 0 without a refusal */
+} drobisten_rules_settled;
+
+/* Settles a table of rules, given the vertices that a retrain has changed: a record whose vertex is n or more becomes unknown, also where no vertex is changed; one
+ * whose vertex a changed vertex reaches, by a path of zero or more edges, becomes suspect; all others keep their state. A list of at least one changed vertex, all in
+ * range, gives the same table as calls for one of them at a time, in any order. The index is checked once and swept once, from all changed vertices together, and the
+ * table is gone through once.
+ *
+ * index     index_len bytes that can be read: a stored index of form 1 or 2
+ * changed   changed_len 32-bit numbers that can be read: the changed vertices, in any order, with repeats or none at all
+ * marks     marks_len bytes that can be read and written: at least n
+ * work      work_len 32-bit numbers that can be read and written: at least 16n + 4c + 64 for an index of form 2; for one of form 1 none are needed
+ * rules     rules_len records that can be read and written: the table, in any order, with repeats or none at all
+ *
+ * Nothing that can be written overlaps another, and no pointer is NULL, even where its length is 0. Nothing is asked of what they hold.
+ *
+ * Gives refusal 0, or the first that applies of 10, 11 (the form is neither 1 nor 2), 12 (by the bounds of the form: n over 200,000 and c over 1,000,000 in form 2),
+ * 13, 6, 14 and 15.
+ *
+ * rules afterwards   refusal 0: every state is as told; rule numbers and vertices are as they were
+ *                    any refusal: all are as they were
+ * marks afterwards   refusal 0 or 15: the first n bytes are 0, those behind them are as they were
+ *                    any other refusal: all are as they were
+ * work afterwards    refusal 0 or 15: for form 2 the first 16n + 4c + 64 numbers are 0, those behind them, and all for form 1, are as they were
+ *                    any other refusal: all are as they were
+ */
+drobisten_rules_settled drobisten_settle_rules(const uint8_t *index, size_t index_len, const uint32_t *changed, size_t changed_len, uint8_t *marks, size_t marks_len,
+                                               uint32_t *work, size_t work_len, drobisten_rule *rules, size_t rules_len);
 
 #ifdef __cplusplus
 }

@@ -10,8 +10,8 @@
 #include <sys/mman.h>
 #include <unistd.h>
 
-/* the calls that take stored forms 1 and 2, those on a turned index, list, chain, those on added edges, build and the text program's run are exported for these tests alone (crate trial); where one is not linked, a request
- * for it ends this process */
+/* the calls that take stored forms 1 and 2, those on a turned index, list, chain, those on added edges, build, the rule desk's over parallel lists and the text program's run are exported for
+ * these tests alone (crate trial); where one is not linked, a request for it ends this process */
 typedef struct { uint32_t refusal, extra, count; } counted;
 typedef struct { uint32_t refusal, extra, yes, steps; } chain_of;
 typedef struct { uint32_t sources[256], targets[256], count; } edges;
@@ -45,14 +45,19 @@ __attribute__((weak)) over trial_ask_added(const uint8_t *index, size_t index_le
 __attribute__((weak)) counted trial_convert_up(const uint8_t *index, size_t index_len, uint8_t *marks, size_t marks_len, uint8_t *out, size_t out_len);
 __attribute__((weak)) counted trial_convert_down(const uint8_t *index, size_t index_len, uint8_t *marks, size_t marks_len, uint32_t *work, size_t work_len, uint8_t *out,
                                                  size_t out_len);
+__attribute__((weak)) drobisten_rules_settled trial_settle_lists(const uint8_t *index, size_t index_len, const uint32_t *changed, size_t changed_len, uint8_t *marks,
+                                                                 size_t marks_len, uint32_t *work, size_t work_len, const uint32_t *vertices,
+                                                                 size_t vertices_len, uint32_t *states, size_t states_len);
 __attribute__((weak)) size_t trial_run(const uint8_t *text, size_t text_len, uint8_t *out);
 
 /* the layout that the header states */
 _Static_assert(sizeof(drobisten_opened) == 24, "drobisten_opened is 24 bytes");
 _Static_assert(sizeof(drobisten_asked) == 24 && offsetof(drobisten_asked, labelling) == 20, "drobisten_asked is 24 bytes, labelling its last four");
+_Static_assert(sizeof(drobisten_rule) == 12 && offsetof(drobisten_rule, vertex) == 4 && offsetof(drobisten_rule, state) == 8, "drobisten_rule is 12 bytes, three numbers");
+_Static_assert(sizeof(drobisten_rules_settled) == 16 && offsetof(drobisten_rules_settled, extra) == 8, "drobisten_rules_settled is 16 bytes, extra its last eight");
 
 /* what a request asks for, and of whom: the calls that Rattle code makes, the C host's, which are lent no words, or those on a turned index */
-enum { OPEN = 1, ASK = 2, LIST = 3, BUILD = 4, ASK_MANY = 5, RUN = 6, ASK_ALL = 7, CONVERT_UP = 8, CONVERT_DOWN = 9, CHAIN = 10, ADD = 22, ASK_ADDED = 23 };
+enum { OPEN = 1, ASK = 2, LIST = 3, BUILD = 4, ASK_MANY = 5, RUN = 6, ASK_ALL = 7, CONVERT_UP = 8, CONVERT_DOWN = 9, CHAIN = 10, ADD = 22, ASK_ADDED = 23, SETTLE_LISTS = 11, SETTLE_RULES = 12 };
 enum { ORDINARY = 0, HOST = 1, TURNED = 2 };
 
 /* the bytes that a run is lent for its output, and what they hold before it */
@@ -122,9 +127,9 @@ static void on_stack(uint32_t bytes, void *(*work)(void *), void *job) {
 /* a call on stored bytes: what it is lent, and what it returned */
 typedef struct {
     uint32_t face, source, target;
-    lent index, marks, work, sources, targets, out;
+    lent index, marks, work, sources, targets, changed, vertices, out;
     edges added;
-    union { drobisten_opened opened; drobisten_asked asked; drobisten_asked_all all; counted listed, converted; chain_of chained; over over; } r;
+    union { drobisten_opened opened; drobisten_asked asked; drobisten_asked_all all; counted listed, converted; chain_of chained; over over; drobisten_rules_settled settled; } r;
 } asking;
 
 static void *open_index(void *job) {
@@ -168,6 +173,21 @@ static void *chain(void *job) {
 static void *ask_added(void *job) {
     asking *a = job;
     a->r.over = trial_ask_added(a->index.at, a->index.length, a->marks.at, a->marks.length, words(a->work), a->work.length, a->added, a->source, a->target);
+    return NULL;
+}
+
+/* a table of rules: its vertices and its states, or its records */
+static void *settle_lists(void *job) {
+    asking *a = job;
+    a->r.settled = trial_settle_lists(a->index.at, a->index.length, words(a->changed), a->changed.length, a->marks.at, a->marks.length, words(a->work), a->work.length,
+                                      words(a->vertices), a->vertices.length, words(a->out), a->out.length);
+    return NULL;
+}
+
+static void *settle_rules(void *job) {
+    asking *a = job;
+    a->r.settled = drobisten_settle_rules(a->index.at, a->index.length, words(a->changed), a->changed.length, a->marks.at, a->marks.length, words(a->work), a->work.length,
+                                          (drobisten_rule *)a->out.at, a->out.length);
     return NULL;
 }
 
@@ -305,6 +325,22 @@ static void serve_add(void) {
     give(&r, sizeof r);
 }
 
+/* over parallel lists, of which only the states are written, or over records */
+static void serve_settle(uint32_t stack, int lists) {
+    asking a = {.face = ORDINARY};
+    take_index(&a);
+    a.changed = buffer(4);
+    if (lists) a.vertices = buffer(4);
+    a.out = buffer(lists ? 4 : sizeof(drobisten_rule));
+    on_stack(stack, lists ? settle_lists : settle_rules, &a);
+    uint32_t numbers[2] = {a.r.settled.refusal, (uint32_t)a.r.settled.extra};
+    give(numbers, sizeof numbers);
+    done(a.changed);
+    if (lists) done(a.vertices);
+    give_marks(&a);
+    give_back(a.out);
+}
+
 static void serve_convert(uint32_t stack, void *(*convert)(void *)) {
     asking a = {.face = ORDINARY};
     take_index(&a);
@@ -376,6 +412,8 @@ int main(void) {
         case CHAIN: if (!trial_chain) return 5; serve_chain(stack); break;
         case ADD: if (!trial_add) return 5; serve_add(); break;
         case ASK_ADDED: if (!trial_ask_added) return 5; serve_ask_added(stack); break;
+        case SETTLE_LISTS: if (!trial_settle_lists) return 5; serve_settle(stack, 1); break;
+        case SETTLE_RULES: serve_settle(stack, 0); break;
         case CONVERT_UP: if (!trial_convert_up) return 5; serve_convert(stack, convert_up); break;
         case CONVERT_DOWN: if (!trial_convert_down) return 5; serve_convert(stack, convert_down); break;
         case RUN: if (!trial_run) return 5; serve_run(); break;

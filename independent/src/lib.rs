@@ -5,7 +5,7 @@
 //! stored bytes follow the words; soundness is decided by making the index again and comparing bytes.
 //!
 //! The data's way is the reading order: [`graph`], [`closure`], [`groups`], [`labels`], [`index`], [`form`], [`stored`],
-//! [`sound`] with [`every`] beside it, [`question`], [`calls`], [`batch`], [`chain`], [`added`], [`convert`], [`turned`], [`host`], [`text`]. [`chance`] makes graphs,
+//! [`sound`] with [`every`] beside it, [`question`], [`calls`], [`batch`], [`chain`], [`added`], [`convert`], [`turned`], [`rules`], [`host`], [`text`]. [`chance`] makes graphs,
 //! orders and damage for comparisons.
 
 pub mod added;
@@ -25,6 +25,7 @@ pub mod index;
 pub mod labels;
 pub mod question;
 pub mod refusal;
+pub mod rules;
 pub mod sound;
 pub mod stored;
 pub mod text;
@@ -40,6 +41,7 @@ pub use graph::Graph;
 pub use index::Index;
 pub use question::Answer;
 pub use refusal::Refusal;
+pub use rules::{settle_rules, Rule};
 pub use stored::Counts;
 pub use text::run_text;
 pub use turned::{ask_turned, build_turned, list_turned, open_turned};

@@ -10,7 +10,7 @@ use independent::chance::Chance;
 use independent::closure::Closure;
 use independent::graph::flat;
 use independent::stored::{encode, little_endian};
-use independent::{Added, Answer, Counts, Form, Graph, Index, FORMS, FORM_1, ORDINARY};
+use independent::{Added, Answer, Counts, Form, Graph, Index, Rule, FORMS, FORM_1, ORDINARY};
 
 /// What bytes, the words lent with an index, and lists hold before a call.
 const PATTERN: u8 = 0xa5;
@@ -281,6 +281,25 @@ pub fn ask_added(library: &mut Library, index: &[u8], state: &Added, source: u32
     assert_eq!(result, right, "{what}");
     ours.agree(&theirs, &what);
     result
+}
+
+/// A table of rules by both calls, over its records and over its vertices and states, with the table as they leave it: what all say.
+pub fn rules(library: &mut Library, index: &[u8], changed: &[u32], lent: Lent, table: &mut [Rule]) -> Outcome<()> {
+    let [mut ours, mut listed, mut theirs] = [(); 3].map(|_| lent.buffers(Face::Ordinary));
+    let (vertices, mut states): (Vec<u32>, Vec<u32>) = table.iter().map(|record| (record.vertex, record.state)).unzip();
+    let mut got = table.to_vec();
+    let right = independent::settle_rules(index, changed, &mut theirs.marks, &mut theirs.words, table);
+    let what = format!("{} records by {changed:?} and {} bytes with {lent:?}: {right:?}", table.len(), index.len());
+
+    assert_eq!(library.settle_rules(index, changed, &mut ours.marks, &mut ours.words, &mut got), right, "{what}");
+    assert!(got == table, "{what}: first difference at {:?}", first_difference(&got, table));
+    ours.agree(&theirs, &what);
+
+    assert_eq!(library.settle_lists(index, changed, &mut listed.marks, &mut listed.words, &vertices, &mut states), right, "{what}, over lists");
+    let told: Vec<u32> = table.iter().map(|record| record.state).collect();
+    assert!(states == told, "{what}, over lists: first difference at {:?}", first_difference(&states, &told));
+    listed.agree(&theirs, &format!("{what}, over lists"));
+    right
 }
 
 /// An index of this form turned into the other one, into an output of this size: the number of the refusal, 0 where there is none.

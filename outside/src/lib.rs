@@ -5,7 +5,7 @@ pub mod compare;
 pub mod texts;
 
 use compare::Input;
-use independent::{host, Added, Answer, Counts, Form, Refusal, FORM_1};
+use independent::{host, Added, Answer, Counts, Form, Refusal, Rule, FORM_1};
 use std::io::{BufReader, BufWriter, Read, Write};
 use std::os::unix::process::ExitStatusExt;
 use std::process::{Child, ChildStdin, ChildStdout, Command, Stdio};
@@ -99,6 +99,8 @@ const CONVERT_DOWN: u32 = 9;
 const CHAIN: u32 = 10;
 const ADD: u32 = 22;
 const ASK_ADDED: u32 = 23;
+const SETTLE_LISTS: u32 = 11;
+const SETTLE_RULES: u32 = 12;
 
 /// The signal of a touch that is forbidden.
 const SIGSEGV: i32 = 11;
@@ -141,8 +143,12 @@ impl Library {
 
     fn words(&mut self, ws: &[u32]) {
         self.number(ws.len() as u32);
-        for w in ws {
-            self.to.write_all(&w.to_le_bytes()).unwrap();
+        self.numbers(ws);
+    }
+
+    fn numbers(&mut self, xs: &[u32]) {
+        for &x in xs {
+            self.number(x);
         }
     }
 
@@ -303,6 +309,36 @@ impl Library {
         self.marks_back(marks, words);
         assert!(yes <= 1, "yes is 0 or 1");
         outcome(refusal, extra, yes == 0, yes == 1)
+    }
+
+    /// The states of a table by its vertices, over parallel lists.
+    pub fn settle_lists(&mut self, index: &[u8], changed: &[u32], marks: &mut [u8], words: &mut [u32], vertices: &[u32], states: &mut [u32]) -> Outcome<()> {
+        self.call(SETTLE_LISTS, Face::Ordinary);
+        self.index(index, marks, words);
+        self.words(changed);
+        self.words(vertices);
+        self.words(states);
+        let [refusal, extra] = self.reply();
+        self.marks_back(marks, words);
+        self.words_back(states);
+        outcome(refusal, extra, true, ())
+    }
+
+    /// The same of a table of records, as C lends it.
+    pub fn settle_rules(&mut self, index: &[u8], changed: &[u32], marks: &mut [u8], words: &mut [u32], rules: &mut [Rule]) -> Outcome<()> {
+        let mut numbers: Vec<u32> = rules.iter().flat_map(|record| [record.rule, record.vertex, record.state]).collect();
+        self.call(SETTLE_RULES, Face::Ordinary);
+        self.index(index, marks, words);
+        self.words(changed);
+        self.number(rules.len() as u32);
+        self.numbers(&numbers);
+        let [refusal, extra] = self.reply();
+        self.marks_back(marks, words);
+        self.words_back(&mut numbers);
+        for (record, three) in rules.iter_mut().zip(numbers.chunks_exact(3)) {
+            *record = Rule { rule: three[0], vertex: three[1], state: three[2] };
+        }
+        outcome(refusal, extra, true, ())
     }
 
     /// An index of this form turned into the other one. Form 1 is lent no words.

@@ -1,5 +1,6 @@
 -- The three demands on the calls, proved. specs/ says what each is; what follows is the laws of this crate and of those below, cited.
 use mathlib.Core.Path.{sym}
+use base.Logic.{emp, id⊢}
 use Rattle.lineage.specs.Calls.{buildAnswer, buildCall, openAnswer, askAnswer, listAnswer}
 use Rattle.build.proofs.build as build-call
 use Rattle.build.proofs.Theorems.{built-once, build-finishes}
@@ -31,6 +32,11 @@ use Rattle.turned.proofs.open_turned as open-turned-call
 use Rattle.turned.proofs.ask_turned as ask-turned-call
 use Rattle.turned.proofs.list_turned as list-turned-call
 use Rattle.turned.proofs.Theorems.{turned-once, finished-turned}
+use Rattle.rules_states.specs.Rules.{rulesAnswer}
+use Rattle.rules.proofs.settle_lists as settle-lists-call
+use Rattle.rules.proofs.Theorems.{settled-once}
+use Rattle.rules_table.proofs.drobisten_settle_rules as settle-rules-call
+use Rattle.rules_table.proofs.Theorems.{table-once}
 use Rattle.text_run.proofs.run as run-call
 use Rattle.text_run.proofs.Theorems.{ran-once}
 use Rattle.drobisten.proofs.drobisten_open as host-open-call
@@ -48,7 +54,7 @@ use Rattle.demands.proofs.Orders.{fewer, on-a-no}
 
 -- 1. The checker's theorem of each call is cited; what the contract says is, equation by equation, what is allowed.
 pub demand-1 : EveryCall
-unfolding buildAnswer buildCall openAnswer askAnswer batchAnswer listAnswer chainAnswer addedAnswer convertAnswer
+unfolding buildAnswer buildCall openAnswer askAnswer batchAnswer listAnswer chainAnswer addedAnswer convertAnswer rulesAnswer
 demand-1 = record {
   build = record {
     met = build-call.Met.met;
@@ -152,6 +158,18 @@ demand-1 = record {
     allows = λ κs a r e (answers, (leaves, (clears, writes))). record { answers = answers; leaves = leaves; clears = clears; writes = writes };
     once = λ κs a r r' e e'. listed-once;
   };
+  settle-lists = record {
+    met = settle-lists-call.Met.met;
+    nothing-asked = λ κs a. tt;
+    allows = λ κs a r e (answers, (leaves, (clears, turns))). record { answers = answers; leaves = leaves; clears = clears; turns = turns };
+    once = λ κs a r r' e e'. settled-once;
+  };
+  settle-rules = record {
+    met = λ 𝓤 H 𝓜 𝓖 𝓡. settle-rules-call.Met.met 𝓤 H 𝓜 𝓖 𝓡;
+    nothing-asked = λ 𝓤 H A mem run κs a g. id⊢ 𝓤 (emp 𝓤);
+    allows = λ 𝓤 H A mem run κs a g r e. id⊢ 𝓤 _;
+    once = λ κs a r r' e e'. table-once;
+  };
   run = record {
     met = run-call.Met.met;
     nothing-asked = λ κs a. tt;
@@ -185,6 +203,7 @@ demand-1 = record {
   chain-refuses = λ T b u v marks work out number extra. first-refusal _ number extra _;
   add-refuses = λ count n from to number extra. first-refusal _ number extra _;
   ask-added-refuses = λ T b state u v marks work number extra. first-refusal _ number extra _;
+  rules-refuses = λ T b changed marks work number extra. first-refusal _ number extra _;
   convert-refuses = λ from to b marks work out number extra. first-refusal _ number extra _;
 }
 

@@ -10,6 +10,7 @@ use chain::Chained;
 use convert::Converted;
 use list::Listed;
 use open::Opened;
+use rules::Settled;
 use text_run::MOST_OUTPUT;
 
 // Counts, or a refusal with its number and its extra number.
@@ -357,6 +358,34 @@ pub extern "C" fn trial_ask_added(
             refusal: number,
             extra,
             yes: 0,
+        },
+    }
+}
+
+// No refusal, or its number and its extra number.
+#[repr(C)]
+pub struct Lists {
+    pub refusal: u32,
+    pub extra: usize,
+}
+
+#[no_mangle]
+pub extern "C" fn trial_settle_lists(
+    index: &[u8],
+    changed: &[u32],
+    marks: &mut [u8],
+    work: &mut [u32],
+    vertices: &[u32],
+    states: &mut [u32],
+) -> Lists {
+    match rules::settle_lists(index, changed, marks, work, vertices, states) {
+        Settled::Done => Lists {
+            refusal: 0,
+            extra: 0,
+        },
+        Settled::Refused { number, extra } => Lists {
+            refusal: number,
+            extra,
         },
     }
 }

@@ -5,6 +5,7 @@ mod chaining;
 mod chance;
 mod commands;
 mod converting;
+mod desk;
 mod given;
 mod labels;
 mod listing;
