@@ -1,16 +1,14 @@
 -- What the pass leaves, where places are those of a graph's groups: the children of lineage, stored as they lie, and the parents.
-use mathlib.Core.Path.{_≡_, sym, ap, _∙_, subst, fun-ext}
+use mathlib.Core.Path.{_≡_, sym, ap, _∙_, subst}
 use mathlib.Core.List.{List, []}
 use Prim.Native.Nat.{ℕ, _+_, _≤_, _<_}
 use native.Mathlib.Omega.{arith}
 use native.Mathlib.Numerals.{add-one}
 use lib.ListN.{length, getD}
-use Rattle.lineage.specs.Lists.{upto, among, those, joined, part}
+use Rattle.lineage.specs.Lists.{among, joined, part}
 use Rattle.lineage.specs.Graph.{Graph, namesOf, groupList, placeOf, isChild, childrenOf}
-use Rattle.lineage.specs.Labels.{Order}
-use Rattle.lineage.specs.Stored.{startsFrom, rowAt}
+use Rattle.lineage.specs.Stored.{startsFrom}
 use Rattle.lineage.specs.Sound.{childOf}
-use Rattle.laws.specs.Laid.{Rows}
 use Rattle.laws.proofs.Condensed.{children-long}
 use Rattle.laws.proofs.Parts.{part-length}
 use Rattle.laws.proofs.Starts.{values-are, starts-are}

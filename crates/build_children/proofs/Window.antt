@@ -1,5 +1,5 @@
 -- From pass to pass. The stamps and then the sequence lie between the two areas; each pass finds what those before it left, and the table of places is as it was.
-use mathlib.Core.Path.{_≡_, sym, ap, _∙_, subst}
+use mathlib.Core.Path.{_≡_, sym, ap, subst}
 use mathlib.Core.List.{List, [], _∷_}
 use Prim.Native.Nat.{ℕ, _+_, _≤_}
 use native.Mathlib.Omega.{arith}

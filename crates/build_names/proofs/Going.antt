@@ -12,7 +12,7 @@ use Rattle.laws.specs.OnePass.{Stage, lowered, opened, atFirst}
 use Rattle.laws.proofs.Tests.{or-false-left, or-false-right}
 use Rattle.laws.proofs.Lists.{among-append}
 use Rattle.laws.proofs.Parts.{part-length, part-at}
-use Rattle.laws.proofs.Folded.{gone}
+use Rattle.laws.proofs.Stages.{gone}
 use Rattle.numbers.specs.Regions.{Kept}
 use Rattle.build_rows.specs.Rows.{rowsIn}
 use Rattle.build_traversal.specs.Frames.{rowPlace, rowEnd}

@@ -19,7 +19,7 @@ use Rattle.laws.specs.OnePass.{leastOf, nameIn}
 use Rattle.laws.proofs.OnePass.{name-here, name-there}
 use Rattle.laws.specs.OnePass.{Stage, lowered, opened, atFirst}
 use Rattle.build_names.specs.Window.{pushed, groupAt, Taken}
-use Rattle.laws.proofs.Folded.{gone}
+use Rattle.laws.proofs.Stages.{gone}
 use Rattle.build_names.proofs.Machine.{seenBy, leaveBy}
 use Rattle.build_names.proofs.Numbered.{numberOf, number-least, number-opened, number-others, number-taken, number-left}
 use Rattle.build_names.proofs.Pushed.{pushed-numbers, pushed-stack, pushed-names}

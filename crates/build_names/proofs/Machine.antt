@@ -16,7 +16,7 @@ use Rattle.laws.proofs.Tests.{clash, or-false-left}
 use Rattle.laws.proofs.Lists.{among-append, position-past}
 use Rattle.build_traversal.proofs.Tasks.{Task, try, finish, tries}
 use Rattle.laws.specs.OnePass.{Stage, lowered, opened, leftBy, left, stageAfter, atFirst}
-use Rattle.laws.proofs.Folded.{gone}
+use Rattle.laws.proofs.Stages.{gone}
 
 -- what is seen
 abbrev pub seenBy : Stage → List ℕ

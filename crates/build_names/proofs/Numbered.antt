@@ -12,7 +12,7 @@ use Rattle.laws.specs.Rising.{Distinct}
 use Rattle.laws.proofs.Lists.{among-append, here, in-left, in-right, position-past, position-left, position-none}
 use Rattle.laws.proofs.Rising.{distinct-apart, distinct-left}
 use Rattle.laws.specs.OnePass.{Stage, opened}
-use Rattle.laws.proofs.Folded.{gone}
+use Rattle.laws.proofs.Stages.{gone}
 use Rattle.build_names.proofs.Machine.{seenBy}
 
 abbrev pub numberBy : Bool → Bool → ℕ → ℕ → ℕ

@@ -8,7 +8,7 @@ use lib.Dec.{eqb}
 use borrow.Author.Tests.{eq-eqb, ne-eqb}
 use Rattle.lineage.specs.Lists.{among}
 use Rattle.laws.specs.Rising.{Distinct}
-use Rattle.build_rows.specs.Rows.{newOnes, strippedRow}
+use Rattle.build_rows.specs.Rows.{newOnes}
 
 -- an entry is passed over, or kept
 module _ (seen : List ℕ) (x : ℕ) (xs : List ℕ) where

@@ -22,6 +22,7 @@ pub mod Closed
 pub mod Ranks
 -- Groups by one traversal.
 pub mod EdgeRows
+pub mod Stages
 pub mod Folded
 pub mod OnePass
 -- Labels: the labelling under an order, and the order for a labelling.

@@ -22,7 +22,8 @@ use Rattle.laws.proofs.Joined.{in-joined}
 use Rattle.laws.proofs.Closed.{leads-on}
 use Rattle.laws.proofs.Names.{name-smallest, name-low, name-group}
 use Rattle.laws.proofs.EdgeRows.{leads-reaches, reaches-leads}
-use Rattle.laws.proofs.Folded.{gone, Fine, in-group, on-stack, AllGroups, Good, Through, folded}
+use Rattle.laws.proofs.Stages.{gone, Fine, in-group, on-stack, AllGroups, Good, Through}
+use Rattle.laws.proofs.Folded.{folded}
 
 module _ {next : ℕ → List ℕ} {roots : List ℕ} {f : Forest} (visits : Visits next roots [] f) where
   abbrev end : Stage
