@@ -28,7 +28,7 @@ fn order_rows(
 }
 
 // The labelling of k groups with c children in all, under the order at `at`: one traversal from the groups that are nobody's child, in that order, to the children of
-// each, in that order.
+// each, in that order. The rows at `children` are those that the labelling is of; the traversal goes by the parents.
 pub fn label(
     orders: &[u32],
     at: usize,
