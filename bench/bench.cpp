@@ -3,8 +3,8 @@
 //
 //     bench all | build | monday | quick
 //
-// prints the figures (measure.hpp) of one build, one opening or one question. `build` measures the build alone, on random acyclic graphs, `monday` the call for all pairs
-// of two lists alone; `quick` is one small size with few repetitions, and serves to see that all agree.
+// prints the figures (measure.hpp) of one build, one opening or one question. `build` measures builds and openings alone, `monday` the call for all pairs of two lists
+// alone; `quick` is one small size with few repetitions, and serves to see that all agree.
 #include "measure.hpp"
 #include "peers.hpp"
 #include <drobisten.h>
@@ -237,13 +237,13 @@ int main(int words, char **word) {
     must(what == "all" || what == "build" || what == "monday" || what == "quick", "all, build, monday or quick?");
     quick = what == "quick";
     for (const std::string &kind : KINDS) {
-        if (what == "build" && kind != "dag") continue;
         for (uint32_t n : quick ? Numbers{500} : Numbers{500, 1000, 2000, 4096}) {
             Chance chance(n);
             Cases cases(what == "monday" ? 1 : quick ? 2 : 8192 / n);
             for (Case &c : cases) {
                 c.graph = graph(kind, n, 4, chance);
                 c.search.build(c.graph), c.closure.build(c.graph);
+                if (what == "build") continue;
                 for (const char *which : {"reachable", "unreachable", "mixed"}) c.pairs[which] = choose(which, c.closure, n, &c == &cases[0] && !quick ? 20000 : 100, chance);
             }
             for (int d : {1, 2, 5}) {
@@ -258,9 +258,9 @@ int main(int words, char **word) {
                     cases[0].index = stored_form(cases[0].grail, 1);
                 } else {
                     build(w, cases, orders);
-                    if (what == "build") continue;
                     open(w, cases);
                     damage(cases[0].index, chance);
+                    if (what == "build") continue;
                     check_is_cut(cases[0]);
                 }
                 for (const char *which : {"reachable", "unreachable", "mixed"}) {

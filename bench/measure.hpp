@@ -65,10 +65,10 @@ static void measure(const Where &w, double count, const std::vector<Job> &jobs) 
     for (size_t i = 0; i < jobs.size(); i++) figure(w, jobs[i].who, least[i] * 1e9 / count);
 }
 
-// Runs `all`, as the program's one word says it, `all` or `quick`, on a large stack: the peers nest a call for each level of a line.
+// Runs `all`, as the program's one word says it, `all`, `quick` or, where the program has it, `build`, on a large stack: the peers nest a call for each level of a line.
 inline void run(int words, char **word, void *(*all)(void *)) {
     std::string what = words == 2 ? word[1] : "";
-    must(what == "all" || what == "quick", "all or quick?");
+    must(what == "all" || what == "build" || what == "quick", "all, build or quick?");
     quick = what == "quick";
     pthread_attr_t large;
     pthread_t thread;

@@ -1,6 +1,6 @@
 # The tables of docs/FIGURES.md and its plot, from the figures that bench prints.
-# awk -v svg=FILE -f bench/tables.awk -f bench/page.awk FIGURES: the tables go to the output, the plot to FILE. Without FILE: the table of builds alone, of the graphs that
-# were built.
+# awk -v svg=FILE -f bench/tables.awk -f bench/page.awk FIGURES: the tables go to the output, the plot to FILE. With -v only=build or -v only=monday in the place of FILE: the
+# tables of builds and openings, or of all pairs.
 BEGIN {
     sizes = split("500 1000 2000 4096", N, " ")
     split("reachable unreachable mixed", PAIRS, " ")
@@ -8,19 +8,17 @@ BEGIN {
 }
 
 function builds(    a, j, kind, d) {
-    print "### Build: ours to GRAIL\n"
+    print "### Build, form 1: ours to GRAIL\n"
     heading("| graph | d | n = 500 | 1,000 | 2,000 | 4,096 | slope, ours | slope, GRAIL | ours, 4,096 | GRAIL, 4,096 | closure, 4,096 |", 11)
     for (a = 1; a in KIND; a++) for (j = 1; j in D; j++) {
         kind = KIND[a]; d = D[j]
-        if (!(("build", kind, most, d, "-", "ours") in T)) continue
         print "| " title[kind] " | " d ratios("build", kind, d, "-", "grail") " | " slope("build", kind, d, "-", "ours") " | " slope("build", kind, d, "-", "grail") \
             " | " told(time("build", kind, most, d, "-", "ours")) " | " told(time("build", kind, most, d, "-", "grail")) " | " told(time("build", kind, most, d, "-", "closure")) " |"
     }
 }
 
-function tables(    a, j, p, kind, d, pairs) {
-    builds()
-    print "\n### Open: ours to the same check in C++\n"
+function opens(    a, j, kind, d) {
+    print "\n### Open, form 1: ours to the same check in C++\n"
     heading("| graph | d | n = 500 | 1,000 | 2,000 | 4,096 | slope, ours | ours, 4,096 | to loading | to one pass |", 10)
     for (a = 1; a in KIND; a++) for (j = 1; j in D; j++) {
         kind = KIND[a]; d = D[j]
@@ -28,7 +26,10 @@ function tables(    a, j, p, kind, d, pairs) {
             " | " ratio(time("open", kind, most, d, "-", "ours"), time("open", kind, most, d, "-", "load")) \
             " | " ratio(time("open", kind, most, d, "-", "ours"), time("open", kind, most, d, "-", "pass")) " |"
     }
-    print "\n### Single question with its check, mixed pairs: ours to the same check in C++ and GRAIL's question\n"
+}
+
+function tables(    a, j, p, kind, d, pairs) {
+    print "### Single question with its check, mixed pairs: ours to the same check in C++ and GRAIL's question\n"
     heading("| graph | d | n = 500 | 1,000 | 2,000 | 4,096 | slope, ours | ours, 4,096 | reachable | unreachable | to search, mixed |", 11)
     for (a = 1; a in KIND; a++) for (j = 1; j in D; j++) {
         kind = KIND[a]; d = D[j]
@@ -127,6 +128,6 @@ function plot() {
 
 END {
     if (only == "monday") mondays()
-    else if (svg == "") builds()
+    else if (only == "build") { builds(); opens() }
     else { tables(); print ""; mondays(); plot() }
 }

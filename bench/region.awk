@@ -1,5 +1,5 @@
 # The tables of stored form 2 at the bigger region, from the figures that region prints.
-# awk -f bench/tables.awk -f bench/region.awk FIGURES
+# awk -f bench/tables.awk -f bench/region.awk FIGURES; with -v only=build those of builds and openings, otherwise all others
 BEGIN {
     sizes = split("4096 16000 60000 200000", N, " ")
     split("reachable unreachable mixed", PAIRS, " ")
@@ -76,8 +76,11 @@ function memories(    a, j, kind, d) {
 }
 
 END {
-    one_peer("Build: ours to GRAIL", "build", "-", "grail", "GRAIL")
-    one_peer("Open: ours to the same check in C++", "open", "-", "check", "check", "cleared load pass", " to check and clearing the words | to loading | to one pass |")
+    if (only == "build") {
+        one_peer("Build, form 2: ours to GRAIL", "build", "-", "grail", "GRAIL")
+        one_peer("Open, form 2: ours to the same check in C++", "open", "-", "check", "check", "cleared load pass", " to check and clearing the words | to loading | to one pass |")
+        exit
+    }
     one_peer("Single question with its check, mixed pairs: ours to the same check in C++ and GRAIL's question", "ask", "mixed", "check", "C++")
     one_peer("List with its check: ours to the same check in C++ and a list over GRAIL's groups", "list", "checked", "check", "C++")
     one_peer("List alone, the check cut: ours to a list over GRAIL's groups", "list", "alone", "grail", "C++")

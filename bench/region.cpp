@@ -1,10 +1,11 @@
 // Measures stored form 2 up to its bounds, 200,000 vertices and 1,000,000 edges, beside the same peers (peers.hpp) on the same graphs, orders and pairs, and compares all
 // that they answer: the first difference ends it with an error.
 //
-//     region all | quick
+//     region all | build | quick
 //
 // prints the figures (measure.hpp) of one build, one opening, one question or list with its check, one list and one pair without it, at four sizes with five edges a vertex
-// each; and as `memory` the bytes that a build and an opening take beside what they are given. `quick` is one small size with few repetitions.
+// each; and as `memory` the bytes that a build and an opening take beside what they are given. `build` measures builds and openings alone; `quick` is one small size with few
+// repetitions.
 #include "measure.hpp"
 #include "peers.hpp"
 #include <drobisten.h>
@@ -263,6 +264,8 @@ static void check_is_cut(Region &r) {
 
 // ---------------------------------------------------------------- all of it
 
+static bool builds; // and openings alone
+
 static void *measure_all(void *) {
     for (const std::string &kind : KINDS)
         for (uint32_t n : quick ? Numbers{500} : Numbers{4096, 16000, 60000, 200000}) {
@@ -270,7 +273,8 @@ static void *measure_all(void *) {
             Region r;
             r.graph = graph(kind, n, EDGES_A_VERTEX, chance);
             r.search.build(r.graph);
-            for (const char *which : {"reachable", "unreachable", "mixed"}) r.pairs[which] = choose(which, r.search, n, quick ? 300 : std::max(20000u, n), chance);
+            for (const char *which : {"reachable", "unreachable", "mixed"})
+                if (!builds) r.pairs[which] = choose(which, r.search, n, quick ? 300 : std::max(20000u, n), chance);
             for (int d : {1, 2, 5}) {
                 Where w{"", kind.c_str(), n, d, ""};
                 Numbers orders;
@@ -281,6 +285,7 @@ static void *measure_all(void *) {
                 build(w, r, orders);
                 open(w, r);
                 damage(r, chance);
+                if (builds) continue;
                 check_is_cut(r);
                 ask(w, r);
                 list(w, r);
@@ -293,4 +298,7 @@ static void *measure_all(void *) {
     return nullptr;
 }
 
-int main(int words, char **word) { run(words, word, measure_all); }
+int main(int words, char **word) {
+    builds = words == 2 && std::string(word[1]) == "build";
+    run(words, word, measure_all);
+}

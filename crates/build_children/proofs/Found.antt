@@ -1,24 +1,20 @@
--- What the pass leaves, where places are those of a graph's groups: the children of lineage, stored as they lie, and the parents. Over any order of the places the
--- parents turned are each group's children in that order, as a traversal goes through them.
-use mathlib.Core.Path.{_≡_, sym, ap, _∙_, subst, fun-ext}
+-- What the pass leaves, where places are those of a graph's groups: the children of lineage, stored as they lie, and the parents.
+use mathlib.Core.Path.{_≡_, sym, ap, _∙_, subst}
 use mathlib.Core.List.{List, []}
 use Prim.Native.Nat.{ℕ, _+_, _≤_, _<_}
 use native.Mathlib.Omega.{arith}
 use native.Mathlib.Numerals.{add-one}
 use lib.ListN.{length, getD}
-use Rattle.lineage.specs.Lists.{upto, among, those, joined, part}
-use Rattle.lineage.specs.Graph.{Graph, namesOf, groupList, placeOf, childrenOf}
-use Rattle.lineage.specs.Labels.{Order}
-use Rattle.lineage.specs.Stored.{startsFrom, rowAt}
+use Rattle.lineage.specs.Lists.{among, joined, part}
+use Rattle.lineage.specs.Graph.{Graph, namesOf, groupList, placeOf, isChild, childrenOf}
+use Rattle.lineage.specs.Stored.{startsFrom}
 use Rattle.lineage.specs.Sound.{childOf}
-use Rattle.laws.specs.Laid.{Rows}
 use Rattle.laws.proofs.Condensed.{children-long}
 use Rattle.laws.proofs.Parts.{part-length}
 use Rattle.laws.proofs.Starts.{values-are, starts-are}
-use Rattle.build_rows.specs.Rows.{turnedRow}
-use Rattle.build_children.specs.Places.{childPlaces, parentPlaces}
+use Rattle.build_children.specs.Places.{childPlaces}
 use Rattle.build_children.specs.Window.{childrenAt, childrenWindow, ChildrenFit, ChildrenAt, ParentsAt, ChildrenFound}
-use Rattle.build_children.proofs.Rows.{rows-same, rows-turned, among-those, those-upto, turned-those}
+use Rattle.build_children.proofs.Rows.{rows-same, among-those}
 use Rattle.build_children.proofs.Named.{children-are}
 
 -- the children of k groups and their parents, in a window for e edges
@@ -27,7 +23,7 @@ pub record ChildrenStored (children : List (List ℕ)) (work : List ℕ) (base k
   pub starts : part work (childrenAt base k e) (k + 1) ≡ startsFrom 0 children
   pub values : part work (childrenAt base k e + k + 1) c ≡ joined children
   pub count : c ≡ length (joined children)
-  pub parents : ParentsAt work base k c (λ q. those (λ p. childOf children p q) (upto k))
+  pub parents : ParentsAt work base k c (childOf children)
 
 module _ {G : Graph} {work work' : List ℕ} {place k base c : ℕ} (fit : ChildrenFit G work place k base) (found : ChildrenFound G work work' place k base c) where
   abbrev groups : List ℕ
@@ -49,10 +45,8 @@ module _ {G : Graph} {work work' : List ℕ} {place k base c : ℕ} (fit : Child
       laid : ChildrenAt work' base k (length (G .sources)) c (λ p. getD children p [])
       laid = rows-same (found .children) children-at
 
-      parents-at : (q : ℕ) → parentPlaces G (part work place (G .n)) k q ≡ those (λ p. childOf children p q) (upto k)
-      parents-at q =
-          those-upto (λ p. among q (childPlaces G (part work place (G .n)) k p)) (λ p. childOf children p q) k
-          (λ p h i. rw (children-at p h) at i) (λ p h i. rw (children-at p h) i)
+      child-is : (p q : ℕ) → p < k → q < k → childOf children p q ≡ isChild G (part work place (G .n)) p q
+      child-is p q h l = ap (among q) (sym (children-at p h)) ∙ among-those (isChild G (part work place (G .n)) p) k q l
 
       -- the rows laid out are the children, their regions the two sections that hold them, and the other rows the parents
       pub children-stored : ChildrenStored children work' base k (length (G .sources)) c
@@ -61,7 +55,7 @@ module _ {G : Graph} {work work' : List ℕ} {place k base c : ℕ} (fit : Child
         starts = starts-are children children-all laid (part-length work' starts (k + 1) (omega (arith, room)) ∙ add-one k);
         values = values;
         count = sym (part-length work' (starts + k + 1) c (omega (arith, room, found .few))) ∙ ap length values;
-        parents = rows-same (found .parents) (λ q h. parents-at q);
+        parents = record { laid = found .parents .laid; low = found .parents .low; once = found .parents .once; holds = λ q p h l. found .parents .holds q p h l ∙ sym (child-is p q l h) };
       }
         where
           starts : ℕ
@@ -72,11 +66,3 @@ module _ {G : Graph} {work work' : List ℕ} {place k base c : ℕ} (fit : Child
 
           values : part work' (starts + k + 1) c ≡ joined children
           values = values-are children children-all laid
-
--- parents turned over an order of the places: each group's children, in that order
-pub children-ranked :
-    (children : List (List ℕ)) {starts values starts' values' ranked : List ℕ} {k : ℕ} → Rows starts values k (λ q. those (λ p. childOf children p q) (upto k))
-    → Order k ranked → Rows starts' values' k (turnedRow (rowAt starts values) ranked) → Rows starts' values' k (λ p. those (λ q. childOf children p q) ranked)
-children-ranked children {ranked = ranked} {k} parents order turned =
-    rows-same (rows-turned parents order turned) (λ p h.
-    turned-those (λ q p. childOf children p q) k ranked p ∙ ap (λ test. those test ranked) (fun-ext (λ q. among-those (λ x. childOf children x q) k p h)))

@@ -1,26 +1,24 @@
--- Children and parents of groups told by their places. The rows of edges by target hold, for each group, the places that its edges come from. Turned over
--- 0, .. , k - 1 and stripped they are the children, since an edge leads from p into q exactly where p stands in row q; and as no child stands twice, children
--- turned again are the parents.
-use mathlib.Core.Bool.{Bool, true, false, not, _&&_, _||_, and-true, and-false}
-use mathlib.Core.Path.{_≡_, refl, sym, ap, ap₂, _∙_, fun-ext}
+-- Parents of groups told by their places. The rows of edges by target hold, for each group, the places that its edges come from: an edge leads from p into q exactly where p
+-- stands in row q. Without their own numbers and without repeats they are the rows of parents.
+use mathlib.Core.Bool.{Bool, true, false, not, _&&_, _||_, and-true, and-false, and-comm, or-false}
+use mathlib.Core.Path.{_≡_, refl, sym, ap, ap₂, _∙_}
 use mathlib.Core.List.{List, [], _∷_}
 use Prim.Native.Nat.{ℕ, _<_}
 use native.Mathlib.Decide.{ℕ-discrete}
 use lib.Dec.{eqb}
 use lib.ListN.{length, getD}
 use borrow.Author.Tests.{eq-eqb, ne-eqb}
-use Rattle.lineage.specs.Lists.{upto, among, those}
+use Rattle.lineage.specs.Lists.{among}
 use Rattle.lineage.specs.Graph.{Graph, Edge, first, later, someEdge, isChild}
-use Rattle.laws.specs.Passes.{row}
-use Rattle.laws.specs.Laid.{Below}
+use Rattle.laws.specs.EdgeRows.{row}
+use Rattle.laws.specs.Laid.{Below, Rows}
+use Rattle.laws.proofs.Tests.{and-left}
 use Rattle.laws.proofs.Lists.{here, there}
-use Rattle.laws.proofs.TwoPasses.{edge-rows}
-use Rattle.laws.proofs.Laid.{below-in}
-use Rattle.build_rows.specs.Rows.{mapped, turnedRow, strippedRow}
+use Rattle.laws.proofs.EdgeRows.{edge-rows}
+use Rattle.laws.proofs.Laid.{below-in, values-below}
+use Rattle.build_rows.specs.Rows.{mapped, strippedRow, RowsOnce}
 use Rattle.build_rows.proofs.Pairs.{mapped-low}
-use Rattle.build_stripping.proofs.Singles.{stripped-turned}
-use Rattle.build_children.specs.Places.{childPlaces, parentPlaces}
-use Rattle.build_children.proofs.Rows.{turned-those}
+use Rattle.build_stripping.proofs.Once.{new-among, new-once}
 
 eqb-turn : (a b : ℕ) → eqb a b ≡ eqb b a
 eqb-turn a b = at (ℕ-discrete a b)
@@ -60,15 +58,21 @@ module _ (G : Graph) (place : List ℕ) (k : ℕ) where
   pub coming-low : Below (length place) (G .sources) → Below k place → (q p : ℕ) → among p (comingFrom G place q) ≡ true → p < k
   coming-low sources-low places q p i =
       below-in k (mapped place (G .sources)) (mapped-low place (G .sources) k sources-low places) p
-      (edge-target (edge-rows (mapped place (G .targets)) (mapped place (G .sources)) .holds q p .0 i))
+      (edge-target (edge-rows (mapped place (G .targets)) (mapped place (G .sources)) q p .0 i))
 
-  -- turned and stripped, they are the children
-  pub stripped-children : (p : ℕ) → strippedRow (turnedRow (comingFrom G place) (upto k)) p ≡ childPlaces G place k p
+  -- stripped, they are the parents
+  pub stripped-parents :
+      Below (length place) (G .sources) → Below k place → {starts values : List ℕ} → Rows starts values k (strippedRow (comingFrom G place))
+      → RowsOnce starts values k (λ q p. isChild G place p q)
   unfolding isChild
-  stripped-children p =
-      stripped-turned (comingFrom G place) p k
-      ∙ ap (λ test. those test (upto k)) (fun-ext (λ q. ap₂ _&&_ (ap not (eqb-turn q p)) (edge-into place (G .sources) (G .targets) p q)))
-
-  -- children, turned, are the parents
-  pub turned-parents : (q : ℕ) → turnedRow (childPlaces G place k) (upto k) q ≡ parentPlaces G place k q
-  turned-parents q = turned-those (isChild G place) k (upto k) q
+  stripped-parents sources-low places {starts} {values} r = record {
+    laid = r .laid;
+    low = values-below r k (λ q p h i. coming-low sources-low places q p (and-left (among p (comingFrom G place q)) _ (sym (new-among (q ∷ []) (comingFrom G place q) p) ∙ i)));
+    once = λ q h. rw (r .row-is q h) (new-once (q ∷ []) (comingFrom G place q));
+    holds = λ q p h l. ap (among p) (r .row-is q h) ∙ new-among (q ∷ []) (comingFrom G place q) p ∙ child-is q p;
+  }
+    where
+      child-is : (q p : ℕ) → (among p (comingFrom G place q) && not (among p (q ∷ []))) ≡ isChild G place p q
+      child-is q p =
+          and-comm (among p (comingFrom G place q)) (not (eqb p q || false))
+          ∙ ap₂ _&&_ (ap not (or-false (eqb p q))) (edge-into place (G .sources) (G .targets) p q)

@@ -2,8 +2,8 @@
 ghost use Rattle.build_children.specs.Window.{ChildrenFit, ChildrenFound};
 
 // Lays out the children and the parents of each of k groups, told by their places, and returns how many children there are in all. The edges laid out by
-// target give for each group the places that its edges come from; turned, the places that its edges lead to, rising, repeats side by side; stripped, its
-// children; and turned again, its parents.
+// target give for each group the places that its edges come from; stripped, its parents; and turned, each group's children, rising. The stamps of the stripping lie where the
+// sequence 0, .. , k - 1 is written then.
 pub fn children(
     sources: &[u32],
     targets: &[u32],
@@ -21,10 +21,10 @@ pub fn children(
     let sequence = parents + e;
     let starts = sequence + k;
     let children = starts + k + 1;
-    build_rows::count_up(work, sequence, k);
     build_rows::rows(targets, sources, work, place, n, k, starts);
-    build_turning::turn(work, starts, children, e, k, sequence, base);
-    let c = build_stripping::strip(work, base, parents, e, k, starts);
-    build_turning::turn(work, starts, children, c, k, sequence, base);
+    numbers::clear_part(work, sequence, k);
+    let c = build_stripping::strip(work, starts, children, e, k, base);
+    build_rows::count_up(work, sequence, k);
+    build_turning::turn(work, base, parents, c, k, sequence, starts);
     c
 }

@@ -1,5 +1,2 @@
--- The laws of this crate's passes.
-pub mod Reversing
-pub mod Passing
-pub mod Passes
+-- The laws of this crate's steps.
 pub mod Found

@@ -1,4 +1,3 @@
--- What the contracts of this crate say of trees and names, and of what is lent.
-pub mod Trees
+-- What the contract of this crate says of names and places, and of what is lent.
 pub mod Fit
 pub mod Places

@@ -12,7 +12,7 @@ use Rattle.lineage.specs.Stored.{labelNumbers, mostLabellings}
 use Rattle.numbers.specs.Bounds.{vertexBound}
 use Rattle.numbers.specs.Put.{put}
 use Rattle.build_orders.proofs.Permutations.{order-room}
-use Rattle.build_labelled.specs.Window.{byRankAt, windowLabelling, Labelled}
+use Rattle.build_labelled.specs.Window.{walkAt, windowLabelling, Labelled}
 use Rattle.build_labelled.specs.Fit.{LabelFit}
 use Rattle.stored_header.specs.declared.Layout.{Layout}
 use Rattle.build_writing.specs.Words.{labellingInWords}
@@ -28,8 +28,8 @@ module _ {l : Layout} {e : ℕ} {orders work : List ℕ} (fit : Ready l e orders
 
   -- the regions that code has reckoned
   module _
-      {children base byRank : ℕ} (children-is : children ≡ childrenFrom (l .n) (l .k) e) (base-is : base ≡ labelsFrom (l .n) (l .k) e)
-      (ranks-is : byRank ≡ byRankAt (labelsFrom (l .n) (l .k) e) (l .n) (l .k) (l .c))
+      {children base walk : ℕ} (children-is : children ≡ childrenFrom (l .n) (l .k) e) (base-is : base ≡ labelsFrom (l .n) (l .k) e)
+      (walk-is : walk ≡ walkAt (labelsFrom (l .n) (l .k) e) (l .n) (l .k) (l .c))
     where
       pub label-fits : (j : ℕ) → j < l .d → LabelFit orders work (j * l .n) (l .n) (l .k) (l .c) 0 (2 * l .n) (3 * l .n) children base
       label-fits j h =
@@ -44,7 +44,7 @@ module _ {l : Layout} {e : ℕ} {orders work : List ℕ} (fit : Ready l e orders
 
           pub labelling-fits : (out' : List ℕ) (at : ℕ)
               → at + l .width * (4 * l .k) ≤ length out'
-              → LabellingFit out' at (l .width) work' (base + 2 * l .k) (base + l .k) base byRank (l .k)
+              → LabellingFit out' at (l .width) work' walk (walk + 5 * l .k) (walk + 6 * l .k) (walk + 4 * l .k) (l .k)
           labelling-fits out' at h =
               let room = fit .stored .fit .vertices .room in
               let long = order-labelled .kept .long in
@@ -58,11 +58,11 @@ module _ {l : Layout} {e : ℕ} {orders work : List ℕ} (fit : Ready l e orders
                 few = omega (arith, fit .vertices, fit .stored .few-groups);
               }
 
-          labelling-there : labellingInWords work' (base + 2 * l .k) (base + l .k) base byRank (l .k) ≡ windowLabelling work' (labelsFrom (l .n) (l .k) e) (l .n) (l .k) (l .c)
-          labelling-there = rw (base-is, ranks-is)
+          labelling-there : labellingInWords work' walk (walk + 5 * l .k) (walk + 6 * l .k) (walk + 4 * l .k) (l .k) ≡ windowLabelling work' (labelsFrom (l .n) (l .k) e) (l .n) (l .k) (l .c)
+          labelling-there = rw walk-is
 
           pub order-written : (out' r : List ℕ) (at : ℕ)
-              → r ≡ put out' at (written (l .width) (labelNumbers (l .k) (labellingInWords work' (base + 2 * l .k) (base + l .k) base byRank (l .k))))
+              → r ≡ put out' at (written (l .width) (labelNumbers (l .k) (labellingInWords work' walk (walk + 5 * l .k) (walk + 6 * l .k) (walk + 4 * l .k) (l .k))))
               → r ≡ put out' at (written (l .width) (labellingBlock l e orders work j))
           order-written out' r at h =
               h ∙ ap (λ (z : Labelling). put out' at (written (l .width) (labelNumbers (l .k) z))) (labelling-there ∙ order-labelled .made)

@@ -19,8 +19,8 @@ use Rattle.laws.proofs.Parts.{part-length}
 use Rattle.laws.proofs.Every.{every-mapped}
 use Rattle.numbers.specs.Put.{put}
 use Rattle.numbers.specs.Regions.{Kept}
-use Rattle.build_labels.specs.Fit.{UpFit}
-use Rattle.build_labelled.specs.Window.{byRankAt, levelsAt, labelsWindow, groupsBy, childrenBy}
+use Rattle.build_levels.specs.Fit.{UpFit}
+use Rattle.build_labelled.specs.Window.{walkAt, labelsWindow, groupsBy, childrenBy}
 use Rattle.build_labelled.specs.Fit.{LabelFit}
 use Rattle.build_labelled.proofs.Again.{levels-fit, levels-beside}
 use Rattle.stored_header.specs.declared.Layout.{Layout}
@@ -123,26 +123,27 @@ module _ {l : Layout} {e : ℕ} {orders work₀ : List ℕ} (fit : Ready l e ord
 
   -- the regions that code has reckoned, and the last labelling in its window
   module _
-      {children-at base : ℕ} (children-is : children-at ≡ childrenFrom (l .n) (l .k) e) (base-is : base ≡ labelsFrom (l .n) (l .k) e)
+      {children-at base walk : ℕ} (children-is : children-at ≡ childrenFrom (l .n) (l .k) e) (base-is : base ≡ labelsFrom (l .n) (l .k) e)
+      (walk-is : walk ≡ walkAt (labelsFrom (l .n) (l .k) e) (l .n) (l .k) (l .c))
       {work₁ : List ℕ} (made : OrderLabelled l e orders work₀ work₁ (l .d - 1))
     where
       last-fits : LabelFit orders work₀ ((l .d - 1) * l .n) (l .n) (l .k) (l .c) 0 (2 * l .n) (3 * l .n) (childrenFrom (l .n) (l .k) e) (labelsFrom (l .n) (l .k) e)
       last-fits = label-fits fit refl refl refl (l .d - 1) (omega (arith, fit .least))
 
-      pub levels-there : UpFit work₁ (byRankAt base (l .n) (l .k) (l .c)) (l .k) children-at (children-at + l .k + 1) (l .c) (levelsAt base (l .k))
-      levels-there = rw (children-is, base-is) (levels-fit last-fits made)
+      pub levels-there : UpFit work₁ (walk + 4 * l .k) (l .k) children-at (children-at + l .k + 1) (l .c) base
+      levels-there = rw (children-is, base-is, walk-is) (levels-fit last-fits made)
 
       module _
-          {work₂ : List ℕ} (K : Kept work₁ work₂ (levelsAt base (l .k)) (l .k))
-          (levels : part work₂ (levelsAt base (l .k)) (l .k) ≡ levelsOf (childrenBy work₁ children-at (l .k) (l .c)))
+          {work₂ : List ℕ} (K : Kept work₁ work₂ base (l .k))
+          (levels : part work₂ base (l .k) ≡ levelsOf (childrenBy work₁ children-at (l .k) (l .c)))
         where
-          beside : OrderLabelled l e orders work₀ work₂ (l .d - 1) × (part work₂ (levelsAt (labelsFrom (l .n) (l .k) e) (l .k)) (l .k) ≡ levelsOf children)
+          beside : OrderLabelled l e orders work₀ work₂ (l .d - 1) × (part work₂ (labelsFrom (l .n) (l .k) e) (l .k) ≡ levelsOf children)
           beside = levels-beside last-fits made (rw base-is at K) (rw (base-is, children-is) at levels)
 
           pub index-kept : Kept work₀ work₂ (labelsFrom (l .n) (l .k) e) (labelsWindow (l .n) (l .k) (l .c))
           index-kept = beside .0 .kept
 
-          pub groups-fit : (form : ℕ) {out₁ : List ℕ} → form < 2 ^ 32 → l .total ≤ length out₁ → SectionsFit out₁ form l work₂ 0 (l .n) (base + 3 * l .k) children-at (children-at + l .k + 1)
+          pub groups-fit : (form : ℕ) {out₁ : List ℕ} → form < 2 ^ 32 → l .total ≤ length out₁ → SectionsFit out₁ form l work₂ 0 (l .n) base children-at (children-at + l .k + 1)
           groups-fit form small long =
               let room = fit .stored .fit .vertices .room in
               let same = index-kept .long in
@@ -159,7 +160,7 @@ module _ {l : Layout} {e : ℕ} {orders work₀ : List ℕ} (fit : Ready l e ord
               }
 
           -- the five sections before the labels, from their regions
-          sections-are : groupSections work₂ l 0 (l .n) (base + 3 * l .k) children-at (children-at + l .k + 1) ≡ firstSections I
+          sections-are : groupSections work₂ l 0 (l .n) base children-at (children-at + l .k + 1) ≡ firstSections I
           sections-are =
               let names = index-kept .below 0 (l .n) (omega arith) in
               let list = index-kept .below (l .n) (l .k) (omega (arith, fit .stored .few-groups)) ∙ fit .stored .groups in
@@ -171,7 +172,7 @@ module _ {l : Layout} {e : ℕ} {orders work₀ : List ℕ} (fit : Ready l e ord
               → l .total ≤ length out₀
               → out₁ ≡ put out₀ (l .labels) (written (l .width) (joined (map (labellingBlock l e orders work₀) (upto (l .d)))))
               → out₂
-              ≡ put out₁ 0 (written 4 (headerOf form l) ++ joined (map (written (l .width)) (groupSections work₂ l 0 (l .n) (base + 3 * l .k) children-at (children-at + l .k + 1))))
+              ≡ put out₁ 0 (written 4 (headerOf form l) ++ joined (map (written (l .width)) (groupSections work₂ l 0 (l .n) base children-at (children-at + l .k + 1))))
               → out₂ ≡ encode (writtenAs form (l .width)) (indexBy (condensedIn work₀ (l .n) (l .k) (l .c) e) (map (orderAt (l .n) orders) (upto (l .d)))) ++ drop (l .total) out₀
           index-written form out₀ out₁ out₂ room e₁ e₂ =
               e₂

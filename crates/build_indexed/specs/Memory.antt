@@ -4,8 +4,8 @@
 --   0                      n              names
 --   n                      n              group list, k names
 --   2n                     n              the place of each vertex's group
---   3n                     3k + 2 + 2e    the window of the crate `children`: parents, then children
---   3n + 3k + 2 + 2e       n + 8k + 1 + c the window of the crate `labelled`: one labelling after the other, and the levels
+--   3n                     3k + 2 + 2e    the window of the crate build_children: parents, then children
+--   3n + 3k + 2 + 2e       n + 9k + 1 + c the window of the crate build_labelled: one labelling after the other, and the levels
 use mathlib.Core.Path.{_≡_}
 use mathlib.Core.List.{List}
 use Prim.Native.Nat.{ℕ, _+_, _*_, _≤_, _<_}

@@ -12,7 +12,7 @@ ghost use Rattle.lineage.specs.Calls.{orderAt};
 ghost use Rattle.numbers.specs.Bounds.{vertexBound, entryBound};
 ghost use Rattle.numbers.specs.Put.{put};
 ghost use Rattle.numbers.specs.Regions.{Kept};
-ghost use Rattle.build_labelled.specs.Window.{byRankAt, labelsWindow};
+ghost use Rattle.build_labelled.specs.Window.{walkAt, labelsWindow};
 ghost use Rattle.build_orders.specs.Input.{graphOf};
 ghost use Rattle.build_indexed.specs.Written.{writtenAs};
 ghost use Rattle.build_indexed.specs.Memory.{childrenFrom, labelsFrom, condensedIn, labellingBlock, CondensedFit, CondensedFound, Ready, OrderLabelled};
@@ -49,12 +49,12 @@ fn labels_from(n: usize, k: usize, edges: usize) -> usize
     children_from(n, k, edges) + k + 1 + edges
 }
 
-// Where the places by rank of a labelling lie.
-fn by_rank_from(n: usize, k: usize, c: usize, edges: usize) -> usize
+// Where the regions of a labelling's traversal lie: s, and behind it the places by rank, m and e.
+fn walk_from(n: usize, k: usize, c: usize, edges: usize) -> usize
     requires { ⌜ (n ≤ vertexBound) × ((k ≤ n) × ((c ≤ edges) × (edges ≤ entryBound))) ⌝ }
-    ensures { λ r. ⌜ r ≡ byRankAt (labelsFrom n k edges) n k c ⌝ }
+    ensures { λ r. ⌜ r ≡ walkAt (labelsFrom n k edges) n k c ⌝ }
 {
-    labels_from(n, k, edges) + n + k + k + 1 + c + 4 * k
+    labels_from(n, k, edges) + n + k + k + 1 + c
 }
 
 // Labels the groups under order j, and writes the labelling from position at on.
@@ -77,7 +77,7 @@ fn write_order(
     let c = l.c;
     let children = children_from(n, k, edges);
     let base = labels_from(n, k, edges);
-    let by_rank = by_rank_from(n, k, c, edges);
+    let walk = walk_from(n, k, c, edges);
     build_labelled::label(
         orders,
         j * n,
@@ -96,10 +96,10 @@ fn write_order(
         at,
         l.width,
         work,
-        base + 2 * k,
-        base + k,
-        base,
-        by_rank,
+        walk,
+        walk + 5 * k,
+        walk + 6 * k,
+        walk + 4 * k,
         k,
     );
 }
@@ -142,17 +142,9 @@ pub fn write_index(
     let c = l.c;
     let children = children_from(n, k, edges);
     let base = labels_from(n, k, edges);
+    let walk = walk_from(n, k, c, edges);
+    let values = children + k + 1;
     write_labels(out, l, edges, orders, work);
-    build_labelled::levels(work, n, k, c, children, base);
-    build_writing::write_groups(
-        out,
-        form,
-        l,
-        work,
-        0,
-        n,
-        base + 3 * k,
-        children,
-        children + k + 1,
-    );
+    build_levels::levels(work, walk + 4 * k, k, children, values, c, base);
+    build_writing::write_groups(out, form, l, work, 0, n, base, children, values);
 }

@@ -9,11 +9,11 @@ use Rattle.lineage.specs.Graph.{groupList, levelsOf}
 use Rattle.lineage.specs.Labels.{labelling}
 use Rattle.numbers.specs.Regions.{Kept}
 use Rattle.numbers.proofs.Regions.{kept-then, kept-wider, kept-apart, outside-kept}
-use Rattle.build_labels.specs.Fit.{UpFit}
-use Rattle.build_labelled.specs.Window.{byRankAt, levelsAt, labelsWindow, childrenBy, Labelled}
+use Rattle.build_levels.specs.Fit.{UpFit}
+use Rattle.build_labelled.specs.Window.{walkAt, byRankAt, labelsWindow, childrenBy, Labelled}
 use Rattle.build_labelled.specs.Fit.{GroupsFit, LabelFit}
 use Rattle.build_labelled.proofs.Regions.{rows-within, starts-same, values-same, children-same}
-use Rattle.build_labelled.proofs.Forest.{labelling-is, up-fits}
+use Rattle.build_labelled.proofs.Forest.{by-rank-is, up-fits}
 
 -- something was written in the window
 module _
@@ -57,20 +57,20 @@ module _
     {orders work work' : List ℕ} {at n k c names place parents children base : ℕ} (fit : LabelFit orders work at n k c names place parents children base)
     (l : Labelled (part orders at n) work work' n k c names children base)
   where
-    pub levels-fit : UpFit work' (byRankAt base n k c) k children (children + k + 1) c (levelsAt base k)
-    levels-fit = up-fits fit (l .kept) (ap (λ z. z .byRank) (l .made ∙ labelling-is fit)) (omega arith) (omega arith)
+    pub levels-fit : UpFit work' (byRankAt base n k c) k children (children + k + 1) c base
+    levels-fit = up-fits fit (l .kept) (ap (λ z. z .byRank) (l .made) ∙ by-rank-is fit) (omega arith) (omega arith)
 
     pub levels-beside :
-        {work'' : List ℕ} → Kept work' work'' (levelsAt base k) k → part work'' (levelsAt base k) k ≡ levelsOf (childrenBy work' children k c)
-        → Labelled (part orders at n) work work'' n k c names children base × (part work'' (levelsAt base k) k ≡ levelsOf (childrenBy work children k c))
+        {work'' : List ℕ} → Kept work' work'' base k → part work'' base k ≡ levelsOf (childrenBy work' children k c)
+        → Labelled (part orders at n) work work'' n k c names children base × (part work'' base k ≡ levelsOf (childrenBy work children k c))
     levels-beside K levels = (
       record {
         kept = kept-then (l .kept) (kept-wider base (labelsWindow n k c) (omega arith) (omega arith) K);
         made =
             (λ i. record {
-              s = K .below (base + 2 * k) k (omega arith) i;
-              m = K .below (base + k) k (omega arith) i;
-              e = K .below base k (omega arith) i;
+              s = K .above (walkAt base n k c) k (omega arith) i;
+              m = K .above (walkAt base n k c + 5 * k) k (omega arith) i;
+              e = K .above (walkAt base n k c + 6 * k) k (omega arith) i;
               byRank = K .above (byRankAt base n k c) k (omega arith) i;
             })
             ∙ l .made;

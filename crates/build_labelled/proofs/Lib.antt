@@ -2,7 +2,6 @@
 pub mod Regions
 pub mod Ordered
 pub mod Forest
-pub mod Made
 pub mod Walked
 pub mod Again
 pub mod Stored

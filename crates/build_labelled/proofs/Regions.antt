@@ -7,7 +7,7 @@ use lib.ListN.{length}
 use Rattle.lineage.specs.Lists.{part}
 use Rattle.numbers.specs.Regions.{Kept, Outside}
 use Rattle.numbers.proofs.Regions.{kept-apart, apart-within}
-use Rattle.build_labels.specs.Labels.{childrenInWords}
+use Rattle.build_levels.specs.Children.{childrenInWords}
 use Rattle.build_labelled.specs.Window.{childrenBy}
 use Rattle.build_labelled.specs.Fit.{RowsOutside}
 

@@ -15,7 +15,7 @@ use Rattle.build_groups.specs.Places.{placesOfNames}
 use Rattle.build_groups.proofs.Listing.{place-at}
 use Rattle.build_children.specs.Window.{childrenAt}
 use Rattle.build_children.proofs.Found.{ChildrenStored}
-use Rattle.build_labels.specs.Labels.{childrenInWords}
+use Rattle.build_levels.specs.Children.{childrenInWords}
 use Rattle.build_labelled.specs.Window.{labelsWindow, childrenBy}
 use Rattle.build_labelled.specs.Fit.{GroupsFit}
 

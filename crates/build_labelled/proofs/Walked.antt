@@ -5,30 +5,27 @@ use mathlib.Core.Path.{_≡_, sym, ap, ap₂, _∙_, subst}
 use mathlib.Core.List.{List, [], map}
 use Prim.Native.Nat.{ℕ, suc, _+_, _*_, _≤_, _<_}
 use native.Mathlib.Omega.{arith}
-use lib.ListN.{length}
-use Rattle.lineage.specs.Lists.{upto, among, those, part}
-use Rattle.lineage.specs.Labels.{Order, outer, finished, traverse, nobodysChild, forestOf}
+use lib.ListN.{length, getD}
+use Rattle.lineage.specs.Lists.{among, those, position, least, part}
+use Rattle.lineage.specs.Labels.{Order, finished, traverse, nobodysChild, forestOf}
 use Rattle.lineage.specs.Sound.{childOf}
 use Rattle.laws.specs.Laid.{Below}
-use Rattle.laws.proofs.Lists.{those-pass}
+use Rattle.laws.proofs.Lists.{those-pass, those-keep, least-same}
 use Rattle.laws.proofs.Parts.{part-length}
 use Rattle.laws.proofs.Laid.{in-below}
-use Rattle.numbers.specs.Regions.{Kept, under, over}
+use Rattle.numbers.specs.Regions.{Kept, under}
 use Rattle.numbers.proofs.Regions.{kept-then, kept-wider}
 use Rattle.build_rows.specs.Rows.{RowsAt, rowsIn}
 use Rattle.build_rows.proofs.Orders.{order-low}
-use Rattle.build_traversal.specs.Lows.{lows, Traversed}
+use Rattle.build_traversal.specs.Traversed.{Downhill, Traversed}
 use Rattle.build_traversal.specs.Fit.{TraverseFit}
 use Rattle.build_traversal.proofs.Reach.{rows-low, traverse-same}
 use Rattle.build_orders.proofs.Parents.{roots-are}
-use Rattle.build_children.proofs.Rows.{upto-order, those-below}
-use Rattle.build_children.proofs.Found.{children-ranked}
-use Rattle.build_labels.specs.Labels.{ranksOf, innersOf}
-use Rattle.build_labelled.specs.Window.{rootsAt, orderedAt, walkAt, byRankAt, labelsWindow, OrderRows, LabelsMade, Labelled}
-use Rattle.build_labelled.specs.Fit.{OrderFit, LabelsFit, LabelFit}
-use Rattle.build_labelled.proofs.Regions.{rows-within, children-same}
+use Rattle.build_children.proofs.Rows.{once-turned, those-below}
+use Rattle.build_labelled.specs.Window.{rootsAt, orderedAt, walkAt, byRankAt, labelsWindow, OrderRows, Labelled}
+use Rattle.build_labelled.specs.Fit.{OrderFit, LabelFit}
 use Rattle.build_labelled.proofs.Ordered.{ranked-order}
-use Rattle.build_labelled.proofs.Forest.{below, ranked, forest, below-long, finished-order, labelling-is, up-fits}
+use Rattle.build_labelled.proofs.Forest.{below, ranked, forest, row, below-long, child-at, child-in-row, child-below, finished-order, children-fall, labelling-is}
 
 module _ {orders work₀ : List ℕ} {at n k c names place parents children base : ℕ} (fit : LabelFit orders work₀ at n k c names place parents children base) where
   places : Order k (ranked fit)
@@ -44,7 +41,7 @@ module _ {orders work₀ : List ℕ} {at n k c names place parents children base
     vertices = fit .groups .vertices;
     parents-there = fit .groups .parents-there;
     parents-laid = fit .groups .parents-are .laid;
-    parents-low = those-below (λ q p. childOf (below fit) p q) (upto k) (upto-order k) (fit .groups .parents-are);
+    parents-low = fit .groups .parents-are .low;
     few = fit .groups .few-children;
   }
 
@@ -60,7 +57,7 @@ module _ {orders work₀ : List ℕ} {at n k c names place parents children base
     long₁ = omega (arith, fit .groups .vertices .room, ordered .kept .long)
 
     rows : RowsAt work₁ rowsFrom k c (λ p. those (λ x. childOf (below fit) p x) (ranked fit))
-    rows = children-ranked (below fit) (fit .groups .parents-are) places (ordered .rows)
+    rows = once-turned (fit .groups .parents-are) places (ordered .rows)
 
     values-low : Below k (part work₁ (rowsFrom + k + 1) c)
     values-low = those-below (λ p x. childOf (below fit) p x) (ranked fit) places rows
@@ -71,7 +68,7 @@ module _ {orders work₀ : List ℕ} {at n k c names place parents children base
     roots-low : (x : ℕ) → among x roots ≡ true → x < k
     roots-low x i = ranked-low x (those-pass (nobodysChild (below fit)) x (ranked fit) (rw roots-is at i) .1)
 
-    pub traverse-fits : TraverseFit work₁ rowsFrom (rowsFrom + k + 1) c (rootsAt base n) q k (walkAt base n k c)
+    pub traverse-fits : TraverseFit work₁ rowsFrom (rowsFrom + k + 1) c (rootsAt base n) q k (walkAt base n k c) (7 * k)
     traverse-fits = record {
       laid = rows .laid;
       values-low = values-low;
@@ -80,6 +77,7 @@ module _ {orders work₀ : List ℕ} {at n k c names place parents children base
       values-there = record { fits = omega (arith, long₁); apart = under (omega arith) };
       roots-there = record { fits = omega (arith, long₁, ordered .few); apart = under (omega (arith, ordered .few)) };
       room = omega (arith, long₁);
+      frames-room = omega arith;
       few-values = fit .groups .few-children;
       few-roots = omega (arith, ordered .few, fit .groups .few-groups);
       few = fit .groups .few-groups;
@@ -92,54 +90,66 @@ module _ {orders work₀ : List ℕ} {at n k c names place parents children base
         traverse-same k roots (rows .row-is) (rows-low _ _ values-low) (λ p x i. ranked-low x (those-pass (childOf (below fit) p) x (ranked fit) i .1)) roots-low
         ∙ ap₂ (λ m xs. traverse (λ p. those (λ x. childOf (below fit) p x) (ranked fit)) (suc m) xs []) (sym (below-long fit)) roots-is
 
-    -- it is gone through
-    module _
-        {work₂ : List ℕ} {r : ℕ} (walking : Kept work₁ work₂ (walkAt base n k c) (6 * k))
-        (traversed : Traversed (traverse (rowsIn work₁ rowsFrom (rowsFrom + k + 1) c k) (suc k) roots []) work₂ (walkAt base n k c) k r)
+    -- the children fall along these rows
+    downhill : Downhill (rowsIn work₁ rowsFrom (rowsFrom + k + 1) c k) k
+    downhill = record {
+      height = λ p. position p (finished (forest fit));
+      falls = λ p x h i. children-fall fit p x h (those-pass (childOf (below fit) p) x (ranked fit) (rw (rows .row-is p h) at i) .0);
+    }
+
+    -- it is gone through, and its labels are the labelling
+    pub labelled :
+        {work₂ : List ℕ} {r : ℕ} → Kept work₁ work₂ (walkAt base n k c) (7 * k)
+        → Traversed (rowsIn work₁ rowsFrom (rowsFrom + k + 1) c k) (traverse (rowsIn work₁ rowsFrom (rowsFrom + k + 1) c k) (suc k) roots []) work₂ (walkAt base n k c) k r
+        → Labelled (part orders at n) work₀ work₂ n k c names children base
+    labelled {work₂} {r} walking traversed = record {
+      kept = kept₂;
+      made = ap (λ z. record { s = s; m = m; e = e; byRank = z }) by-rank ∙ labelling-is fit s m e (long walk (omega arith)) (long (walk + 5 * k) (omega arith)) (long (walk + 6 * k) (omega arith))
+          (λ p h. T .m p (visited p h)) (λ p h. T .e p (visited p h)) (λ p h. T .s downhill p (visited p h) ∙ same-row p h);
+    }
       where
+        walk : ℕ
+        walk = walkAt base n k c
+
+        s : List ℕ
+        s = part work₂ walk k
+
+        m : List ℕ
+        m = part work₂ (walk + 5 * k) k
+
+        e : List ℕ
+        e = part work₂ (walk + 6 * k) k
+
         kept₂ : Kept work₀ work₂ base (labelsWindow n k c)
         kept₂ = kept-then (ordered .kept) (kept-wider base (labelsWindow n k c) (omega arith) (omega arith) walking)
 
         long₂ : base + labelsWindow n k c ≤ length work₂
         long₂ = omega (arith, fit .groups .vertices .room, kept₂ .long)
 
-        finished-is : part work₂ (byRankAt base n k c) r ≡ finished (forest fit)
-        finished-is = traversed .out ∙ ap finished forest-is
+        T : Traversed (rowsIn work₁ rowsFrom (rowsFrom + k + 1) c k) (forest fit) work₂ walk k r
+        T = subst (λ F. Traversed (rowsIn work₁ rowsFrom (rowsFrom + k + 1) c k) F work₂ walk k r) forest-is traversed
+
+        long : (b : ℕ) → b + k ≤ base + labelsWindow n k c → length (part work₂ b k) ≡ k
+        long b h = part-length work₂ b k (omega (arith, long₂))
+
+        visited : (p : ℕ) → p < k → among p (finished (forest fit)) ≡ true
+        visited = finished-order fit .all
 
         count : r ≡ k
-        count = sym (part-length work₂ (byRankAt base n k c) r (omega (arith, long₂, traversed .most))) ∙ ap length finished-is ∙ finished-order fit .long
+        count = sym (part-length work₂ (byRankAt base n k c) r (omega (arith, long₂, T .most))) ∙ ap length (T .out) ∙ finished-order fit .long
 
-        out-is : part work₂ (byRankAt base n k c) k ≡ finished (forest fit)
-        out-is = subst (λ m. part work₂ (byRankAt base n k c) m ≡ finished (forest fit)) count finished-is
+        by-rank : part work₂ (byRankAt base n k c) k ≡ finished (forest fit)
+        by-rank = subst (λ z. part work₂ (byRankAt base n k c) z ≡ finished (forest fit)) count (T .out)
 
-        low-is : part work₂ (byRankAt base n k c + k) k ≡ lows 0 (forest fit)
-        low-is =
-            let there : byRankAt base n k c + k ≡ walkAt base n k c + 5 * k = omega arith in
-            ap (λ z. part work₂ z k) there ∙ subst (λ m. part work₂ (walkAt base n k c + 5 * k) m ≡ lows 0 (forest fit)) count (traversed .low ∙ ap (lows 0) forest-is)
-
-        pub labels-fit : LabelsFit work₂ (byRankAt base n k c) k c children base
-        labels-fit = record {
-          up = up-fits fit kept₂ out-is (omega arith) (omega arith);
-          out-there = record { fits = omega (arith, long₂); apart = over (omega arith) };
-          low-there = record { fits = omega (arith, long₂); apart = over (omega arith) };
-          children-there = rows-within (kept₂ .long) (omega arith) (omega arith) (fit .groups .children-there);
-        }
-
-        -- and the labels are made
-        pub labelled : {work₃ : List ℕ} → LabelsMade work₂ work₃ (byRankAt base n k c) k c children base → Labelled (part orders at n) work₀ work₃ n k c names children base
-        labelled {work₃} made = record {
-          kept = kept-then kept₂ (kept-wider base (labelsWindow n k c) (omega arith) (omega arith) (made .kept));
-          made = (λ i. record { s = s i; m = m i; e = e i; byRank = by-rank i }) ∙ sym (labelling-is fit);
-        }
+        -- a row of the order has the children's numbers
+        same-row :
+            (p : ℕ) → p < k
+            → least (suc (position p (finished (forest fit)))) (map (λ q. getD s q 0) (rowsIn work₁ rowsFrom (rowsFrom + k + 1) c k p))
+            ≡ least (suc (position p (finished (forest fit)))) (map (λ q. getD s q 0) (row fit p))
+        same-row p h =
+            least-same (λ q. getD s q 0) (suc (position p (finished (forest fit)))) (rowsIn work₁ rowsFrom (rowsFrom + k + 1) c k p) (row fit p)
+            (λ q i. child-in-row fit p q h (those-pass (childOf (below fit) p) q (ranked fit) (rw (rows .row-is p h) at i) .0))
+            (λ q i. rw (rows .row-is p h) (those-keep (childOf (below fit) p) q (ranked fit) (child-at fit p q h i) (places .all q (row-low p q h i))))
           where
-            e : part work₃ base k ≡ ranksOf k (finished (forest fit))
-            e = made .e ∙ ap (ranksOf k) out-is
-
-            m : part work₃ (base + k) k ≡ innersOf k (finished (forest fit)) (lows 0 (forest fit))
-            m = made .m ∙ ap₂ (innersOf k) out-is low-is
-
-            s : part work₃ (base + 2 * k) k ≡ map (outer (below fit) (ranksOf k (finished (forest fit))) k) (upto k)
-            s = made .s ∙ ap₂ (λ rows out. map (outer rows (ranksOf k out) k) (upto k)) (children-same (fit .groups .children-there) kept₂) out-is
-
-            by-rank : part work₃ (byRankAt base n k c) k ≡ finished (forest fit)
-            by-rank = made .kept .above (byRankAt base n k c) k (omega arith) ∙ out-is
+            row-low : (p q : ℕ) → p < k → among q (row fit p) ≡ true → q < k
+            row-low p q h i = child-below fit p q h (child-at fit p q h i)

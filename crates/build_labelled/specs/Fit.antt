@@ -1,17 +1,16 @@
 -- What is lent to each function fits together: the regions that it reads lie outside its window, and the window lies in the buffer.
 use mathlib.Core.Path.{_≡_}
 use mathlib.Core.List.{List}
-use Prim.Native.Nat.{ℕ, _+_, _*_, _^_, _≤_, _<_}
+use Prim.Native.Nat.{ℕ, _+_, _^_, _≤_, _<_}
 use lib.ListN.{length, getD}
-use Rattle.lineage.specs.Lists.{upto, those, part}
+use Rattle.lineage.specs.Lists.{part}
 use Rattle.lineage.specs.Graph.{placeOf, levelsOf}
 use Rattle.lineage.specs.Labels.{Order}
 use Rattle.lineage.specs.Sound.{childOf}
 use Rattle.laws.specs.Sound.{SoundGroups}
 use Rattle.laws.specs.Laid.{Below, Laid}
 use Rattle.numbers.specs.Regions.{Outside}
-use Rattle.build_rows.specs.Rows.{RowsAt}
-use Rattle.build_labels.specs.Fit.{UpFit}
+use Rattle.build_rows.specs.Rows.{RowsOnce}
 use Rattle.build_labelled.specs.Window.{labelsWindow, groupsBy, childrenBy}
 
 -- k rows of c values, the values behind the starts, outside a window
@@ -37,13 +36,6 @@ pub record OrderFit (orders work : List ℕ) (at n k c names place parents base 
   pub parents-low : Below k (part work (parents + k + 1) c)
   pub few : c < 2 ^ 32
 
--- k places by rank and, behind them, a number for each; and their children, which all have a lower rank
-pub record LabelsFit (work : List ℕ) (out k c children base : ℕ) : Type 0 where
-  pub up : UpFit work out k children (children + k + 1) c (base + 2 * k)
-  pub out-there : Outside work out k base (k + k)
-  pub low-there : Outside work (out + k) k base (k + k)
-  pub children-there : RowsOutside work children k c base (k + k)
-
 -- the groups of n vertices: names, places, and the rows of children and of parents, c of each; names and children are sound, so no group is below itself
 pub record GroupsFit (work : List ℕ) (n k c names place parents children base : ℕ) : Type 0 where
   pub vertices : PlacesFit work n k c names place base
@@ -51,7 +43,7 @@ pub record GroupsFit (work : List ℕ) (n k c names place parents children base 
   pub children-laid : Laid (part work children (k + 1)) (part work (children + k + 1) c) k
   pub sound : SoundGroups (part work names n) (groupsBy work names n) (levelsOf (childrenBy work children k c)) (childrenBy work children k c)
   pub parents-there : RowsOutside work parents k c base (labelsWindow n k c)
-  pub parents-are : RowsAt work parents k c (λ q. those (λ p. childOf (childrenBy work children k c) p q) (upto k))
+  pub parents-are : RowsOnce (part work parents (k + 1)) (part work (parents + k + 1) c) k (λ q p. childOf (childrenBy work children k c) p q)
   pub few-groups : k < 2 ^ 32
   pub few-children : c < 2 ^ 32
 

@@ -1,24 +1,22 @@
 -- The window in which the labelling under one order is made, for n vertices in k groups with c children in all. From base on:
 --
 --   from              words      holds
---   0                 n          the places as the order has them
+--   0                 n          the places as the order has them; at the end, where they are asked for, the levels
 --   n                 k          those of them that are nobody's child
 --   n + k             k + 1 + c  the rows of each place's children as the order has them
---   n + 2k + 1 + c    6k         the six regions of the traversal, of which the fifth stays: the places by rank
---
--- Once the traversal is done, the first 4k words are e, m, s and, where they are asked for, the levels, k words each.
+--   n + 2k + 1 + c    7k         the seven regions of the traversal: the first is s, the fifth the places by rank, the sixth m and the last e
 use mathlib.Core.Path.{_≡_}
-use mathlib.Core.List.{List, map}
+use mathlib.Core.List.{List}
 use Prim.Native.Nat.{ℕ, _+_, _*_, _≤_}
-use Rattle.lineage.specs.Lists.{upto, those, part}
+use Rattle.lineage.specs.Lists.{those, part}
 use Rattle.lineage.specs.Graph.{groupList}
-use Rattle.lineage.specs.Labels.{inOrder, outer, Labelling, labelling}
+use Rattle.lineage.specs.Labels.{inOrder, Labelling, labelling}
 use Rattle.numbers.specs.Regions.{Kept}
 use Rattle.build_rows.specs.Rows.{RowsAt, rowsIn, turnedRow}
 use Rattle.build_orders.specs.Roots.{rowEmpty}
-use Rattle.build_labels.specs.Labels.{ranksOf, innersOf, childrenInWords}
+use Rattle.build_levels.specs.Children.{childrenInWords}
 
--- where those that are nobody's child lie, the rows, the traversal, the places by rank and the levels, and how many words there are in all
+-- where those that are nobody's child lie, the rows, the traversal and the places by rank, and how many words there are in all
 abbrev pub rootsAt : ℕ → ℕ → ℕ
 rootsAt base n = base + n
 
@@ -31,16 +29,18 @@ walkAt base n k c = orderedAt base n k + k + 1 + c
 abbrev pub byRankAt : ℕ → ℕ → ℕ → ℕ → ℕ
 byRankAt base n k c = walkAt base n k c + 4 * k
 
-abbrev pub levelsAt : ℕ → ℕ → ℕ
-levelsAt base k = base + 3 * k
-
 abbrev pub labelsWindow : ℕ → ℕ → ℕ → ℕ
-labelsWindow n k c = n + 8 * k + 1 + c
+labelsWindow n k c = n + 9 * k + 1 + c
 
--- the labelling that lies in a window: e, m and s by place, and the places by rank
+-- the labelling that lies in a window: s, m and e by place, and the places by rank
 abbrev pub windowLabelling : List ℕ → ℕ → ℕ → ℕ → ℕ → Labelling
 windowLabelling work base n k c =
-    record { s = part work (base + 2 * k) k; m = part work (base + k) k; e = part work base k; byRank = part work (byRankAt base n k c) k }
+    record {
+      s = part work (walkAt base n k c) k;
+      m = part work (walkAt base n k c + 5 * k) k;
+      e = part work (walkAt base n k c + 6 * k) k;
+      byRank = part work (byRankAt base n k c) k;
+    }
 
 -- the group list of the names that lie in work, and the children whose rows do, their values behind the starts
 abbrev pub groupsBy : List ℕ → ℕ → ℕ → List ℕ
@@ -55,13 +55,6 @@ pub record OrderRows (order work work' : List ℕ) (n k c names parents base q :
   pub few : q ≤ k
   pub roots : part work' (rootsAt base n) q ≡ those (rowEmpty (part work parents (k + 1))) (inOrder order (groupsBy work names n))
   pub rows : RowsAt work' (orderedAt base n k) k c (turnedRow (rowsIn work parents (parents + k + 1) c k) (inOrder order (groupsBy work names n)))
-
--- what a traversal is made into: e, m and s
-pub record LabelsMade (work work' : List ℕ) (out k c children base : ℕ) : Type 0 where
-  pub kept : Kept work work' base (3 * k)
-  pub e : part work' base k ≡ ranksOf k (part work out k)
-  pub m : part work' (base + k) k ≡ innersOf k (part work out k) (part work (out + k) k)
-  pub s : part work' (base + 2 * k) k ≡ map (outer (childrenBy work children k c) (ranksOf k (part work out k)) k) (upto k)
 
 -- nothing but the window differs, and in it lies the labelling under the order
 pub record Labelled (order work work' : List ℕ) (n k c names children base : ℕ) : Type 0 where

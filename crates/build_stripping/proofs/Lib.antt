@@ -1,4 +1,5 @@
--- The laws that the proofs of this crate cite.
-pub mod Singles
+-- The laws of this crate's passes.
+pub mod Once
+pub mod Stamping
 pub mod Stripping
 pub mod Stripped

@@ -1,22 +1,15 @@
 // Rows stripped: each row without its own number and without repeats.
-ghost use mathlib.Core.Bool.{not, _||_};
 ghost use mathlib.Core.Path.{_≡_};
-ghost use mathlib.Core.List.{_++_};
-ghost use Prim.Native.Nat.{_+_, _-_, _^_, _≤_};
-ghost use lib.Dec.{eqb};
+ghost use mathlib.Core.List.{[], _∷_, _++_};
+ghost use Prim.Native.Nat.{ℕ, _+_, _-_, _≤_, _<_};
+ghost use lib.ListN.{getD};
 ghost use Rattle.lineage.specs.Lists.{part};
 ghost use Rattle.numbers.specs.Regions.{Kept};
-ghost use Rattle.build_rows.specs.Rows.{RowsAt, rowsIn, singles, strippedRow};
-ghost use Rattle.build_rows.specs.Fit.{RowsFit, EntriesFit};
+ghost use Rattle.build_rows.specs.Rows.{RowsAt, rowsIn, newOnes, strippedRow};
+ghost use Rattle.build_stripping.specs.Fit.{StripFit, EntriesFit};
 
-// Whether x is neither the number before it nor p.
-fn is_single(x: u32, last: u32, p: u32) -> bool
-    ensures { λ r. ⌜ r ≡ not (eqb x last || eqb x p) ⌝ }
-{
-    x != last && x != p
-}
-
-// Copies the entries of row p behind the first at words at out, without p and without repeats side by side, and returns how many words that makes.
+// Copies the entries of row p behind the first at words at out, without p and without repeats, and returns how many words that makes. An entry is copied where its stamp is not
+// the row's mark, p + 1, and is stamped then.
 fn strip_row(
     work: &mut [u32],
     values: usize,
@@ -24,25 +17,28 @@ fn strip_row(
     from: usize,
     to: usize,
     p: u32,
+    k: usize,
     out: usize,
     at: usize,
 ) -> usize
-    requires { ⌜ EntriesFit (now work) values c from to out at ⌝ }
-    ensures { λ _. ⌜ Kept (now (work .entry)) (now (work .exit)) (out + at) (to - from) ⌝ }
+    requires { ⌜ EntriesFit (now work) values c from to p k out at ⌝ }
+    ensures { λ _. ⌜ Kept (now (work .entry)) (now (work .exit)) (out + at) (c - at + k) ⌝ }
     ensures { λ r. ⌜ r ≤ at + (to - from) ⌝ }
     ensures { λ r.
         ⌜ part (now (work .exit)) out r
-        ≡ part (now (work .entry)) out at ++ singles p p (part (part (now (work .entry)) values c) from (to - from)) ⌝ }
+        ≡ part (now (work .entry)) out at ++ newOnes (p ∷ []) (part (part (now (work .entry)) values c) from (to - from)) ⌝ }
+    ensures { λ _. ⌜ ((x : ℕ) → x < k → getD (part (now (work .exit)) (out + c) k) x 0 ≤ p + 1) ⌝ }
 {
+    let mark = p + 1;
+    let stamps = out + c;
     let mut n = at;
-    let mut last = p;
     let mut e = from;
     while e < to {
         let x = work[values + e];
-        let single = is_single(x, last, p);
-        last = x;
+        let i = x as usize;
         e += 1;
-        if single {
+        if work[stamps + i] != mark {
+            work[stamps + i] = mark;
             work[out + n] = x;
             n += 1;
         }
@@ -50,7 +46,7 @@ fn strip_row(
     n
 }
 
-// Lays out k rows at base without repeats side by side and without each row's own number, and returns how many of the c values are left.
+// Lays out k rows at base, each without repeats and without its own number, and returns how many of the c values are left. Behind the room for c values lie the stamps.
 pub fn strip(
     work: &mut [u32],
     starts: usize,
@@ -59,21 +55,22 @@ pub fn strip(
     k: usize,
     base: usize,
 ) -> usize
-    requires { ⌜ RowsFit (now work) starts values c k base ⌝ }
-    requires { ⌜ k ≤ 2 ^ 32 ⌝ }
-    ensures { λ _. ⌜ Kept (now (work .entry)) (now (work .exit)) base (k + 1 + c) ⌝ }
+    requires { ⌜ StripFit (now work) starts values c k base ⌝ }
+    ensures { λ _. ⌜ Kept (now (work .entry)) (now (work .exit)) base (k + 1 + c + k) ⌝ }
     ensures { λ r. ⌜ r ≤ c ⌝ }
     ensures { λ r.
         ⌜ RowsAt (now (work .exit)) base k r (strippedRow (rowsIn (now (work .entry)) starts values c k)) ⌝ }
 {
     let out = base + k + 1;
+    let stamps = out + c;
     let mut n = 0;
     let mut p = 0;
     while p < k {
         let from = work[starts + p] as usize;
         let to = work[starts + p + 1] as usize;
         work[base + p] = n as u32;
-        n = strip_row(work, values, c, from, to, p as u32, out, n);
+        work[stamps + p] = (p + 1) as u32;
+        n = strip_row(work, values, c, from, to, p as u32, k, out, n);
         p += 1;
     }
     work[base + k] = n as u32;

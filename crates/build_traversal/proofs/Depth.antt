@@ -1,7 +1,7 @@
 -- The row at a depth of the stack, the roots or one of the rows: where it lies, that its numbers are vertices, and that its end lies in it.
 use mathlib.Core.Path.{_≡_}
 use mathlib.Core.List.{List}
-use Prim.Native.Nat.{ℕ, zero, suc, _+_, _*_, _^_, _≤_, _<_}
+use Prim.Native.Nat.{ℕ, zero, suc, _+_, _^_, _≤_, _<_}
 use native.Mathlib.Omega.{arith}
 use lib.ListN.{length, getD}
 use Rattle.lineage.specs.Lists.{part}
@@ -14,7 +14,7 @@ use Rattle.build_traversal.specs.Frames.{rowPlace, rowEnd}
 use Rattle.build_traversal.specs.Fit.{TraverseFit}
 use Rattle.build_traversal.proofs.Tasks.{rowList}
 
-module _ {work₀ : List ℕ} {starts values c roots q n base : ℕ} (fit : TraverseFit work₀ starts values c roots q n base) where
+module _ {work₀ : List ℕ} {starts values c roots q n base size : ℕ} (fit : TraverseFit work₀ starts values c roots q n base size) where
   abbrev entries : List ℕ
   entries = part work₀ values c
 
@@ -32,7 +32,7 @@ module _ {work₀ : List ℕ} {starts values c roots q n base : ℕ} (fit : Trav
   row-low zero = fit .roots-low
   row-low (suc d) = fit .values-low
 
-  module _ {work : List ℕ} (k : Kept work₀ work base (6 * n)) where
+  module _ {work : List ℕ} (k : Kept work₀ work base size) where
     pub row-at : (d at e : ℕ) → at ≡ rowPlace roots values d → e < length (rowList R entries d) → getD work (at + e) 0 ≡ getD (rowList R entries d) e 0
     row-at zero at e p h = rw p (read-at (fit .roots-there) k e (omega (arith, roots-long)))
     row-at (suc d) at e p h = rw p (read-at (fit .values-there) k e (omega (arith, entries-long)))

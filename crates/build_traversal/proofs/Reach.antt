@@ -13,7 +13,7 @@ use Rattle.laws.specs.Laid.{Below}
 use Rattle.laws.proofs.Lists.{here, there, in-upto, upto-low, length-upto}
 use Rattle.laws.proofs.Rising.{pigeonhole, rises-upto, rises-distinct}
 use Rattle.laws.proofs.Traversal.{unique, made, unseen-none}
-use Rattle.laws.proofs.Visited.{held, listed, distinct, from-todo}
+use Rattle.laws.proofs.Visited.{distinct, from-todo}
 use Rattle.laws.proofs.Closed.{leads-keeps}
 use Rattle.laws.proofs.Laid.{below-in, part-below}
 
@@ -46,10 +46,6 @@ module _ {next : ℕ → List ℕ} (n : ℕ) (roots : List ℕ) (next-low : Insi
           pigeonhole (finished f) (upto n) (distinct visits) (λ x i. in-upto n x (finished-low x i)),
           pigeonhole (upto n) (finished f) (rises-distinct (upto n) (rises-upto n)) (λ x i. all x (upto-low n x i)),
         )
-
-    -- so where every vertex is a root
-    pub finished-roots : ((v : ℕ) → v < n → among v roots ≡ true) → length (finished f) ≡ n
-    finished-roots all = finished-count (λ v h. held f v (listed visits v (all v h)))
 
 -- rows that agree below n are gone through alike
 visits-same :

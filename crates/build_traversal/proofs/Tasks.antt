@@ -8,7 +8,15 @@ use lib.Seq.{getD-set-same, getD-set-other, take-all}
 use Rattle.lineage.specs.Lists.{part}
 use Rattle.laws.proofs.Parts.{part-first, part-empty}
 use Rattle.build_traversal.specs.Frames.{rowEnd}
-use Rattle.build_traversal.proofs.Machine.{Task, try, finish, tries}
+
+-- to try a vertex, or to finish one, with the number that was kept in its frame
+pub data Task : Type 0 where
+  try : ℕ → Task
+  finish : ℕ → ℕ → Task
+
+abbrev pub tries : List ℕ → List Task
+tries [] = []
+tries (v ∷ vs) = try v ∷ tries vs
 
 -- the row at a depth: the roots, else the values of the rows
 abbrev pub rowList : List ℕ → List ℕ → ℕ → List ℕ

@@ -1,16 +1,12 @@
--- The stack of a traversal, in frames by depth. Six regions of n words from base on: marks, the vertices of the frames, the place in the row below to come
--- back to, one more than how many were out at entry; then the vertices that are out, and that number of each.
+-- The marks and the frames of a traversal, by depth, in four regions of n words from base on: a mark for each vertex, 0 where it is not seen; the vertices of the frames; the place in
+-- the row below to come back to; and a number of the vertex below that is kept meanwhile.
 use mathlib.Core.List.{List}
 use Prim.Native.Nat.{ℕ, zero, suc, _+_, _*_}
 use lib.ListN.{getD, set}
 
--- v is entered at depth d, to come back to place e; low is one more than how many are out
-abbrev pub opened : List ℕ → ℕ → ℕ → ℕ → ℕ → ℕ → ℕ → List ℕ
-opened work base n d v e low = set (set (set (set work (base + v) 1) (base + n + d) v) (base + 2 * n + d) e) (base + 3 * n + d) low
-
--- the vertex at depth d is left, as number k of those that are out
-abbrev pub closed : List ℕ → ℕ → ℕ → ℕ → ℕ → List ℕ
-closed work base n d k = set (set work (base + 4 * n + k) (getD work (base + n + d) 0)) (base + 5 * n + k) (getD work (base + 3 * n + d) 0)
+-- v is entered at depth d with this mark, to come back to place e, and the number is kept
+abbrev pub framed : List ℕ → ℕ → ℕ → ℕ → ℕ → ℕ → ℕ → ℕ → List ℕ
+framed work base n d v mark e number = set (set (set (set work (base + v) mark) (base + n + d) v) (base + 2 * n + d) e) (base + 3 * n + d) number
 
 -- where the row at a depth lies: the roots below the first frame, else the values of the rows
 abbrev pub rowPlace : ℕ → ℕ → ℕ → ℕ

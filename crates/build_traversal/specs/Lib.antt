@@ -1,4 +1,4 @@
 -- What the contracts of this crate say of a traversal.
-pub mod Lows
 pub mod Frames
+pub mod Traversed
 pub mod Fit

@@ -1,15 +1,10 @@
--- A list is closed where no step leads out of it; then no path does. What a traversal has seen in the end is closed if what it began with was.
+-- A list is closed where no step leads out of it; then no path does.
 use mathlib.Core.Bool.{true}
-use mathlib.Core.Logic.{inl, inr}
 use mathlib.Core.Path.{_≡_}
 use mathlib.Core.List.{List}
 use Prim.Native.Nat.{ℕ}
 use Rattle.lineage.specs.Lists.{among}
-use Rattle.lineage.specs.Labels.{Forest, after}
 use Rattle.laws.specs.Leads.{Leads, stay, step}
-use Rattle.laws.specs.Visits.{Visits}
-use Rattle.laws.proofs.Traversal.{kept}
-use Rattle.laws.proofs.Visited.{seen-cases, followed}
 
 -- paths join
 pub leads-on : {next : ℕ → List ℕ} {p q r : ℕ} → Leads next p q → Leads next q r → Leads next p r
@@ -28,17 +23,3 @@ pub record Closed (next : ℕ → List ℕ) (l : List ℕ) : Type 0 where
 -- a path that begins in a closed list ends in it
 pub stays : {next : ℕ → List ℕ} {l : List ℕ} → Closed next l → {p q : ℕ} → Leads next p q → among p l ≡ true → among q l ≡ true
 stays {l = l} c = leads-keeps (λ p. among p l ≡ true) (c .inside)
-
--- what a traversal has seen in the end is closed, if what it began with was
-pub closed-after : {next : ℕ → List ℕ} {todo seen : List ℕ} {f : Forest} → Visits next todo seen f → Closed next seen → Closed next (after f seen)
-closed-after {seen = seen} {f = f} r c =
-    record { inside = λ p q i j. elim (seen-cases p f seen i) [ inl k ↦ followed r p q k j | inr k ↦ kept f seen q (c .inside p q k j) ] }
-
--- each step of the one is a step of the other, turned
-pub record Turned (a b : ℕ → List ℕ) : Type 0 where
-  pub edge : (p q : ℕ) → among q (a p) ≡ true → among p (b q) ≡ true
-
--- and so of paths
-pub turn : {a b : ℕ → List ℕ} → Turned a b → {u v : ℕ} → Leads a u v → Leads b v u
-turn t stay = stay
-turn t (step {p = p} {q = q} e l) = leads-on (turn t l) (step (t .edge p q e) stay)

@@ -8,6 +8,7 @@ use mathlib.Core.List.{List, [], map}
 use Prim.Native.Nat.{ℕ, zero, suc, _+_, _<_, _≤_}
 use native.Mathlib.Omega.{arith}
 use lib.ListN.{length, getD}
+use lib.Seq.{ext-getD}
 use borrow.Author.Tests.{not-false}
 use Rattle.lineage.specs.Lists.{upto, among, those, position, least, greatest, joined}
 use Rattle.lineage.specs.Labels.{Order, inOrder, Forest, nobodysChild, forestOf, finished, subtree, outer, Labelling, labelsBy, labelling}
@@ -27,7 +28,7 @@ use Rattle.laws.proofs.Ranks.{m-made, inner-law}
 use Rattle.laws.proofs.Forests.{Fits, entered, entered-finished, member-m}
 use Rattle.laws.proofs.Fitted.{visits-fits, visits-fall}
 use Rattle.laws.proofs.Walks.{rankingOf, fits-walk, fits-block}
-use Rattle.laws.proofs.Outer.{outer-meets}
+use Rattle.laws.proofs.Outer.{outer-is, outer-meets}
 use Rattle.laws.proofs.Orders.{places-low, places-all}
 
 module _
@@ -165,14 +166,14 @@ module _
     unfolding labelling labelsBy
     s-is p h = table-at (outer children (l .e) (length groups)) (length groups) p 0 (within h)
 
+    e-most : (p : ℕ) → p < k → e p ≤ k
+    e-most p h = omega (arith, e-is p h, position-low p (finished forest) (finished-all p h), finished-count)
+
     s-meets : (p : ℕ) → p < k → s p ≡ least (e p) (map s (getD children p []))
     s-meets p h =
         s-is p h
-        ∙ outer-meets children (l .e) (λ q i. omega (arith, e-is q i)) (child-in S) e-falls (length groups) p h (omega (arith, e-most, S .children-long))
+        ∙ outer-meets children (l .e) (λ q i. omega (arith, e-is q i)) (child-in S) e-falls (length groups) p h (omega (arith, e-most p h, S .children-long))
         ∙ ap (least (e p)) (map-same (outer children (l .e) (length groups)) s (getD children p []) (λ q i. sym (s-is q (child-in S p q h i))))
-      where
-        e-most : e p ≤ k
-        e-most = omega (arith, e-is p h, position-low p (finished forest) (finished-all p h), finished-count)
 
     long : (length (l .s) ≡ length groups) × (length (l .m) ≡ length groups) × (length (l .e) ≡ length groups)
     unfolding labelling labelsBy
@@ -210,3 +211,23 @@ module _
           blocks = λ p h. fits-block children l at-rank fits p (in-entered p h);
           roots = fits-walk children l at-rank fits;
         }
+
+    -- and whatever meets the three equations is the labelling
+    pub labels-are :
+        (s′ m′ e′ : List ℕ) → length s′ ≡ k → length m′ ≡ k → length e′ ≡ k → ((p : ℕ) → p < k → getD m′ p 0 ≡ suc (length (before p forest)))
+        → ((p : ℕ) → p < k → getD e′ p 0 ≡ suc (position p (finished forest)))
+        → ((p : ℕ) → p < k → getD s′ p 0 ≡ least (suc (position p (finished forest))) (map (λ q. getD s′ q 0) (getD children p [])))
+        → record { s = s′; m = m′; e = e′; byRank = finished forest } ≡ labelling groups children order
+    labels-are s′ m′ e′ s-long m-long e-long m-meets e-meets s-meets′ =
+        λ i. record {
+          s = ext-getD 0 s′ (l .s) (s-long ∙ sym (long .0 ∙ sym (S .children-long))) (λ p h. same-s p (omega arith)) i;
+          m = ext-getD 0 m′ (l .m) (m-long ∙ sym (long .1 ∙ sym (S .children-long))) (λ p h. let j : p < k = omega arith in m-meets p j ∙ sym (m-is p j)) i;
+          e = ext-getD 0 e′ (l .e) (e-long ∙ sym (long .2 ∙ sym (S .children-long))) (λ p h. let j : p < k = omega arith in e-meets p j ∙ sym (e-is p j)) i;
+          byRank = sym by-rank i;
+        }
+      where
+        same-s : (p : ℕ) → p < k → getD s′ p 0 ≡ s p
+        same-s p h =
+            sym (outer-is children (l .e) (λ q i. omega (arith, e-is q i)) (child-in S) e-falls (λ q. getD s′ q 0)
+            (λ q i. s-meets′ q i ∙ ap (λ z. least z (map (λ x. getD s′ x 0) (getD children q []))) (sym (e-is q i))) (length groups) p h (omega (arith, e-most p h, S .children-long)))
+            ∙ sym (s-is p h)

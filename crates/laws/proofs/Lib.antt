@@ -20,11 +20,11 @@ pub mod Traversal
 pub mod Visited
 pub mod Closed
 pub mod Ranks
--- Groups by two traversals.
-pub mod Last
-pub mod Trees
-pub mod Groups
-pub mod TwoPasses
+-- Groups by one traversal.
+pub mod EdgeRows
+pub mod Stages
+pub mod Folded
+pub mod OnePass
 -- Labels: the labelling under an order, and the order for a labelling.
 pub mod Forests
 pub mod Fitted

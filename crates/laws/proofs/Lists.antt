@@ -1,12 +1,12 @@
 -- Lists of numbers: members, filters, tests of all, the numbers below n and tables over them, positions, least and greatest, marks. Each is an induction on the
 -- list, with a case for how the test of the head comes out.
-use mathlib.Core.Bool.{Bool, true, false, not, _||_, false≢true, or-false, or-comm, or-assoc}
+use mathlib.Core.Bool.{Bool, true, false, not, _||_, false≢true, or-assoc}
 use mathlib.Core.Logic.{_⊎_, inl, inr}
 use mathlib.Core.Path.{_≡_, refl, sym, ap, ap₂, _∙_}
-use mathlib.Core.List.{List, [], _∷_, _++_, map, reverse, append-nil, reverse-cons}
+use mathlib.Core.List.{List, [], _∷_, _++_, map, append-nil}
 use Prim.Native.Nat.{ℕ, zero, suc, _+_, min, _<_, _≤_}
 use native.Mathlib.Nat.{not-suc-le-zero}
-use native.Mathlib.Decide.{ℕ-discrete, decLt}
+use native.Mathlib.Decide.{ℕ-discrete, decLe, decLt}
 use native.Mathlib.Omega.{arith}
 use lib.Dec.{eqb}
 use lib.ListN.{length, getD, set, length-append, length-map, List·getD-append}
@@ -240,6 +240,21 @@ position-left x (y ∷ a) b i = at (eqb x y) refl (position-left x a b)
     at true e ih = rw (e, position)
     at false e ih = rw (e, position) (ap suc (ih (rw e at i)))
 
+-- a place in the first list is that of one of its members, a later one that of a member of the second
+pub position-low-in : (q : ℕ) (a b : List ℕ) → position q (a ++ b) < length a → among q a ≡ true
+position-low-in q a b h = at (among q a) refl
+  where
+    at : (t : Bool) → among q a ≡ t → among q a ≡ true
+    at true e = e
+    at false e = absurd (omega (arith, position-past q a b e))
+
+pub position-high-in : (q : ℕ) (a b : List ℕ) → among q (a ++ b) ≡ true → length a ≤ position q (a ++ b) → among q b ≡ true
+position-high-in q a b i h = elim (in-append q a b i) [ inl j ↦ absurd (omega (arith, position-in q a b j)) | inr j ↦ j ]
+
+-- what does not stand in the list has the list's length for its place
+pub position-none : (q : ℕ) (a : List ℕ) → among q a ≡ false → position q a ≡ length a
+position-none q a h = let past : position q a ≡ length a + 0 = rw (append-nil a) at (position-past q a [] h) in omega arith
+
 -- a member stands at its position
 pub position-low : (x : ℕ) (xs : List ℕ) → among x xs ≡ true → position x xs < length xs
 position-low x xs h = rw (append-nil xs) at (position-in x xs [] h)
@@ -251,6 +266,16 @@ at-position x (y ∷ xs) h = at (eqb x y) refl (at-position x xs)
     at : (t : Bool) → eqb x y ≡ t → (among x xs ≡ true → getD xs (position x xs) 0 ≡ x) → getD (y ∷ xs) (position x (y ∷ xs)) 0 ≡ x
     at true e ih = rw (e, position) (sym (eqb-true x y e))
     at false e ih = rw (e, position) (ih (rw e at h))
+
+-- a number first stands no later than where it stands
+pub position-most : (xs : List ℕ) (i : ℕ) → i < length xs → position (getD xs i 0) xs ≤ i
+position-most [] i h = absurd (not-suc-le-zero h)
+position-most (x ∷ xs) zero h = rw (eq-eqb x x refl, position) (omega arith)
+position-most (x ∷ xs) (suc i) h = at (eqb (getD xs i 0) x) refl (position-most xs i (omega arith))
+  where
+    at : (t : Bool) → eqb (getD xs i 0) x ≡ t → position (getD xs i 0) xs ≤ i → position (getD xs i 0) (x ∷ xs) ≤ suc i
+    at true e ih = rw (e, position) (omega arith)
+    at false e ih = rw (e, position) (omega arith)
 
 pub in-getD : (xs : List ℕ) (i : ℕ) → i < length xs → among (getD xs i 0) xs ≡ true
 in-getD [] i h = absurd (not-suc-le-zero h)
@@ -274,28 +299,51 @@ of-map f y (x ∷ xs) h =
       | inr i ↦ let (z, j, o) = of-map f y xs i in (z, there z x xs j, o)
     ]
 
--- members of a list turned round
-pub among-reverse : (x : ℕ) (l : List ℕ) → among x (reverse l) ≡ among x l
-among-reverse x [] = refl
-among-reverse x (y ∷ l) = rw (reverse-cons, among-append, among-reverse x l, or-comm (among x l), or-false (eqb x y))
+-- the least of a list is not above any of its numbers, and is the first or one of them
+pub least-first : (a : ℕ) (xs : List ℕ) → least a xs ≤ a
+least-first a [] = omega arith
+least-first a (x ∷ xs) = omega (arith, least-first (min a x) xs)
+
+pub least-among : (a u : ℕ) (xs : List ℕ) → among u xs ≡ true → least a xs ≤ u
+least-among a u [] i = absurd (false≢true i)
+least-among a u (x ∷ xs) i = elim (in-cons u x xs i) [ inl e ↦ omega (arith, least-first (min a x) xs) | inr j ↦ least-among (min a x) u xs j ]
+
+pub least-is : (a : ℕ) (xs : List ℕ) → (least a xs ≡ a) ⊎ (among (least a xs) xs ≡ true)
+least-is a [] = inl refl
+least-is a (x ∷ xs) = at (decLe a x) (least-is (min a x) xs)
+  where
+    at : Dec (a ≤ x) → (least (min a x) xs ≡ min a x) ⊎ (among (least (min a x) xs) xs ≡ true) → (least (min a x) xs ≡ a) ⊎ (among (least (min a x) xs) (x ∷ xs) ≡ true)
+    at d (inr i) = inr (there (least (min a x) xs) x xs i)
+    at (yes l) (inl e) = inl (omega arith)
+    at (no l) (inl e) = let z : least (min a x) xs ≡ x = omega arith in inr (rw z (here x xs))
 
 -- the least of a list's values
 pub least-below : (f : ℕ → ℕ) (a : ℕ) (xs : List ℕ) → least a (map f xs) ≤ a
-least-below f a [] = omega arith
-least-below f a (x ∷ xs) = omega (arith, least-below f (min a (f x)) xs)
+least-below f a xs = least-first a (map f xs)
 
 pub least-at : (f : ℕ → ℕ) (a q : ℕ) (xs : List ℕ) → among q xs ≡ true → least a (map f xs) ≤ f q
-least-at f a q [] h = absurd (false≢true h)
-least-at f a q (x ∷ xs) h =
-    elim (in-cons q x xs h) [
-      | inl e ↦ rw e (omega (arith, least-below f (min a (f x)) xs))
-      | inr i ↦ least-at f (min a (f x)) q xs i
-    ]
+least-at f a q xs h = least-among a (f q) (map f xs) (in-map f q xs h)
 
 pub least-above : (f : ℕ → ℕ) (a b : ℕ) (xs : List ℕ) → b ≤ a → ((q : ℕ) → among q xs ≡ true → b ≤ f q) → b ≤ least a (map f xs)
 least-above f a b [] h all = h
 least-above f a b (x ∷ xs) h all =
     least-above f (min a (f x)) b xs (omega (arith, all x (here x xs))) (λ q i. all q (there q x xs i))
+
+-- and of lists with the same members
+pub least-same :
+    (f : ℕ → ℕ) (a : ℕ) (xs ys : List ℕ) → ((q : ℕ) → among q xs ≡ true → among q ys ≡ true) → ((q : ℕ) → among q ys ≡ true → among q xs ≡ true)
+    → least a (map f xs) ≡ least a (map f ys)
+least-same f a xs ys to from =
+    omega (
+      arith,
+      least-above f a (least a (map f xs)) ys (least-below f a xs) (λ q i. least-at f a q xs (from q i)),
+      least-above f a (least a (map f ys)) xs (least-below f a ys) (λ q i. least-at f a q ys (to q i)),
+    )
+
+-- the least, and another number
+pub least-min : (a b : ℕ) (xs : List ℕ) → min (least a xs) b ≡ least (min a b) xs
+least-min a b [] = refl
+least-min a b (x ∷ xs) = let turned : min (min a x) b ≡ min (min a b) x = omega arith in least-min (min a x) b xs ∙ ap (λ z. least z xs) turned
 
 -- the greatest of a list's values
 pub greatest-at : (f : ℕ → ℕ) (q : ℕ) (xs : List ℕ) → among q xs ≡ true → f q ≤ greatest (map f xs)

@@ -37,6 +37,12 @@ pub distinct-left : (a b : List ℕ) → Distinct (a ++ b) → Distinct a
 distinct-left [] b d = tt
 distinct-left (x ∷ a) b d = (is-false (among x a) (λ i. clash (in-left x a b i) (d .0)), distinct-left a b (d .1))
 
+-- a number that stands in neither list comes between them
+pub distinct-between : (p : ℕ) (a b : List ℕ) → Distinct (a ++ b) → among p a ≡ false → among p b ≡ false → Distinct (a ++ (p ∷ b))
+distinct-between p a b d i j =
+    distinct-append a (p ∷ b) (distinct-left a b d) (j, distinct-right a b d)
+    (λ x h. is-false (among x (p ∷ b)) (λ k. elim (in-cons x p b k) [ inl e ↦ clash (rw e at h) i | inr m ↦ clash h (distinct-apart a b d x m) ]))
+
 -- in a list without repeats each element stands at its position alone
 pub position-getD : (xs : List ℕ) → Distinct xs → (i : ℕ) → i < length xs → position (getD xs i 0) xs ≡ i
 position-getD [] d i h = absurd (not-suc-le-zero h)

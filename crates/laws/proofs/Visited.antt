@@ -2,7 +2,7 @@
 -- nothing twice; and only what is downstream of the list. Each is an induction along the traversal.
 use mathlib.Core.Bool.{Bool, true, false, false≢true}
 use mathlib.Core.Logic.{_⊎_, inl, inr}
-use mathlib.Core.Path.{_≡_, refl, subst}
+use mathlib.Core.Path.{_≡_, refl}
 use mathlib.Core.List.{List, [], _∷_, _++_}
 use Prim.Native.Nat.{ℕ}
 use lib.Dec.{eqb}
@@ -115,10 +115,6 @@ module _ {next : ℕ → List ℕ} where
           | inr k ↦ let (q, j, l) = from-todo s t k in (q, there q p todo j, l)
         ]
       ]
-
-  -- a traversal from one group visits what is downstream of it
-  pub from-one : {x : ℕ} {seen : List ℕ} {f : Forest} → Visits next (x ∷ []) seen f → (t : ℕ) → among t (finished f) ≡ true → Leads next x t
-  from-one {x} r t h = let (q, i, l) = from-todo r t h in subst (λ z. Leads next z t) (in-one q x i) l
 
   -- x's subtree is downstream of x
   pub subtree-leads : {todo seen : List ℕ} {f : Forest} → Visits next todo seen f → (x t : ℕ) → among t (subtree x f) ≡ true → Leads next x t

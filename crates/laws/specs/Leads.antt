@@ -19,3 +19,7 @@ Down children = Leads (λ p. getD children p [])
 -- two vertices are in one group: each reaches the other
 abbrev pub OneGroup : Graph → ℕ → ℕ → Type 0
 OneGroup G u v = Reaches G u v × Reaches G v u
+
+-- the same along `next`
+abbrev pub Mutual : (ℕ → List ℕ) → ℕ → ℕ → Type 0
+Mutual next u v = Leads next u v × Leads next v u

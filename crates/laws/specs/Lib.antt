@@ -2,7 +2,8 @@
 pub mod Rising
 pub mod Leads
 pub mod Visits
-pub mod Passes
+pub mod EdgeRows
+pub mod OnePass
 pub mod Sound
 pub mod Laid
 pub mod Checks

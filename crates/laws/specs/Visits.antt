@@ -2,9 +2,8 @@
 use mathlib.Core.Bool.{true, false}
 use mathlib.Core.Path.{_≡_}
 use mathlib.Core.List.{List, [], _∷_, _++_}
-use Prim.Native.Nat.{ℕ, suc, _<_}
+use Prim.Native.Nat.{ℕ}
 use lib.Dec.{eqb}
-use lib.ListN.{length, getD}
 use Rattle.lineage.specs.Lists.{among}
 use Rattle.lineage.specs.Labels.{Forest, done, visit, after, finished}
 
@@ -27,7 +26,3 @@ before x (visit p below next) =
       | true ↦ []
       | false ↦ elim (among x (finished below)) [ true ↦ before x below | false ↦ finished below ++ (p ∷ before x next) ]
     ]
-
--- for each vertex, as they are finished, 1 + how many were finished before it was entered
-abbrev pub Lows : Forest → List ℕ → Type 0
-Lows f low = (r : ℕ) → r < length (finished f) → getD low r 0 ≡ suc (length (before (getD (finished f) r 0) f))

@@ -1,25 +1,26 @@
--- `build_children::children` meets its contract. Each pass finds what the passes before it laid out: the two areas and the sequence lie apart, so none touches what
+-- `build_children::children` meets its contract. Each pass finds what the passes before it laid out: the two areas and the words between them lie apart, so none touches what
 -- the next one reads.
+use native.Mathlib.Omega.{arith}
 use borrow.Author.Needs.{needs}
-use Rattle.build_children.proofs.Window.{edges-fit, edges-turn, turned-strip, children-turn, found}
+use Rattle.build_children.proofs.Window.{edges-fit, strip-fits, turn-fits, found}
 use Rattle.build_children.proofs.children.Statement.{statement}
 use Rattle.build_children.proofs.children.Tie as tie
 
 -- from each pass back to the one before
-abbrev start : tie.After-count-up → tie.Start
+abbrev start : tie.After-rows → tie.Start
 start a = a .before .before .before .before .before
 
-abbrev counted : tie.After-rows → tie.After-count-up
-counted b = b .before .before .before .before
+abbrev laid : tie.After-clear-part → tie.After-rows
+laid b = b .before .before .before .before
 
-abbrev laid : tie.After-turn → tie.After-rows
-laid d = d .before .before .before .before
+abbrev cleared : tie.After-strip → tie.After-clear-part
+cleared d = d .before .before .before .before
 
-abbrev turned : tie.After-strip → tie.After-turn
-turned f = f .before .before .before .before
+abbrev stripped : tie.After-count-up → tie.After-strip
+stripped f = f .before .before .before .before
 
-abbrev stripped : tie.After-turn2 → tie.After-strip
-stripped g = g .before .before .before .before
+abbrev counted : tie.After-turn → tie.After-count-up
+counted g = g .before .before .before .before
 
 add-parents : tie.Need-add-parents
 add-parents c = search needs
@@ -39,37 +40,35 @@ add-children c = search needs
 add-children-2 : tie.Need-add-children-2
 add-children-2 c = search needs
 
-count-up-requires : tie.Need-count-up-requires
-count-up-requires c κs = search needs
-
 rows-requires : tie.Need-rows-requires
-rows-requires c κs =
-    let a = c .before .before .before in
-    edges-fit (start a .pre) (a .count-up .ensures .0) (a .count-up .ensures .1)
+rows-requires c κs = edges-fit (c .before .before .before .before .pre)
 
-turn-requires : tie.Need-turn-requires
-turn-requires c κs =
-    let b = c .before .before .before in
-    let a = counted b in
-    edges-turn (start a .pre) (a .count-up .ensures .0) (a .count-up .ensures .1) (b .rows .ensures .0) (b .rows .ensures .1)
+clear-part-requires : tie.Need-clear-part-requires
+clear-part-requires c κs =
+    let a = c .before .before .before in
+    omega (arith, start a .pre .room, a .rows .ensures .0 .long)
 
 strip-requires : tie.Need-strip-requires
 strip-requires c κs =
-    let d = c .before .before .before in
-    let b = laid d in
-    let a = counted b in (
-      turned-strip (start a .pre) (a .count-up .ensures .0) (a .count-up .ensures .1) (b .rows .ensures .0) (b .rows .ensures .1) (d .turn .ensures .0) (d .turn .ensures .1),
-      start a .pre .few-groups,
-    )
+    let b = c .before .before .before in
+    let a = laid b in
+    strip-fits (start a .pre) (a .rows .ensures .0) (a .rows .ensures .1) (b .clear-part .ensures .0) (b .clear-part .ensures .1)
 
-turn-requires-2 : tie.Need-turn-requires-2
-turn-requires-2 c κs =
+count-up-requires : tie.Need-count-up-requires
+count-up-requires c κs =
+    let d = c .before .before .before in
+    let b = cleared d in
+    let a = laid b in
+    (omega (arith, start a .pre .room, a .rows .ensures .0 .long, b .clear-part .ensures .0 .long, d .strip .ensures .0 .long), omega (arith, start a .pre .few-groups))
+
+turn-requires : tie.Need-turn-requires
+turn-requires c κs =
     let f = c .before .before .before in
-    let d = turned f in
-    let b = laid d in
-    let a = counted b in
-    children-turn (start a .pre) (a .count-up .ensures .0) (a .count-up .ensures .1) (b .rows .ensures .0) (b .rows .ensures .1) (d .turn .ensures .0) (d .turn .ensures .1)
-    (f .strip .ensures .0) (f .strip .ensures .1 .0) (f .strip .ensures .1 .1)
+    let d = stripped f in
+    let b = cleared d in
+    let a = laid b in
+    turn-fits (start a .pre) (a .rows .ensures .0) (a .rows .ensures .1) (b .clear-part .ensures .0) (b .clear-part .ensures .1)
+    (d .strip .ensures .0) (d .strip .ensures .1 .0) (d .strip .ensures .1 .1) (f .count-up .ensures .0) (f .count-up .ensures .1)
 
 same-length : tie.Need-same-length
 same-length c = search needs
@@ -77,14 +76,14 @@ same-length c = search needs
 returns : tie.Need-returns
 returns c =
     let g = c .before .before in
-    let f = stripped g in
-    let d = turned f in
-    let b = laid d in
-    let a = counted b in
-    found (start a .pre) (a .count-up .ensures .0) (a .count-up .ensures .1) (b .rows .ensures .0) (b .rows .ensures .1) (d .turn .ensures .0) (d .turn .ensures .1)
-    (f .strip .ensures .0) (f .strip .ensures .1 .0) (f .strip .ensures .1 .1) (g .turn2 .ensures .0) (g .turn2 .ensures .1)
+    let f = counted g in
+    let d = stripped f in
+    let b = cleared d in
+    let a = laid b in
+    found (start a .pre) (a .rows .ensures .0) (a .rows .ensures .1) (b .clear-part .ensures .0) (b .clear-part .ensures .1)
+    (d .strip .ensures .0) (d .strip .ensures .1 .0) (d .strip .ensures .1 .1) (f .count-up .ensures .0) (f .count-up .ensures .1) (g .turn .ensures .0) (g .turn .ensures .1)
 
 pub children-spec : {M : Type 1} → statement M
 children-spec =
     tie.close
-    (tie.spec add-parents add-parents-2 add-sequence add-starts add-children add-children-2 count-up-requires rows-requires turn-requires strip-requires turn-requires-2 same-length returns)
+    (tie.spec add-parents add-parents-2 add-sequence add-starts add-children add-children-2 rows-requires clear-part-requires strip-requires count-up-requires turn-requires same-length returns)

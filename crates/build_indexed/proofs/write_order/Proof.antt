@@ -5,7 +5,7 @@ use Rattle.build_indexed.proofs.Orders.{order-small, label-fits, order-
 use Rattle.build_indexed.proofs.write_order.Statement.{statement}
 use Rattle.build_indexed.proofs.write_order.Tie as tie
 
-abbrev start : tie.After-by-rank-from → tie.Start
+abbrev start : tie.After-walk-from → tie.Start
 start c = c .before .before .before .before .before .before
 
 children-from-requires : tie.Need-children-from-requires
@@ -14,8 +14,8 @@ children-from-requires c κs = search needs
 labels-from-requires : tie.Need-labels-from-requires
 labels-from-requires c κs = search needs
 
-by-rank-from-requires : tie.Need-by-rank-from-requires
-by-rank-from-requires c κs = search needs
+walk-from-requires : tie.Need-walk-from-requires
+walk-from-requires c κs = search needs
 
 mul-label : tie.Need-mul-label
 mul-label c = let s = start c in omega (arith, order-small (s .pre .0) (s .args .j) (s .pre .1 .0))
@@ -30,7 +30,7 @@ label-requires : tie.Need-label-requires
 label-requires c κs =
     let r = c .before in
     let s = start r in
-    label-fits (s .pre .0) (r .before .before .children-from .ensures) (r .before .labels-from .ensures) (r .by-rank-from .ensures) (s .args .j) (s .pre .1 .0)
+    label-fits (s .pre .0) (r .before .before .children-from .ensures) (r .before .labels-from .ensures) (r .walk-from .ensures) (s .args .j) (s .pre .1 .0)
 
 mul-write-labelling : tie.Need-mul-write-labelling
 mul-write-labelling c = search needs
@@ -38,15 +38,24 @@ mul-write-labelling c = search needs
 add-write-labelling : tie.Need-add-write-labelling
 add-write-labelling c = search needs
 
+mul-write-labelling-2 : tie.Need-mul-write-labelling-2
+mul-write-labelling-2 c = search needs
+
 add-write-labelling-2 : tie.Need-add-write-labelling-2
 add-write-labelling-2 c = search needs
+
+mul-write-labelling-3 : tie.Need-mul-write-labelling-3
+mul-write-labelling-3 c = search needs
+
+add-write-labelling-3 : tie.Need-add-write-labelling-3
+add-write-labelling-3 c = search needs
 
 write-labelling-requires : tie.Need-write-labelling-requires
 write-labelling-requires c κs =
     let m = c .before .before .before .before in
     let r = m .before .before in
     let s = start r in
-    labelling-fits (s .pre .0) (r .before .before .children-from .ensures) (r .before .labels-from .ensures) (r .by-rank-from .ensures) (s .args .j) (m .label .ensures) (s .args .out .now) (s .args .at) (s .pre .1 .1)
+    labelling-fits (s .pre .0) (r .before .before .children-from .ensures) (r .before .labels-from .ensures) (r .walk-from .ensures) (s .args .j) (m .label .ensures) (s .args .out .now) (s .args .at) (s .pre .1 .1)
 
 same-length : tie.Need-same-length
 same-length c = search needs
@@ -59,8 +68,8 @@ returns c =
     let m = c .before .before .before .before .before .before .before in
     let r = m .before .before in
     let s = start r in (
-      order-labelled (s .pre .0) (r .before .before .children-from .ensures) (r .before .labels-from .ensures) (r .by-rank-from .ensures) (s .args .j) (m .label .ensures),
-      order-written (s .pre .0) (r .before .before .children-from .ensures) (r .before .labels-from .ensures) (r .by-rank-from .ensures) (s .args .j) (m .label .ensures) (s .args .out .now) _ (s .args .at) (c .before .before .write-labelling .ensures),
+      order-labelled (s .pre .0) (r .before .before .children-from .ensures) (r .before .labels-from .ensures) (r .walk-from .ensures) (s .args .j) (m .label .ensures),
+      order-written (s .pre .0) (r .before .before .children-from .ensures) (r .before .labels-from .ensures) (r .walk-from .ensures) (s .args .j) (m .label .ensures) (s .args .out .now) _ (s .args .at) (c .before .before .write-labelling .ensures),
     )
 
 pub write-order-spec : {M : Type 1} → statement M
@@ -69,14 +78,17 @@ write-order-spec =
     (tie.spec
     children-from-requires
     labels-from-requires
-    by-rank-from-requires
+    walk-from-requires
     mul-label
     mul-label-2
     mul-label-3
     label-requires
     mul-write-labelling
     add-write-labelling
+    mul-write-labelling-2
     add-write-labelling-2
+    mul-write-labelling-3
+    add-write-labelling-3
     write-labelling-requires
     same-length
     same-length-2

@@ -1,7 +1,7 @@
--- `build_labelled::label` meets its contract. The rows and roots that the order gives make the traversal the one that defines the labelling, and what that leaves is what the
--- labels are made from.
+-- `build_labelled::label` meets its contract. The rows and roots that the order gives make the traversal the one that defines the labelling, and the labels that it leaves are the
+-- labelling.
 use borrow.Author.Needs.{needs}
-use Rattle.build_labelled.proofs.Walked.{order-fits, traverse-fits, labels-fit, labelled}
+use Rattle.build_labelled.proofs.Walked.{order-fits, traverse-fits, labelled}
 use Rattle.build_labelled.proofs.label.Statement.{statement}
 use Rattle.build_labelled.proofs.label.Tie as tie
 
@@ -11,9 +11,6 @@ start a = a .before .before .before .before
 
 abbrev ordered : tie.After-traverse → tie.After-order-rows
 ordered b = b .before .before .before .before
-
-abbrev walked : tie.After-labels-of → tie.After-traverse
-walked d = d .before .before .before .before
 
 add-roots : tie.Need-add-roots
 add-roots c = search needs
@@ -44,29 +41,16 @@ traverse-requires c κs =
     let a = c .before .before .before in
     traverse-fits (start a .pre) (a .order-rows .ensures)
 
-mul-labels-of : tie.Need-mul-labels-of
-mul-labels-of c = search needs
-
-add-labels-of : tie.Need-add-labels-of
-add-labels-of c = search needs
-
-labels-of-requires : tie.Need-labels-of-requires
-labels-of-requires c κs =
-    let b = c .before .before .before in
-    let a = ordered b in
-    labels-fit (start a .pre) (a .order-rows .ensures) (b .traverse .ensures .0) (b .traverse .ensures .1)
-
 same-length : tie.Need-same-length
 same-length c = search needs
 
 returns : tie.Need-returns
 returns c =
-    let d = c .before .before in
-    let b = walked d in
+    let b = c .before .before in
     let a = ordered b in
-    labelled (start a .pre) (a .order-rows .ensures) (b .traverse .ensures .0) (b .traverse .ensures .1) (d .labels-of .ensures)
+    labelled (start a .pre) (a .order-rows .ensures) (b .traverse .ensures .0) (b .traverse .ensures .1)
 
 pub label-spec : {M : Type 1} → statement M
 label-spec =
     tie.close
-    (tie.spec add-roots add-rows add-walk add-walk-2 add-walk-3 order-rows-requires add-traverse add-traverse-2 traverse-requires mul-labels-of add-labels-of labels-of-requires same-length returns)
+    (tie.spec add-roots add-rows add-walk add-walk-2 add-walk-3 order-rows-requires add-traverse add-traverse-2 traverse-requires same-length returns)

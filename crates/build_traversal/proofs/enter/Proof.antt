@@ -1,18 +1,23 @@
--- `build_traversal::enter` meets its contract: four stores, each in its own region.
-use lib.ListN.{length-set}
+-- `build_traversal::enter` meets its contract: the frame lies in the first four regions, and m is stored in the sixth.
 use native.Mathlib.Omega.{arith}
+use mathlib.Core.Path.{ap}
+use Prim.Native.Nat.{_+_, _*_}
+use lib.ListN.{set, length-set}
 use borrow.Author.Needs.{needs}
 use Rattle.build_traversal.proofs.enter.Statement.{statement}
 use Rattle.build_traversal.proofs.enter.Tie as tie
 
+open-frame-requires : tie.Need-open-frame-requires
+open-frame-requires c κs = search needs
+
 add-work : tie.Need-add-work
 add-work c = search needs
 
+cast-work : tie.Need-cast-work
+cast-work c = search needs
+
 mul-work : tie.Need-mul-work
 mul-work c = search needs
-
-slice-write-work : tie.Need-slice-write-work
-slice-write-work c = search needs
 
 add-work-2 : tie.Need-add-work-2
 add-work-2 c = search needs
@@ -23,44 +28,26 @@ add-work-3 c = search needs
 mul-work-2 : tie.Need-mul-work-2
 mul-work-2 c = search needs
 
-slice-write-work-2 : tie.Need-slice-write-work-2
-slice-write-work-2 c = simp length-set (omega arith)
-
-mul-work-3 : tie.Need-mul-work-3
-mul-work-3 c = search needs
-
-add-work-4 : tie.Need-add-work-4
-add-work-4 c = search needs
-
-add-work-5 : tie.Need-add-work-5
-add-work-5 c = search needs
-
-mul-work-4 : tie.Need-mul-work-4
-mul-work-4 c = search needs
-
-slice-write-work-3 : tie.Need-slice-write-work-3
-slice-write-work-3 c = simp length-set (omega arith)
-
-mul-work-5 : tie.Need-mul-work-5
-mul-work-5 c = search needs
-
-add-work-6 : tie.Need-add-work-6
-add-work-6 c = search needs
-
-add-work-7 : tie.Need-add-work-7
-add-work-7 c = search needs
-
-mul-work-6 : tie.Need-mul-work-6
-mul-work-6 c = search needs
-
-slice-write-work-4 : tie.Need-slice-write-work-4
-slice-write-work-4 c = simp length-set (omega arith)
+slice-write-work : tie.Need-slice-write-work
+slice-write-work c = let a = c .before .before in omega (arith, a .open-frame .kept, a .before .before .before .pre)
 
 same-length : tie.Need-same-length
-same-length c = search needs
+same-length c = let a = c .before .before in simp length-set (a .open-frame .kept .0)
 
 returns : tie.Need-returns
-returns c = search needs
+returns c = let a = c .before .before in let s = a .before .before .before .args in ap (λ z. set z (s .base + 5 * s .n + s .v) (s .k + 1)) (a .open-frame .ensures)
 
 pub enter-spec : {M : Type 1} → statement M
-enter-spec = tie.close (tie.spec add-work mul-work slice-write-work add-work-2 add-work-3 mul-work-2 slice-write-work-2 mul-work-3 add-work-4 add-work-5 mul-work-4 slice-write-work-3 mul-work-5 add-work-6 add-work-7 mul-work-6 slice-write-work-4 same-length returns)
+enter-spec =
+    tie.close
+    (tie.spec
+    open-frame-requires
+    add-work
+    cast-work
+    mul-work
+    add-work-2
+    add-work-3
+    mul-work-2
+    slice-write-work
+    same-length
+    returns)

@@ -5,7 +5,7 @@ use borrow.Author.Needs.{needs}
 use mir.Facts.{fits-32-64}
 use lib.ListN.{getD}
 use Rattle.lineage.specs.Lists.{part}
-use Rattle.build_traversal.proofs.Frames.{vertex-is, end-above}
+use Rattle.build_traversal.proofs.Regions.{vertex-is, end-above}
 use Rattle.build_traversal.proofs.row_end.Statement.{statement}
 use Rattle.build_traversal.proofs.row_end.Tie as tie
 

@@ -1,6 +1,6 @@
 -- `build_traversal::row_place` meets its contract: by the test.
 use borrow.Author.Needs.{needs}
-use Rattle.build_traversal.proofs.Frames.{place-above}
+use Rattle.build_traversal.proofs.Regions.{place-above}
 use Rattle.build_traversal.proofs.row_place.Statement.{statement}
 use Rattle.build_traversal.proofs.row_place.Tie as tie
 

@@ -1,21 +1,22 @@
--- `build_traversal::run` meets its contract. A turn tries the next entry of the row at the top, and passes over it or enters it, or, where none is left, leaves the vertex of
--- the top frame: one step of the machine each. Where no frame is open and no root is left, nothing is left to do.
-use mathlib.Core.Path.{_≡_}
+-- `build_traversal::run` meets its contract. A turn tries the next entry of the row at the top, and lowers s or enters it, or, where none is left, leaves the vertex of the top frame: one
+-- step of the machine each. Where no frame is open and no root is left, nothing is left to do.
+use mathlib.Core.Path.{_≡_, refl}
 use Prim.Native.Nat.{ℕ, suc, _+_, _*_, _-_, _^_, _≤_, _<_}
 use native.Mathlib.Omega.{arith}
 use borrow.Author.Needs.{needs}
 use mir.Facts.{fits-32-64}
 use lib.ListN.{length, getD}
-use Rattle.build_traversal.proofs.Going.{Going, toGo, going-none, room-now, entry-inside, next-fits, v-low, going-past, past-less, space, going-in, in-less, end-fits, going-out, out-less, held}
+use Rattle.build_traversal.proofs.Frames.{toGo, in-less, out-less, room-now, entry-inside, next-fits, entry-low, past-less, end-fits}
+use Rattle.build_traversal.proofs.Going.{Going, going-none, going-past, space, fewer-now, going-in, leave-fits, kept-out, frames-same, no-more, going-out, held}
 use Rattle.build_traversal.proofs.Ended.{ended}
 use Rattle.build_traversal.proofs.run.Statement.{statement}
 use Rattle.build_traversal.proofs.run.Tie as tie
 
 abbrev Inv-loop : tie.InvT-loop
-Inv-loop work₀ starts values c roots q n base d₀ k₀ e₀ at₀ end₀ work d k e at end = Going work₀ work starts values c roots q n base d k e at end
+Inv-loop work₀ starts values c roots q n base d₀ k₀ s₀ e₀ at₀ end₀ work d k s e at end = Going work₀ work starts values c roots q n base d k s e at end
 
 abbrev μ-loop : tie.MeasureT-loop
-μ-loop work₀ starts values c roots q n base d₀ k₀ e₀ at₀ end₀ work d k e at end = toGo work base n c q d e
+μ-loop work₀ starts values c roots q n base d₀ k₀ s₀ e₀ at₀ end₀ work d k s e at end = toGo work base n c q d e
 
 abbrev start : tie.At-loop Inv-loop μ-loop → tie.Start Inv-loop μ-loop
 start c = c .before .before
@@ -25,20 +26,29 @@ abbrev vertex : tie.Then1 Inv-loop μ-loop → ℕ
 vertex c = getD (c .before .loop .work) (c .before .loop .at + c .before .loop .e) 0
 
 inside : (c : tie.Then1 Inv-loop μ-loop) → c .before .loop .at + c .before .loop .e < length (c .before .loop .work)
-inside c = entry-inside (start (c .before) .pre .0) (c .before .loop .inv) (c .if1 .taken)
+inside c = entry-inside (start (c .before) .pre .0) (c .before .loop .inv .frames) (c .if1 .taken)
 
 vertex-low : (c : tie.Then1 Inv-loop μ-loop) → vertex c < start (c .before) .args .n
-vertex-low c = v-low (start (c .before) .pre .0) (c .before .loop .inv) (c .if1 .taken)
+vertex-low c = entry-low (start (c .before) .pre .0) (c .before .loop .inv .frames) (c .if1 .taken)
 
 small : (c : tie.Then1 Inv-loop μ-loop) → c .before .loop .e + 1 < 2 ^ 32
-small c = next-fits (start (c .before) .pre .0) (c .before .loop .inv) (c .if1 .taken)
+small c = next-fits (start (c .before) .pre .0) (c .before .loop .inv .frames) (c .if1 .taken)
 
-room : (c : tie.At-loop Inv-loop μ-loop) → start c .args .base + 6 * start c .args .n ≤ length (c .loop .work)
-room c = room-now (start c .pre .0) (c .loop .inv)
+room : (c : tie.At-loop Inv-loop μ-loop) → start c .args .base + 7 * start c .args .n ≤ length (c .loop .work)
+room c = room-now (start c .pre .0) (c .loop .inv .frames)
 
 -- it is new: there is a frame for it
 frame : (c : tie.Then2 Inv-loop μ-loop) → let l = c .before .before .before .before in l .loop .d + l .loop .k < start l .args .n
 frame c = let t = c .before .before .before in space (start (t .before) .pre .0) (t .before .loop .inv) (t .if1 .taken) (c .if2 .taken)
+
+-- where the row of the vertex entered lies
+row-fits : (c : tie.Then1 Inv-loop μ-loop) → let s = start (c .before) in s .args .starts + vertex c + 1 < length (s .args .work .now)
+row-fits c = omega (arith, vertex-low c, start (c .before) .pre .0 .starts-there .fits)
+
+row-inside : (c : tie.After-enter Inv-loop μ-loop) → let t = c .before .before .before .before .before in start (t .before) .args .starts + vertex t + 1 < length (c .enter .last .0)
+row-inside c =
+    let t = c .before .before .before .before .before in
+    omega (arith, row-fits t, t .before .loop .inv .frames .kept .long, c .enter .kept .0)
 
 -- the top frame
 top : (c : tie.Then3 Inv-loop μ-loop) → c .before .before .loop .d ≡ suc (c .before .before .loop .d - 1)
@@ -47,6 +57,10 @@ top c = omega arith
 both : (c : tie.At-loop Inv-loop μ-loop) → c .loop .d + c .loop .k ≤ start c .args .n
 both c = held (start c .pre .0) (c .loop .inv)
 
+-- memory once its vertex is left
+room-after : (c : tie.After-leave Inv-loop μ-loop) → let l = c .before .before .before .before .before in start l .args .base + 7 * start l .args .n ≤ length (c .leave .last .0)
+room-after c = let l = c .before .before .before .before .before in omega (arith, room l, c .leave .kept .0)
+
 loop-holds : tie.Need-loop-holds Inv-loop μ-loop
 loop-holds c = going-none (c .before .pre .0)
 
@@ -54,7 +68,7 @@ add-v : tie.Need-add-v Inv-loop μ-loop
 add-v c = omega (arith, inside c, start (c .before) .good)
 
 mul-v : tie.Need-mul-v Inv-loop μ-loop
-mul-v c = omega (arith, inside c, c .before .loop .inv .kept .long, start (c .before) .good)
+mul-v c = omega (arith, inside c, c .before .loop .inv .frames .kept .long, start (c .before) .good)
 
 slice-read-v : tie.Need-slice-read-v Inv-loop μ-loop
 slice-read-v c = inside (c .before)
@@ -65,35 +79,23 @@ add-e c = omega (arith, small (c .before))
 cast-i : tie.Need-cast-i Inv-loop μ-loop
 cast-i c = omega (arith, vertex-low (c .before))
 
-add-if2 : tie.Need-add-if2 Inv-loop μ-loop
-add-if2 c = omega (arith, vertex-low (c .before), start (c .before .before) .pre .0 .room, start (c .before .before) .good)
+add-mark : tie.Need-add-mark Inv-loop μ-loop
+add-mark c = omega (arith, vertex-low (c .before), start (c .before .before) .pre .0 .room, start (c .before .before) .good)
 
-mul-if2 : tie.Need-mul-if2 Inv-loop μ-loop
-mul-if2 c = omega (arith, vertex-low (c .before), start (c .before .before) .pre .0 .room, start (c .before .before) .good)
+mul-mark : tie.Need-mul-mark Inv-loop μ-loop
+mul-mark c = omega (arith, vertex-low (c .before), start (c .before .before) .pre .0 .room, start (c .before .before) .good)
 
-slice-read-if2 : tie.Need-slice-read-if2 Inv-loop μ-loop
-slice-read-if2 c = let t = c .before .before in omega (arith, vertex-low t, room (t .before))
+slice-read-mark : tie.Need-slice-read-mark Inv-loop μ-loop
+slice-read-mark c = let t = c .before .before in omega (arith, vertex-low t, room (t .before))
 
 cast-enter : tie.Need-cast-enter Inv-loop μ-loop
 cast-enter c = omega (arith, small (c .before .before .before .before))
 
-add-enter : tie.Need-add-enter Inv-loop μ-loop
-add-enter c = omega (arith, frame (c .before), start (c .before .before .before .before .before) .fits)
-
-cast-enter-2 : tie.Need-cast-enter-2 Inv-loop μ-loop
-cast-enter-2 c = omega (arith, frame (c .before), start (c .before .before .before .before .before) .pre .0 .few)
-
 enter-requires : tie.Need-enter-requires Inv-loop μ-loop
-enter-requires c κs = let t = c .before .before .before .before in omega (arith, frame (c .before), vertex-low t, room (t .before))
+enter-requires c κs = let t = c .before .before .before .before in omega (arith, frame (c .before), vertex-low t, room (t .before), start (t .before) .pre .0 .few)
 
--- where the row of the vertex entered lies
-row-fits : (c : tie.Then1 Inv-loop μ-loop) → let s = start (c .before) in s .args .starts + vertex c + 1 < length (s .args .work .now)
-row-fits c = omega (arith, vertex-low c, start (c .before) .pre .0 .starts-there .fits)
-
-row-inside : (c : tie.After-enter Inv-loop μ-loop) → let t = c .before .before .before .before .before in start (t .before) .args .starts + vertex t + 1 < length (c .enter .last .0)
-row-inside c =
-    let t = c .before .before .before .before .before in
-    omega (arith, row-fits t, t .before .loop .inv .kept .long, c .enter .kept .0)
+cast-s : tie.Need-cast-s Inv-loop μ-loop
+cast-s c = let t = c .before .before .before .before .before .before .before in omega (arith, start (t .before) .pre .0 .few)
 
 add-d : tie.Need-add-d Inv-loop μ-loop
 add-d c = let t = c .before .before .before .before in omega (arith, frame t, start (t .before .before .before .before) .fits)
@@ -130,7 +132,7 @@ loop-less c =
     let a = c .before .before .before .before in
     let b = a .before .before in
     let t = b .before .before .before in
-    in-less (start (t .before) .pre .0) (t .before .loop .inv) (t .if1 .taken) (b .if2 .taken) (a .enter .ensures) _
+    in-less _ _ _ _ _ _ _ _ (fewer-now (start (t .before) .pre .0) (t .before .loop .inv) (t .if1 .taken) (b .if2 .taken) (a .enter .ensures)) _
 
 loop-again : tie.Need-loop-again Inv-loop μ-loop
 loop-again c =
@@ -139,56 +141,117 @@ loop-again c =
     let t = b .before .before .before in
     going-in (start (t .before) .pre .0) (t .before .loop .inv) (t .if1 .taken) (b .if2 .taken) (a .enter .ensures)
 
+lesser-word-requires : tie.Need-lesser-word-requires Inv-loop μ-loop
+lesser-word-requires c κs = search needs
+
 loop-less-2 : tie.Need-loop-less-2 Inv-loop μ-loop
-loop-less-2 c = let t = c .before .before .before in past-less (start (t .before) .pre .0) (t .before .loop .inv) (t .if1 .taken)
+loop-less-2 c = let t = c .before .before .before .before in past-less (start (t .before) .pre .0) (t .before .loop .inv .frames) (t .if1 .taken)
 
 loop-again-2 : tie.Need-loop-again-2 Inv-loop μ-loop
-loop-again-2 c = let t = c .before .before .before in going-past (start (t .before) .pre .0) (t .before .loop .inv) (t .if1 .taken) (c .if2 .left)
+loop-again-2 c =
+    let b = c .before in
+    let t = b .before .before .before in
+    going-past (start (t .before) .pre .0) (t .before .loop .inv) (t .if1 .taken) (b .if2 .left) (c .lesser-word .ensures)
 
 sub-d : tie.Need-sub-d Inv-loop μ-loop
 sub-d c = search needs
 
-leave-requires : tie.Need-leave-requires Inv-loop μ-loop
-leave-requires c κs = let t = c .before in let l = t .before .before in omega (arith, top t, both l, room l)
+add-lesser-word : tie.Need-add-lesser-word Inv-loop μ-loop
+add-lesser-word c = let l = c .before .before in omega (arith, both l, start l .fits)
 
-cast-e-2 : tie.Need-cast-e-2 Inv-loop μ-loop
-cast-e-2 c = omega (arith, c .before .before .leave .ok)
+cast-lesser-word : tie.Need-cast-lesser-word Inv-loop μ-loop
+cast-lesser-word c = let l = c .before .before in omega (arith, both l, start l .pre .0 .few)
+
+lesser-word-requires-2 : tie.Need-lesser-word-requires-2 Inv-loop μ-loop
+lesser-word-requires-2 c κs = search needs
+
+leave-requires : tie.Need-leave-requires Inv-loop μ-loop
+leave-requires c κs =
+    let t = c .before .before in
+    let l = t .before .before in
+    omega (arith, leave-fits (start l .pre .0) (l .loop .inv) (t .before .if1 .left) _ (top t), room l, start l .pre .0 .few)
 
 add-k : tie.Need-add-k Inv-loop μ-loop
-add-k c = let l = c .before .before .before .before .before .before in omega (arith, both l, start l .fits, top (c .before .before .before .before))
+add-k c = let l = c .before .before .before .before .before .before .before in omega (arith, both l, start l .fits)
+
+mul-lesser-word : tie.Need-mul-lesser-word Inv-loop μ-loop
+mul-lesser-word c = let a = c .before .before in let l = a .before .before .before .before .before in omega (arith, room-after a, start l .good, a .leave .kept)
+
+add-lesser-word-2 : tie.Need-add-lesser-word-2 Inv-loop μ-loop
+add-lesser-word-2 c = let a = c .before .before in let t = a .before .before .before in let l = t .before .before in omega (arith, room-after a, top t, both l, start l .good, a .leave .kept)
+
+add-lesser-word-3 : tie.Need-add-lesser-word-3 Inv-loop μ-loop
+add-lesser-word-3 c = let a = c .before .before in let t = a .before .before .before in let l = t .before .before in omega (arith, room-after a, top t, both l, start l .good, a .leave .kept)
+
+mul-lesser-word-2 : tie.Need-mul-lesser-word-2 Inv-loop μ-loop
+mul-lesser-word-2 c = let a = c .before .before in let t = a .before .before .before in let l = t .before .before in omega (arith, room-after a, top t, both l, start l .good, a .leave .kept)
+
+slice-read-lesser-word : tie.Need-slice-read-lesser-word Inv-loop μ-loop
+slice-read-lesser-word c = let a = c .before .before .before in let t = a .before .before .before in omega (arith, room-after a, top t, both (t .before .before))
+
+lesser-word-requires-3 : tie.Need-lesser-word-requires-3 Inv-loop μ-loop
+lesser-word-requires-3 c κs = search needs
+
+mul-e-2 : tie.Need-mul-e-2 Inv-loop μ-loop
+mul-e-2 c = let a = c .before .before .before .before in let l = a .before .before .before .before .before in omega (arith, room-after a, start l .good, a .leave .kept)
+
+add-e-3 : tie.Need-add-e-3 Inv-loop μ-loop
+add-e-3 c = let a = c .before .before .before .before in let t = a .before .before .before in let l = t .before .before in omega (arith, room-after a, top t, both l, start l .good, a .leave .kept)
+
+add-e-4 : tie.Need-add-e-4 Inv-loop μ-loop
+add-e-4 c = let a = c .before .before .before .before in let t = a .before .before .before in let l = t .before .before in omega (arith, room-after a, top t, both l, start l .good, a .leave .kept)
+
+mul-e-3 : tie.Need-mul-e-3 Inv-loop μ-loop
+mul-e-3 c = let a = c .before .before .before .before in let t = a .before .before .before in let l = t .before .before in omega (arith, room-after a, top t, both l, start l .good, a .leave .kept)
+
+slice-read-e-2 : tie.Need-slice-read-e-2 Inv-loop μ-loop
+slice-read-e-2 c = let a = c .before .before .before .before .before in let t = a .before .before .before in omega (arith, room-after a, top t, both (t .before .before))
+
+cast-e-2 : tie.Need-cast-e-2 Inv-loop μ-loop
+cast-e-2 c = fits-32-64 (c .slice-known9 .given _)
 
 row-place-requires : tie.Need-row-place-requires Inv-loop μ-loop
 row-place-requires c κs = search needs
 
 row-end-requires : tie.Need-row-end-requires Inv-loop μ-loop
 row-end-requires c κs =
-    let a = c .before .before .before .before in
-    let t = a .before .before in
+    let a = c .before .before .before .before .before .before .before in
+    let w = a .before .before in
+    let t = w .before in
     let l = t .before .before in
-    end-fits (start l .pre .0) (l .loop .inv) (t .before .if1 .left) _ (top t) (a .leave .ensures .0)
+    let fit = start l .pre .0 in
+    let over = t .before .if1 .left in
+    let same = frames-same fit (l .loop .inv) over _ (top t) (w .lesser-word2 .ensures) (a .leave .ensures) in
+    end-fits fit (l .loop .inv .frames) over _ (top t) (omega (arith, both l)) (kept-out fit (l .loop .inv) over _ (top t) (w .lesser-word2 .ensures) (a .leave .ensures))
+    (same _ (omega arith) (omega arith)) (same _ (omega arith) (omega arith)) (same _ (omega arith) (omega arith))
 
 loop-less-3 : tie.Need-loop-less-3 Inv-loop μ-loop
 loop-less-3 c =
-    let a = c .before .before .before .before .before in
-    let t = a .before .before in
+    let a = c .before .before .before .before .before .before .before .before in
+    let w = a .before .before in
+    let t = w .before in
     let l = t .before .before in
-    out-less (start l .pre .0) (l .loop .inv) (t .before .if1 .left) _ (top t) (a .leave .ensures .0) _
+    out-less _ _ _ _ _ _ _ _ _ (top t) (no-more (start l .pre .0) (l .loop .inv) (t .before .if1 .left) _ (top t) (w .lesser-word2 .ensures) (a .leave .ensures)) _
 
 loop-again-3 : tie.Need-loop-again-3 Inv-loop μ-loop
 loop-again-3 c =
     let p = c .before .before in
-    let a = p .before .before .before in
-    let t = a .before .before in
+    let b = p .before .before in
+    let a = b .before .before .before .before in
+    let w = a .before .before in
+    let t = w .before in
     let l = t .before .before in
-    let fits : a .leave .result < 2 ^ 32 = omega (arith, a .leave .ok) in
-    going-out (start l .pre .0) (l .loop .inv) (t .before .if1 .left) _ (top t) (a .leave .ensures .0) (a .leave .ensures .1) fits (p .row-place .ensures) (c .row-end .ensures)
+    let place : ℕ = start l .args .base + 2 * start l .args .n + (l .loop .d - 1) in
+    let fits : getD (a .leave .last .0) place 0 < 2 ^ 32 = omega (arith, p .before .slice-known9 .given place) in
+    going-out (start l .pre .0) (l .loop .inv) (t .before .if1 .left) _ (top t) (w .lesser-word2 .ensures) (a .leave .ensures) (b .lesser-word3 .ensures) refl fits (p .row-place .ensures) (c .row-end .ensures)
 
 same-length : tie.Need-same-length Inv-loop μ-loop
-same-length c = c .before .before .loop .inv .kept .long
+same-length c = c .before .before .loop .inv .frames .kept .long
 
 returns : tie.Need-returns Inv-loop μ-loop
 returns c = let l = c .before .before in ended (start l .pre .0) (l .loop .inv) (start l .pre .1) (omega arith) (c .before .if1 .left)
 
 pub run-spec : {M : Type 1} → statement M
 run-spec =
-    tie.close (tie.spec Inv-loop μ-loop loop-holds add-v mul-v slice-read-v add-e cast-i add-if2 mul-if2 slice-read-if2 cast-enter add-enter cast-enter-2 enter-requires add-d add-e-2 mul-e slice-read-e cast-e add-end add-end-2 mul-end slice-read-end cast-end loop-less loop-again loop-less-2 loop-again-2 sub-d leave-requires cast-e-2 add-k row-place-requires row-end-requires loop-less-3 loop-again-3 same-length returns)
+    tie.close
+    (tie.spec Inv-loop μ-loop loop-holds add-v mul-v slice-read-v add-e cast-i add-mark mul-mark slice-read-mark cast-enter enter-requires cast-s add-d add-e-2 mul-e slice-read-e cast-e add-end add-end-2 mul-end slice-read-end cast-end loop-less loop-again lesser-word-requires loop-less-2 loop-again-2 sub-d add-lesser-word cast-lesser-word lesser-word-requires-2 leave-requires add-k mul-lesser-word add-lesser-word-2 add-lesser-word-3 mul-lesser-word-2 slice-read-lesser-word lesser-word-requires-3 mul-e-2 add-e-3 add-e-4 mul-e-3 slice-read-e-2 cast-e-2 row-place-requires row-end-requires loop-less-3 loop-again-3 same-length returns)

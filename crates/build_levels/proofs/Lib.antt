@@ -1,0 +1,4 @@
+-- The laws of this crate's pass.
+pub mod Rows
+pub mod Upwards
+pub mod Turns
