@@ -1,0 +1,7 @@
+-- Pieces and runs of lines; what is written is read back; the laws of the code on lines.
+pub mod Pieces
+pub mod Runs
+pub mod Round
+pub mod Reread
+pub mod Firsts
+pub mod Lines
