@@ -2,9 +2,9 @@
 use mathlib.Core.Bool.{false, not, cond}
 use mathlib.Core.Path.{_≡_, sym, ap, _∙_}
 use mathlib.Core.List.{List, [], _∷_, _++_}
-use Prim.Native.Nat.{ℕ, _+_, _≤_, _<_}
+use Prim.Native.Nat.{ℕ, suc, _+_, _≤_, _<_}
 use native.Mathlib.Omega.{arith}
-use lib.Dec.{eqb, ltb}
+use lib.Dec.{ltb}
 use lib.ListN.{length, drop, length-append}
 use borrow.Author.Tests.{lt-ltb, le-ltb, eq-eqb, ne-eqb}
 use Rattle.lineage.specs.Lists.{upto, any, firstOf}
@@ -13,10 +13,7 @@ use Rattle.lineage.specs.Stored.{form2}
 use Rattle.lineage.specs.Calls.{Check, Outcome, refused, answered, badEdge}
 use Rattle.laws.specs.Checks.{Stops, stopped}
 use Rattle.laws.proofs.Checks.{stops-outcome, stops-early}
-use Rattle.numbers.specs.Put.{put}
 use Rattle.numbers.proofs.Put.{put-start}
-use Rattle.stored_header.specs.declared.Row.{Row}
-use Rattle.stored_header.specs.Header.{rowOf}
 use Rattle.build_orders.proofs.Edges.{ends-of}
 use Rattle.build.proofs.Checks.{any-found, none-found, first-found}
 use Rattle.text_printing.specs.Printer.{Put}
@@ -41,63 +38,69 @@ module _ (G : Graph) (out : List ℕ) where
   unfolding matrixWriteAnswer matrixWriteOutput
   writes-by i s = (sym (stops-outcome size checks i s), rw (stops-early checks [] i s))
 
-  module _ {row : Row} (is : row ≡ rowOf 2) where
-    pub writes-1 : row .vertices < G .n → Writes (refused 1 0) out
-    writes-1 h = writes-by 0 (lt-ltb 200000 (G .n) (omega (arith, ap (λ (r : Row). r .vertices) is)))
+  pub writes-1 : form2 .vertices < G .n → Writes (refused 1 0) out
+  writes-1 h = writes-by 0 (lt-ltb (form2 .vertices) (G .n) h)
 
-    module _ (vertices : G .n ≤ row .vertices) where
-      past-1 : ltb 200000 (G .n) ≡ false
-      past-1 = le-ltb 200000 (G .n) (omega (arith, ap (λ (r : Row). r .vertices) is))
+  pub writes-2 : G .n ≤ form2 .vertices → (length (G .sources) ≡ length (G .targets) → ⊥) → Writes (refused 2 0) out
+  writes-2 low h = writes-by 1 (le-ltb (form2 .vertices) (G .n) low, ap not (ne-eqb (length (G .sources)) (length (G .targets)) h))
 
-      pub writes-2 : (length (G .sources) ≡ length (G .targets) → ⊥) → Writes (refused 2 0) out
-      writes-2 h = writes-by 1 (past-1, ap not (ne-eqb (length (G .sources)) (length (G .targets)) h))
+  pub writes-3 : G .n ≤ form2 .vertices → length (G .sources) ≡ length (G .targets) → form2 .edges < length (G .sources) → Writes (refused 3 0) out
+  writes-3 low paired h =
+      writes-by 2
+      (le-ltb (form2 .vertices) (G .n) low, (ap not (eq-eqb (length (G .sources)) (length (G .targets)) paired), lt-ltb (form2 .edges) (length (G .sources)) h))
 
-      module _ (paired : length (G .sources) ≡ length (G .targets)) where
-        past-2 : not (eqb (length (G .sources)) (length (G .targets))) ≡ false
-        past-2 = ap not (eq-eqb (length (G .sources)) (length (G .targets)) paired)
+  -- where 1, 2 and 3 do not apply, and where 7 does not apply either
+  pub record Bounded : Type 0 where
+    pub vertices : G .n ≤ form2 .vertices
+    pub paired : length (G .sources) ≡ length (G .targets)
+    pub edges : length (G .sources) ≤ form2 .edges
 
-        pub writes-3 : row .edges < length (G .sources) → Writes (refused 3 0) out
-        writes-3 h = writes-by 2 (past-1, (past-2, lt-ltb 1000000 (length (G .sources)) (omega (arith, ap (λ (r : Row). r .edges) is))))
+  pub record Passed : Type 0 where
+    pub bounded : Bounded
+    pub ends : any (badEdge G) (upto (length (G .sources))) ≡ false
 
-        module _ (few : length (G .sources) ≤ row .edges) {first : ℕ} (found : first ≡ firstOf (badEdge G) (upto (length (G .sources))) (length (G .sources))) where
-          past-3 : ltb 1000000 (length (G .sources)) ≡ false
-          past-3 = le-ltb 1000000 (length (G .sources)) (omega (arith, ap (λ (r : Row). r .edges) is))
+  pub lines-fit : Passed → Lines G
+  lines-fit P = record { vertices = P .bounded .vertices; edges = P .bounded .edges; ends = ends-of G (P .bounded .paired) (P .ends) }
 
-          pub writes-7 : first < length (G .sources) → Writes (refused 7 first) out
-          writes-7 h =
-              let (o, w) = writes-by 3 (past-1, (past-2, (past-3, any-found (badEdge G) (length (G .sources)) first found h))) in
-              (ap (refused 7) (first-found (badEdge G) (length (G .sources)) first found h) ∙ o, w)
+  -- all stop where those from 7 on do, or those from 9 on
+  from-7 : Bounded → (i : ℕ) → Stops (drop 3 checks) i → Stops checks (suc (suc (suc i)))
+  from-7 B i s =
+      (le-ltb (form2 .vertices) (G .n) (B .vertices), (ap not (eq-eqb (length (G .sources)) (length (G .targets)) (B .paired)), (le-ltb (form2 .edges) (length (G .sources)) (B .edges), s)))
 
-          module _ (good : length (G .sources) ≤ first) where
-            past-7 : any (badEdge G) (upto (length (G .sources))) ≡ false
-            past-7 = none-found (badEdge G) (length (G .sources)) first found good
+  from-9 : Passed → (i : ℕ) → Stops (drop 4 checks) i → Stops checks (suc (suc (suc (suc i))))
+  from-9 P i s = from-7 (P .bounded) (suc i) (P .ends, s)
 
-            pub lines-fit : Lines G
-            lines-fit = record {
-              vertices = omega (arith, vertices, ap (λ (r : Row). r .vertices) is);
-              edges = omega (arith, few, ap (λ (r : Row). r .edges) is);
-              ends = ends-of G paired past-7;
-            }
+  -- the first bad edge
+  module _ (B : Bounded) {first : ℕ} (found : first ≡ firstOf (badEdge G) (upto (length (G .sources))) (length (G .sources))) where
+    pub writes-7 : first < length (G .sources) → Writes (refused 7 first) out
+    writes-7 h =
+        let (o, w) = writes-by 3 (from-7 B 0 (any-found (badEdge G) (length (G .sources)) first found h)) in
+        (ap (refused 7) (first-found (badEdge G) (length (G .sources)) first found h) ∙ o, w)
 
-            module _ {told : ℕ} (told-is : told ≡ length (matrixText G)) where
-              pub writes-9 : length out < told → Writes (refused 9 told) out
-              writes-9 h =
-                  let (o, w) = writes-by 4 (past-1, (past-2, (past-3, (past-7, lt-ltb (length out) size (omega (arith, told-is)))))) in
-                  (ap (refused 9) told-is ∙ o, w)
+    pub passed : length (G .sources) ≤ first → Passed
+    passed h = record { bounded = B; ends = none-found (badEdge G) (length (G .sources)) first found h }
 
-              -- the front is put, and the entries behind it
-              module _ (room : told ≤ length out) where
-                pub front-room : length (frontLines (G .n) (length (G .sources))) ≤ length out
-                front-room = omega (arith, told-is, room, ap length (text-parts G), length-append (frontLines (G .n) (length (G .sources))) (ended (entryRows (G .sources) (G .targets))))
+  -- the length of the text
+  module _ (P : Passed) {told : ℕ} (told-is : told ≡ length (matrixText G)) where
+    pub writes-9 : length out < told → Writes (refused 9 told) out
+    writes-9 h =
+        let (o, w) = writes-by 4 (from-9 P 0 (lt-ltb (length out) size (omega (arith, told-is)))) in
+        (ap (refused 9) told-is ∙ o, w)
 
-                module _ {at : ℕ} {mid : List ℕ} (front : Put out 0 (frontLines (G .n) (length (G .sources))) at mid) (same : length mid ≡ length out) where
-                  pub entries-room : at + length (ended (entryRows (G .sources) (G .targets))) ≤ length mid
-                  entries-room =
-                      omega
-                      (arith, told-is, room, same, front .behind, ap length (text-parts G), length-append (frontLines (G .n) (length (G .sources))) (ended (entryRows (G .sources) (G .targets))))
+    -- there is room for the header and the size line, and behind them for the entries; they are the text
+    module _ (room : told ≤ length out) where
+      text-long : told ≡ length (frontLines (G .n) (length (G .sources))) + length (ended (entryRows (G .sources) (G .targets)))
+      text-long = told-is ∙ ap length (text-parts G) ∙ length-append (frontLines (G .n) (length (G .sources))) (ended (entryRows (G .sources) (G .targets)))
 
-                  pub writes-text : {next : ℕ} {exit : List ℕ} → Put mid at (ended (entryRows (G .sources) (G .targets))) next exit → Writes (answered told) exit
-                  writes-text entries =
-                      let (o, w) = writes-by 5 (past-1, (past-2, (past-3, (past-7, (le-ltb (length out) size (omega (arith, told-is)), tt))))) in
-                      let whole = put-same (sym (text-parts G)) (put-put front entries (omega arith)) in
-                      (ap answered told-is ∙ o, whole .whole ∙ (put-start out (matrixText G) ∙ w))
+      pub front-room : length (frontLines (G .n) (length (G .sources))) ≤ length out
+      front-room = omega (arith, text-long)
+
+      module _ {at : ℕ} {mid : List ℕ} (front : Put out 0 (frontLines (G .n) (length (G .sources))) at mid) (same : length mid ≡ length out) where
+        pub entries-room : at + length (ended (entryRows (G .sources) (G .targets))) ≤ length mid
+        entries-room = omega (arith, text-long, front .behind)
+
+        pub writes-text : {next : ℕ} {exit : List ℕ} → Put mid at (ended (entryRows (G .sources) (G .targets))) next exit → Writes (answered told) exit
+        writes-text entries =
+            let (o, w) = writes-by 5 (from-9 P 1 (le-ltb (length out) size (omega (arith, told-is)), tt)) in
+            let text = put-same (sym (text-parts G)) (put-put front entries (omega arith)) in
+            (ap answered told-is ∙ o, text .whole ∙ (put-start out (matrixText G) ∙ w))

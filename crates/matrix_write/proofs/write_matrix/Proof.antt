@@ -1,76 +1,90 @@
 -- `matrix_write::write_matrix` meets its contract: each return is where its checks stop; behind them the header, the size line and the entries are put one behind the
 -- other, and they are the text.
-use mathlib.Core.Path.{ap}
+use mathlib.Core.Path.{_≡_, ap}
+use Prim.Native.Nat.{_≤_}
 use native.Mathlib.Omega.{arith}
-use lib.ListN.{length}
 use borrow.Author.Needs.{needs}
 use Rattle.lineage.specs.Graph.{Graph}
+use Rattle.lineage.specs.Stored.{form2}
 use Rattle.stored_header.specs.declared.Row.{Row}
 use Rattle.build_orders.specs.Input.{graphOf}
 use Rattle.matrix_write.specs.Fit.{Lines}
-use Rattle.matrix_write.proofs.Refusals.{writes-1, writes-2, writes-3, writes-7, lines-fit, writes-9, front-room, entries-room, writes-text}
+use Rattle.matrix_write.proofs.Refusals.{Bounded, Passed, passed, writes-1, writes-2, writes-3, writes-7, lines-fit, writes-9, front-room, entries-room, writes-text}
 use Rattle.matrix_write.proofs.write_matrix.Statement.{statement}
 use Rattle.matrix_write.proofs.write_matrix.Tie as tie
 
--- what was lent; where 1 does not apply, nor 2, nor 3, nor 7, nor 9
-abbrev start : tie.Else1 → tie.Start
-start c = c .before .before .before .before .before .before
+-- what was lent; and where 1 does not apply, nor 2, nor 3, nor 7, nor 9
+abbrev start : tie.After-form-row → tie.Start
+start c = c .before .before .before .before
 
 abbrev graph : tie.Start → Graph
 graph s = graphOf (s .args .n) (s .args .sources .now) (s .args .targets .now)
 
-abbrev past₃ : tie.Else4 → tie.Else3
-past₃ c = c .before .before
+abbrev past₁ : tie.Else1 → tie.After-form-row
+past₁ c = c .before .before
 
-abbrev past₂ : tie.Else3 → tie.Else2
-past₂ c = c .before .before
+abbrev past₂ : tie.Else2 → tie.After-form-row
+past₂ c = past₁ (c .before)
 
-abbrev lent : tie.Else3 → tie.Start
-lent c = start (past₂ c .before)
+abbrev past₃ : tie.Else3 → tie.After-form-row
+past₃ c = past₂ (c .before .before)
 
-abbrev past₇ : tie.Else5 → tie.Else4
-past₇ c = c .before .before
+abbrev past₇ : tie.Else4 → tie.After-form-row
+past₇ c = past₃ (c .before .before)
 
-abbrev from : tie.Else5 → tie.Start
-from c = lent (past₃ (past₇ c))
+abbrev past₉ : tie.Else5 → tie.After-form-row
+past₉ c = past₇ (c .before .before)
 
-fits : (c : tie.Else4) → Lines (graph (lent (past₃ c)))
-fits c =
-    let d = past₃ c in
-    let b = past₂ d in
-    lines-fit (graph (lent d)) (lent d .args .out .now) (b .before .before .before .form-row .ensures) (b .before .if1 .left) (b .if2 .left) (d .if3 .left) (c .before .bad-edge .ensures) (c .if4 .left)
+-- the bounds are form 2's
+most-vertices : (c : tie.After-form-row) → c .form-row .result .vertices ≡ form2 .vertices
+most-vertices c = ap (λ (r : Row). r .vertices) (c .form-row .ensures)
+
+most-edges : (c : tie.After-form-row) → c .form-row .result .edges ≡ form2 .edges
+most-edges c = ap (λ (r : Row). r .edges) (c .form-row .ensures)
+
+few-vertices : (c : tie.Else1) → start (past₁ c) .args .n ≤ form2 .vertices
+few-vertices c = omega (arith, c .if1 .left, most-vertices (past₁ c))
+
+bounded : (c : tie.Else3) → let s = start (past₃ c) in Bounded (graph s) (s .args .out .now)
+bounded c =
+    let b = c .before .before in
+    record { vertices = few-vertices (b .before); paired = b .if2 .left; edges = omega (arith, c .if3 .left, most-edges (past₃ c)) }
+
+passes : (c : tie.Else4) → let s = start (past₇ c) in Passed (graph s) (s .args .out .now)
+passes c = let s = start (past₇ c) in passed (graph s) (s .args .out .now) (bounded (c .before .before)) (c .before .bad-edge .ensures) (c .if4 .left)
+
+fits : (c : tie.Else4) → Lines (graph (start (past₇ c)))
+fits c = let s = start (past₇ c) in lines-fit (graph s) (s .args .out .now) (passes c)
 
 form-row-requires : tie.Need-form-row-requires
 form-row-requires c κs = search needs
 
 returns : tie.Need-returns
-returns c = let s = c .before .before .before .before .before .before in writes-1 (graph s) (s .args .out .now) (c .before .before .form-row .ensures) (c .if1 .taken)
+returns c =
+    let f = c .before .before in
+    writes-1 (graph (start f)) (start f .args .out .now) (omega (arith, c .if1 .taken, most-vertices f))
 
 returns-2 : tie.Need-returns-2
 returns-2 c =
-    let a = c .before in
-    writes-2 (graph (start a)) (start a .args .out .now) (a .before .before .form-row .ensures) (a .if1 .left) (c .if2 .taken)
+    let s = start (past₁ (c .before)) in
+    writes-2 (graph s) (s .args .out .now) (few-vertices (c .before)) (c .if2 .taken)
 
 returns-3 : tie.Need-returns-3
 returns-3 c =
     let b = c .before .before in
-    let a = b .before in
-    writes-3 (graph (start a)) (start a .args .out .now) (a .before .before .form-row .ensures) (a .if1 .left) (b .if2 .left) (c .if3 .taken)
+    let s = start (past₂ b) in
+    writes-3 (graph s) (s .args .out .now) (few-vertices (b .before)) (b .if2 .left) (omega (arith, c .if3 .taken, most-edges (past₂ b)))
 
 bad-edge-requires : tie.Need-bad-edge-requires
 bad-edge-requires c κs = search needs
 
 cast-t12 : tie.Need-cast-t12
-cast-t12 c =
-    let d = c .before .before in
-    omega (arith, c .if4 .taken, d .if3 .left, ap (λ (r : Row). r .edges) (past₂ d .before .before .before .form-row .ensures))
+cast-t12 c = omega (arith, c .if4 .taken, bounded (c .before .before) .edges)
 
 returns-4 : tie.Need-returns-4
 returns-4 c =
-    let d = c .before .before in
-    let b = past₂ d in
-    let a = b .before in
-    writes-7 (graph (lent d)) (lent d .args .out .now) (a .before .before .form-row .ensures) (a .if1 .left) (b .if2 .left) (d .if3 .left) (c .before .bad-edge .ensures) (c .if4 .taken)
+    let s = start (past₃ (c .before .before)) in
+    writes-7 (graph s) (s .args .out .now) (bounded (c .before .before)) (c .before .bad-edge .ensures) (c .if4 .taken)
 
 text-length-requires : tie.Need-text-length-requires
 text-length-requires c κs = fits c
@@ -80,36 +94,25 @@ cast-t13 c = search needs
 
 returns-5 : tie.Need-returns-5
 returns-5 c =
-    let d = c .before .before in
-    let t = past₃ d in
-    let b = past₂ t in
-    let a = b .before in
-    writes-9 (graph (lent t)) (lent t .args .out .now) (a .before .before .form-row .ensures) (a .if1 .left) (b .if2 .left) (t .if3 .left) (d .before .bad-edge .ensures) (d .if4 .left)
-    (c .before .text-length .ensures .0) (c .if5 .taken)
+    let s = start (past₇ (c .before .before)) in
+    writes-9 (graph s) (s .args .out .now) (passes (c .before .before)) (c .before .text-length .ensures .0) (c .if5 .taken)
 
 cast-put-front : tie.Need-cast-put-front
-cast-put-front c = omega (arith, fits (past₇ (c .before)) .edges)
+cast-put-front c = omega (arith, fits (c .before .before .before) .edges)
 
 put-front-requires : tie.Need-put-front-requires
 put-front-requires c κs =
     let e = c .before in
-    let d = past₇ e in
-    let t = past₃ d in
-    let b = past₂ t in
-    let a = b .before in
-    front-room (graph (lent t)) (lent t .args .out .now) (a .before .before .form-row .ensures) (a .if1 .left) (b .if2 .left) (t .if3 .left) (d .before .bad-edge .ensures) (d .if4 .left)
-    (e .before .text-length .ensures .0) (e .if5 .left)
+    let s = start (past₉ e) in
+    front-room (graph s) (s .args .out .now) (passes (e .before .before)) (e .before .text-length .ensures .0) (e .if5 .left)
 
 put-entries-requires : tie.Need-put-entries-requires
 put-entries-requires c κs =
     let f = c .before .before .before in
     let e = f .before .before in
-    let d = past₇ e in
-    let t = past₃ d in
-    let b = past₂ t in
-    let a = b .before in
-    (fits d, entries-room (graph (lent t)) (lent t .args .out .now) (a .before .before .form-row .ensures) (a .if1 .left) (b .if2 .left) (t .if3 .left) (d .before .bad-edge .ensures) (d .if4 .left)
-    (e .before .text-length .ensures .0) (e .if5 .left) (f .put-front .ensures) (f .put-front .kept .0))
+    let s = start (past₉ e) in
+    let P = passes (e .before .before) in
+    (lines-fit (graph s) (s .args .out .now) P, entries-room (graph s) (s .args .out .now) P (e .before .text-length .ensures .0) (e .if5 .left) (f .put-front .ensures) (f .put-front .kept .0))
 
 cast-t16 : tie.Need-cast-t16
 cast-t16 c = search needs
@@ -122,12 +125,8 @@ returns-6 c =
     let p = c .before .before in
     let f = p .before .before .before .before in
     let e = f .before .before in
-    let d = past₇ e in
-    let t = past₃ d in
-    let b = past₂ t in
-    let a = b .before in
-    writes-text (graph (lent t)) (lent t .args .out .now) (a .before .before .form-row .ensures) (a .if1 .left) (b .if2 .left) (t .if3 .left) (d .before .bad-edge .ensures) (d .if4 .left)
-    (e .before .text-length .ensures .0) (e .if5 .left) (f .put-front .ensures) (f .put-front .kept .0) (p .put-entries .ensures)
+    let s = start (past₉ e) in
+    writes-text (graph s) (s .args .out .now) (passes (e .before .before)) (e .before .text-length .ensures .0) (e .if5 .left) (f .put-front .ensures) (f .put-front .kept .0) (p .put-entries .ensures)
 
 pub write-matrix-spec : {M : Type 1} → statement M
 write-matrix-spec =
