@@ -339,10 +339,10 @@ pub extern "C" fn trial_write_matrix(
     n: u32,
 ) -> Counted {
     match matrix_write::write_matrix(n, sources, targets, out) {
-        Written::Total(total) => Counted {
+        Written::Total(count) => Counted {
             refusal: 0,
             extra: 0,
-            count: total,
+            count,
         },
         Written::Refused { number, extra } => Counted {
             refusal: number,
