@@ -1,25 +1,23 @@
 -- The lines of the edges, one after the other: what is passed and what is still to come are the whole text. Counting adds the length of the next line, writing puts
 -- the next line behind the others; and since the whole has room, so has every line.
 use mathlib.Core.List.{List, [], _∷_, _++_, append-assoc, append-nil}
-use mathlib.Core.Path.{_≡_, refl, sym, ap, _∙_}
-use Prim.Native.Nat.{ℕ, _+_, _*_, _^_, _≤_, _<_}
+use mathlib.Core.Path.{_≡_, refl, sym, ap, ap₂, _∙_}
+use Prim.Native.Nat.{ℕ, suc, _+_, _*_, _^_, _≤_, _<_}
 use native.Mathlib.Omega.{arith}
 use lib.ListN.{length, getD, drop, length-append}
 use Rattle.lineage.specs.Graph.{Graph}
 use Rattle.laws.proofs.Edges.{sources-below, targets-below}
+use Rattle.text_lines.specs.Lines.{decimal}
 use Rattle.text_printing.specs.Printer.{Put}
 use Rattle.text_printing.proofs.Putting.{put-put, put-same, word-begins}
 use Rattle.matrix_lines.specs.Matrix.{ended, entryRows, matrixText}
 use Rattle.matrix_write.specs.Fit.{Lines}
-use Rattle.matrix_write.proofs.Rows.{frontLines, front-short, text-parts, entriesFrom, entryLine, entries-next, entries-end}
+use Rattle.matrix_write.proofs.Rows.{pairLine, pair-long, frontLines, front-short, text-parts, entriesFrom, entryLine, entries-next, entries-end}
 
 -- the ends of edge i, one higher, are numbers of 32 bits
-module _ (G : Graph) (L : Lines G) (i : ℕ) (low : i < length (G .sources)) where
-  pub source-fits : getD (G .sources) i 0 + 1 < 2 ^ 32
-  source-fits = omega (arith, sources-below G (L .ends) i low, L .vertices)
-
-  pub target-fits : getD (G .targets) i 0 + 1 < 2 ^ 32
-  target-fits = omega (arith, targets-below G (L .ends) i (omega (arith, L .ends .paired)), L .vertices)
+pub ends-fit : (G : Graph) → Lines G → (i : ℕ) → i < length (G .sources) → (suc (getD (G .sources) i 0) < 2 ^ 32) × (suc (getD (G .targets) i 0) < 2 ^ 32)
+ends-fit G L i low =
+    (omega (arith, sources-below G (L .ends) i low, L .vertices), omega (arith, targets-below G (L .ends) i (omega (arith, L .ends .paired)), L .vertices))
 
 -- the bytes up to edge i are counted
 pub record Counted (G : Graph) (size i : ℕ) : Type 0 where
@@ -36,11 +34,14 @@ module _ (G : Graph) (L : Lines G) where
   }
 
   module _ {size i : ℕ} (C : Counted G size i) where
-    pub counted-turns : {more : ℕ} → i < length (G .sources) → more ≡ length (entryLine (G .sources) (G .targets) i) → more ≤ 22 → Counted G (size + more) (i + 1)
-    counted-turns h e short = record {
+    pub counted-turns : {x y more : ℕ} → i < length (G .sources) → x ≡ suc (getD (G .sources) i 0) → y ≡ suc (getD (G .targets) i 0)
+        → more ≡ length (pairLine x y)
+        → more ≤ 22
+        → Counted G (size + more) (i + 1)
+    counted-turns h source target e short = record {
       whole =
           omega
-          (arith, C .whole, e, ap length (entries-next (G .sources) (G .targets) i (L .ends .paired) h), length-append (entryLine (G .sources) (G .targets) i) (entriesFrom (G .sources) (G .targets) (i + 1)));
+          (arith, C .whole, e, ap₂ (λ (u v : ℕ). length (pairLine u v)) source target, ap length (entries-next (G .sources) (G .targets) i (L .ends .paired) h), length-append (entryLine (G .sources) (G .targets) i) (entriesFrom (G .sources) (G .targets) (i + 1)));
       small = omega (arith, C .small);
       low = omega arith;
     }
@@ -66,15 +67,18 @@ module _ {S T entry : List ℕ} {at i next : ℕ} {out : List ℕ} (E : Entered 
     (room : at + length (ended (entryRows S T)) ≤ length entry)
   where
     -- there is room for the next line
-    pub entry-room : i < length S → next + length (entryLine S T i) ≤ length out
+    pub entry-room : i < length S → next + (length (decimal (suc (getD S i 0))) + length (decimal (suc (getD T i 0))) + 2) ≤ length out
     entry-room h =
         omega
-        (arith, room, E .put .behind, E .long, ap length (E .whole), length-append (E .lines) (entriesFrom S T i), ap length (entries-next S T i paired h), length-append (entryLine S T i) (entriesFrom S T (i + 1)))
+        (arith, room, E .put .behind, E .long, ap length (E .whole), length-append (E .lines) (entriesFrom S T i), ap length (entries-next S T i paired h), length-append (entryLine S T i) (entriesFrom S T (i + 1)), pair-long (suc (getD S i 0)) (suc (getD T i 0)))
 
-    pub entered-turns : {last : ℕ} {exit : List ℕ} → i < length S → Put out next (entryLine S T i) last exit → length exit ≡ length out → Entered S T entry at (i + 1) last exit
-    entered-turns h p same = record {
+    pub entered-turns : {x y last : ℕ} {exit : List ℕ} → i < length S → x ≡ suc (getD S i 0) → y ≡ suc (getD T i 0)
+        → Put out next (pairLine x y) last exit
+        → length exit ≡ length out
+        → Entered S T entry at (i + 1) last exit
+    entered-turns h source target p same = record {
       lines = E .lines ++ entryLine S T i;
-      put = put-put (E .put) p (omega arith);
+      put = put-put (E .put) (put-same (ap₂ pairLine source target) p) (omega arith);
       whole =
           append-assoc (E .lines) (entryLine S T i) (entriesFrom S T (i + 1))
           ∙ ap (λ (s : List ℕ). E .lines ++ s) (sym (entries-next S T i paired h))

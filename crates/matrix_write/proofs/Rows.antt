@@ -57,11 +57,11 @@ entriesFrom S T i = ended (entryRows (drop i S) (drop i T))
 
 -- the line of edge i
 abbrev pub entryLine : List ℕ → List ℕ → ℕ → List ℕ
-entryLine S T i = pairLine (getD S i 0 + 1) (getD T i 0 + 1)
+entryLine S T i = pairLine (suc (getD S i 0)) (suc (getD T i 0))
 
 pub entries-next : (S T : List ℕ) (i : ℕ) → length S ≡ length T → i < length S → entriesFrom S T i ≡ entryLine S T i ++ entriesFrom S T (i + 1)
 entries-next S T i paired low =
-    rw (drop-cons S i 0 low, drop-cons T i 0 (omega arith), add-one i, add-one (getD S i 0), add-one (getD T i 0))
+    rw (drop-cons S i 0 low, drop-cons T i 0 (omega arith), add-one i)
     (ended-more (row (suc (getD S i 0)) (suc (getD T i 0) ∷ [])) (entryRows (drop (suc i) S) (drop (suc i) T)))
 
 pub entries-end : (S T : List ℕ) (i : ℕ) → length S ≤ i → entriesFrom S T i ≡ []

@@ -4,7 +4,7 @@ ghost use mathlib.Core.Path.{_≡_};
 ghost use Prim.Native.Nat.{suc, _+_, _^_, _≤_, _<_};
 ghost use lib.ListN.{length};
 ghost use Rattle.lineage.specs.Stored.{form2};
-ghost use Rattle.numbers.specs.Bounds.{entryBound};
+ghost use Rattle.text_lines.specs.Lines.{decimal};
 ghost use Rattle.text_printing.specs.Printer.{Put};
 ghost use Rattle.build_orders.specs.Input.{graphOf};
 ghost use Rattle.matrix_lines.specs.Matrix.{header, row, ended, entryRows, matrixText};
@@ -27,6 +27,14 @@ pub enum Written {
     Refused { number: u32, extra: u32 },
 }
 
+// A vertex as the file counts it, from 1.
+fn file_number(v: u32) -> u32
+    requires { ⌜ suc v < 2 ^ 32 ⌝ }
+    ensures { λ r. ⌜ r ≡ suc v ⌝ }
+{
+    v + 1
+}
+
 // The bytes of a line of two numbers, its LF among them.
 fn row_length(x: u32, y: u32) -> usize
     ensures { λ r. ⌜ (r ≡ length (ended (row x (y ∷ []) ∷ []))) × (r ≤ 22) ⌝ }
@@ -47,17 +55,17 @@ fn text_length(n: u32, sources: &[u32], targets: &[u32]) -> usize
     ensures { λ r. ⌜ (r ≡ length (matrixText (graphOf n (now (sources .entry)) (now (targets .entry))))) × (r < 2 ^ 32) ⌝ }
 {
     let mut size = front_length(n, sources.len() as u32);
-    let mut i = 0;
-    while i < sources.len() {
-        size += row_length(sources[i] + 1, targets[i] + 1);
-        i += 1;
+    let mut edge = 0;
+    while edge < sources.len() {
+        size += row_length(file_number(sources[edge]), file_number(targets[edge]));
+        edge += 1;
     }
     size
 }
 
 // A line of two numbers.
 fn put_row(out: &mut [u8], at: usize, x: u32, y: u32) -> usize
-    requires { ⌜ at + length (ended (row x (y ∷ []) ∷ [])) ≤ length (now out) ⌝ }
+    requires { ⌜ at + (length (decimal x) + length (decimal y) + 2) ≤ length (now out) ⌝ }
     ensures { λ r. ⌜ Put (now (out .entry)) at (ended (row x (y ∷ []) ∷ [])) r (now (out .exit)) ⌝ }
 {
     let a = put_number(out, at, x);
@@ -86,7 +94,7 @@ fn put_entries(out: &mut [u8], at: usize, n: u32, sources: &[u32], targets: &[u3
     let mut p = at;
     let mut i = 0;
     while i < sources.len() {
-        p = put_row(out, p, sources[i] + 1, targets[i] + 1);
+        p = put_row(out, p, file_number(sources[i]), file_number(targets[i]));
         i += 1;
     }
     p

@@ -1,10 +1,12 @@
 -- `matrix_write::put_entries` meets its contract. The invariant: the lines that are put, then those of the edges still to come, are the lines of all edges.
-use Prim.Native.Nat.{_-_}
+use mathlib.Core.Path.{ap}
+use Prim.Native.Nat.{ℕ, _-_}
 use native.Mathlib.Omega.{arith}
 use lib.ListN.{length}
 use Rattle.lineage.specs.Graph.{Graph}
 use Rattle.build_orders.specs.Input.{graphOf}
-use Rattle.matrix_write.proofs.Entries.{source-fits, target-fits, Entered, entered-begins, entry-room, entered-turns, entered-ends}
+use Rattle.text_lines.specs.Lines.{decimal}
+use Rattle.matrix_write.proofs.Entries.{ends-fit, Entered, entered-begins, entry-room, entered-turns, entered-ends}
 use Rattle.matrix_write.proofs.put_entries.Statement.{statement}
 use Rattle.matrix_write.proofs.put_entries.Tie as tie
 
@@ -27,40 +29,50 @@ turned t = start (t .before)
 loop-holds : tie.Need-loop-holds Inv-loop μ-loop
 loop-holds c = entered-begins _ _ _ _
 
-mul-put-row : tie.Need-mul-put-row Inv-loop μ-loop
-mul-put-row c = let t = c .before in omega (arith, t .loop-test .taken, turned t .pre .0 .edges)
+mul-file-number : tie.Need-mul-file-number Inv-loop μ-loop
+mul-file-number c = let t = c .before in omega (arith, t .loop-test .taken, turned t .pre .0 .edges)
 
-shared-slice-read-put-row : tie.Need-shared-slice-read-put-row Inv-loop μ-loop
-shared-slice-read-put-row c = c .before .before .loop-test .taken
+shared-slice-read-file-number : tie.Need-shared-slice-read-file-number Inv-loop μ-loop
+shared-slice-read-file-number c = let t = c .before .before in omega (arith, t .loop-test .taken, turned t .pre .0 .ends .paired)
 
-add-put-row : tie.Need-add-put-row Inv-loop μ-loop
-add-put-row c = let t = c .before .before in omega (arith, source-fits (graph (turned t)) (turned t .pre .0) (t .before .loop .i) (t .loop-test .taken))
+file-number-requires : tie.Need-file-number-requires Inv-loop μ-loop
+file-number-requires c κs = let t = c .before .before in omega (arith, ends-fit (graph (turned t)) (turned t .pre .0) (t .before .loop .i) (t .loop-test .taken))
 
-mul-put-row-2 : tie.Need-mul-put-row-2 Inv-loop μ-loop
-mul-put-row-2 c = let t = c .before .before in omega (arith, t .loop-test .taken, turned t .pre .0 .edges)
+mul-file-number-2 : tie.Need-mul-file-number-2 Inv-loop μ-loop
+mul-file-number-2 c = let t = c .before .before .before in omega (arith, t .loop-test .taken, turned t .pre .0 .edges)
 
-shared-slice-read-put-row-2 : tie.Need-shared-slice-read-put-row-2 Inv-loop μ-loop
-shared-slice-read-put-row-2 c = let t = c .before .before .before in omega (arith, t .loop-test .taken, turned t .pre .0 .ends .paired)
+shared-slice-read-file-number-2 : tie.Need-shared-slice-read-file-number-2 Inv-loop μ-loop
+shared-slice-read-file-number-2 c = let t = c .before .before .before .before in omega (arith, t .loop-test .taken, turned t .pre .0 .ends .paired)
 
-add-put-row-2 : tie.Need-add-put-row-2 Inv-loop μ-loop
-add-put-row-2 c = let t = c .before .before .before in omega (arith, target-fits (graph (turned t)) (turned t .pre .0) (t .before .loop .i) (t .loop-test .taken))
+file-number-requires-2 : tie.Need-file-number-requires-2 Inv-loop μ-loop
+file-number-requires-2 c κs = let t = c .before .before .before .before in omega (arith, ends-fit (graph (turned t)) (turned t .pre .0) (t .before .loop .i) (t .loop-test .taken))
+
+-- both numbers of the line are made
+abbrev made : tie.After-file-number2 Inv-loop μ-loop → tie.In-loop Inv-loop μ-loop
+made c = c .before .before .before .before .before
 
 put-row-requires : tie.Need-put-row-requires Inv-loop μ-loop
 put-row-requires c κs =
-    let t = c .before .before .before in
-    entry-room (t .before .loop .inv) (turned t .pre .0 .ends .paired) (turned t .pre .1) (t .loop-test .taken)
+    let t = made c in
+    let digits : ℕ → ℕ = λ x. length (decimal x) in
+    omega
+    (arith, entry-room (t .before .loop .inv) (turned t .pre .0 .ends .paired) (turned t .pre .1) (t .loop-test .taken), ap digits (c .before .before .file-number .ensures), ap digits (c .file-number2 .ensures))
+
+-- the turn, from where the line is put
+abbrev turn : tie.After-put-row Inv-loop μ-loop → tie.In-loop Inv-loop μ-loop
+turn c = made (c .before)
 
 add-i : tie.Need-add-i Inv-loop μ-loop
-add-i c = let t = c .before .before .before .before .before .before in omega (arith, t .loop-test .taken, turned t .pre .0 .edges)
+add-i c = let t = turn (c .before .before) in omega (arith, t .loop-test .taken, turned t .pre .0 .edges)
 
 loop-less : tie.Need-loop-less Inv-loop μ-loop
-loop-less c = let t = c .before .before .before .before .before .before in omega (arith, t .loop-test .taken)
+loop-less c = omega (arith, turn (c .before .before) .loop-test .taken)
 
 loop-again : tie.Need-loop-again Inv-loop μ-loop
 loop-again c =
     let p = c .before .before in
-    let t = p .before .before .before .before in
-    entered-turns (t .before .loop .inv) (turned t .pre .0 .ends .paired) (turned t .pre .1) (t .loop-test .taken) (p .put-row .ensures) (p .put-row .kept .0)
+    let t = turn p in
+    entered-turns (t .before .loop .inv) (turned t .pre .0 .ends .paired) (turned t .pre .1) (t .loop-test .taken) (p .before .before .before .file-number .ensures) (p .before .file-number2 .ensures) (p .put-row .ensures) (p .put-row .kept .0)
 
 same-length : tie.Need-same-length Inv-loop μ-loop
 same-length c = c .before .loop .inv .long
@@ -77,12 +89,12 @@ put-entries-spec =
     Inv-loop
     μ-loop
     loop-holds
-    mul-put-row
-    shared-slice-read-put-row
-    add-put-row
-    mul-put-row-2
-    shared-slice-read-put-row-2
-    add-put-row-2
+    mul-file-number
+    shared-slice-read-file-number
+    file-number-requires
+    mul-file-number-2
+    shared-slice-read-file-number-2
+    file-number-requires-2
     put-row-requires
     add-i
     loop-less

@@ -5,7 +5,7 @@ use borrow.Author.Needs.{needs}
 use lib.ListN.{length}
 use Rattle.text_lines.specs.Lines.{decimal}
 use Rattle.text_printing.proofs.Putting.{put-put, put-same}
-use Rattle.matrix_write.proofs.Rows.{pairLine, front-parts, front-long}
+use Rattle.matrix_write.proofs.Rows.{pairLine, pair-long, front-parts, front-long}
 use Rattle.matrix_write.proofs.put_front.Statement.{statement}
 use Rattle.matrix_write.proofs.put_front.Tie as tie
 
@@ -46,7 +46,10 @@ put-byte-requires : tie.Need-put-byte-requires
 put-byte-requires c κs = omega (arith, room₂ (c .before .before .before))
 
 put-row-requires : tie.Need-put-row-requires
-put-row-requires c κs = omega (arith, room₃ (c .before .before .before))
+put-row-requires c κs =
+    let b = c .before .before .before in
+    let a = start (headed (numbered b)) .args in
+    omega (arith, room₃ b, pair-long (a .n) (a .edges))
 
 same-length : tie.Need-same-length
 same-length c = search needs

@@ -5,7 +5,7 @@ use borrow.Author.Needs.{needs}
 use lib.ListN.{length}
 use Rattle.text_lines.specs.Lines.{decimal}
 use Rattle.text_printing.proofs.Putting.{put-put, put-same}
-use Rattle.matrix_write.proofs.Rows.{pair-parts, pair-long}
+use Rattle.matrix_write.proofs.Rows.{pair-parts}
 use Rattle.matrix_write.proofs.put_row.Statement.{statement}
 use Rattle.matrix_write.proofs.put_row.Tie as tie
 
@@ -20,9 +20,7 @@ abbrev spaced : tie.After-put-number2 → tie.After-put-byte
 spaced q = q .before .before .before .before
 
 room₁ : (p : tie.After-put-number) → p .put-number .result + (length (decimal (start p .args .y)) + 2) ≤ length (p .put-number .last .0)
-room₁ p =
-    let a = start p .args in
-    omega (arith, start p .pre, pair-long (a .x) (a .y), p .put-number .ensures .behind, p .put-number .kept .0)
+room₁ p = omega (arith, start p .pre, p .put-number .ensures .behind, p .put-number .kept .0)
 
 room₂ : (b : tie.After-put-byte) → b .put-byte .result + (length (decimal (start (first b) .args .y)) + 1) ≤ length (b .put-byte .last .0)
 room₂ b = omega (arith, room₁ (first b), b .put-byte .ensures .behind, b .put-byte .kept .0)
@@ -31,7 +29,7 @@ room₃ : (q : tie.After-put-number2) → q .put-number2 .result + 1 ≤ length 
 room₃ q = omega (arith, room₂ (spaced q), q .put-number2 .ensures .behind, q .put-number2 .kept .0)
 
 put-number-requires : tie.Need-put-number-requires
-put-number-requires c κs = let s = c .before .before in omega (arith, pair-long (s .args .x) (s .args .y), s .pre)
+put-number-requires c κs = omega (arith, c .before .before .pre)
 
 put-byte-requires : tie.Need-put-byte-requires
 put-byte-requires c κs = omega (arith, room₁ (c .before .before .before))

@@ -5,15 +5,15 @@ use lib.ListN.{length}
 use Rattle.lineage.specs.Graph.{Graph}
 use Rattle.build_orders.specs.Input.{graphOf}
 use Rattle.matrix_write.specs.Fit.{Lines}
-use Rattle.matrix_write.proofs.Entries.{source-fits, target-fits, Counted, counted-begins, counted-turns, counted-ends}
+use Rattle.matrix_write.proofs.Entries.{ends-fit, Counted, counted-begins, counted-turns, counted-ends}
 use Rattle.matrix_write.proofs.text_length.Statement.{statement}
 use Rattle.matrix_write.proofs.text_length.Tie as tie
 
 abbrev Inv-loop : tie.InvT-loop
-Inv-loop n sources targets size₀ i₀ size i = Counted (graphOf n sources targets) size i
+Inv-loop n sources targets size₀ edge₀ size edge = Counted (graphOf n sources targets) size edge
 
 abbrev μ-loop : tie.MeasureT-loop
-μ-loop n sources targets size₀ i₀ size i = length sources - i
+μ-loop n sources targets size₀ edge₀ size edge = length sources - edge
 
 -- what was lent, from where the loop begins, and from one of its turns
 abbrev start : tie.After-front-length Inv-loop μ-loop → tie.Start Inv-loop μ-loop
@@ -34,40 +34,44 @@ front-length-requires c κs = tt
 loop-holds : tie.Need-loop-holds Inv-loop μ-loop
 loop-holds c = let s = start c in counted-begins (graph s) (s .pre) (c .front-length .ensures .0)
 
-mul-row-length : tie.Need-mul-row-length Inv-loop μ-loop
-mul-row-length c = omega (arith, c .loop-test .taken, turned c .pre .edges)
+mul-file-number : tie.Need-mul-file-number Inv-loop μ-loop
+mul-file-number c = omega (arith, c .loop-test .taken, turned c .pre .edges)
 
-shared-slice-read-row-length : tie.Need-shared-slice-read-row-length Inv-loop μ-loop
-shared-slice-read-row-length c = c .before .loop-test .taken
+shared-slice-read-file-number : tie.Need-shared-slice-read-file-number Inv-loop μ-loop
+shared-slice-read-file-number c = let t = c .before in omega (arith, t .loop-test .taken, turned t .pre .ends .paired)
 
-add-row-length : tie.Need-add-row-length Inv-loop μ-loop
-add-row-length c = let t = c .before in omega (arith, source-fits (graph (turned t)) (turned t .pre) (t .before .loop .i) (t .loop-test .taken))
+file-number-requires : tie.Need-file-number-requires Inv-loop μ-loop
+file-number-requires c κs = let t = c .before in omega (arith, ends-fit (graph (turned t)) (turned t .pre) (t .before .loop .edge) (t .loop-test .taken))
 
-mul-row-length-2 : tie.Need-mul-row-length-2 Inv-loop μ-loop
-mul-row-length-2 c = let t = c .before in omega (arith, t .loop-test .taken, turned t .pre .edges)
+mul-file-number-2 : tie.Need-mul-file-number-2 Inv-loop μ-loop
+mul-file-number-2 c = let t = c .before .before in omega (arith, t .loop-test .taken, turned t .pre .edges)
 
-shared-slice-read-row-length-2 : tie.Need-shared-slice-read-row-length-2 Inv-loop μ-loop
-shared-slice-read-row-length-2 c = let t = c .before .before in omega (arith, t .loop-test .taken, turned t .pre .ends .paired)
+shared-slice-read-file-number-2 : tie.Need-shared-slice-read-file-number-2 Inv-loop μ-loop
+shared-slice-read-file-number-2 c = let t = c .before .before .before in omega (arith, t .loop-test .taken, turned t .pre .ends .paired)
 
-add-row-length-2 : tie.Need-add-row-length-2 Inv-loop μ-loop
-add-row-length-2 c = let t = c .before .before in omega (arith, target-fits (graph (turned t)) (turned t .pre) (t .before .loop .i) (t .loop-test .taken))
+file-number-requires-2 : tie.Need-file-number-requires-2 Inv-loop μ-loop
+file-number-requires-2 c κs = let t = c .before .before .before in omega (arith, ends-fit (graph (turned t)) (turned t .pre) (t .before .loop .edge) (t .loop-test .taken))
 
 row-length-requires : tie.Need-row-length-requires Inv-loop μ-loop
 row-length-requires c κs = tt
 
-add-size : tie.Need-add-size Inv-loop μ-loop
-add-size c = let t = c .before .before .before in omega (arith, t .before .loop .inv .small, t .loop-test .taken, turned t .pre .edges, c .row-length .ensures .1)
+-- the turn, from where the line is counted
+abbrev turn : tie.After-row-length Inv-loop μ-loop → tie.In-loop Inv-loop μ-loop
+turn c = c .before .before .before .before .before
 
-add-i : tie.Need-add-i Inv-loop μ-loop
-add-i c = let t = c .before .before .before in omega (arith, t .loop-test .taken, turned t .pre .edges)
+add-size : tie.Need-add-size Inv-loop μ-loop
+add-size c = let t = turn c in omega (arith, t .before .loop .inv .small, t .loop-test .taken, turned t .pre .edges, c .row-length .ensures .1)
+
+add-edge : tie.Need-add-edge Inv-loop μ-loop
+add-edge c = omega (arith, turn c .loop-test .taken, turned (turn c) .pre .edges)
 
 loop-less : tie.Need-loop-less Inv-loop μ-loop
-loop-less c = let t = c .before .before .before in omega (arith, t .loop-test .taken)
+loop-less c = omega (arith, turn c .loop-test .taken)
 
 loop-again : tie.Need-loop-again Inv-loop μ-loop
 loop-again c =
-    let t = c .before .before .before in
-    counted-turns (graph (turned t)) (turned t .pre) (t .before .loop .inv) (t .loop-test .taken) (c .row-length .ensures .0) (c .row-length .ensures .1)
+    let t = turn c in
+    counted-turns (graph (turned t)) (turned t .pre) (t .before .loop .inv) (t .loop-test .taken) (c .before .before .before .file-number .ensures) (c .before .file-number2 .ensures) (c .row-length .ensures .0) (c .row-length .ensures .1)
 
 returns : tie.Need-returns Inv-loop μ-loop
 returns c =
@@ -83,15 +87,15 @@ text-length-spec =
     cast-front-length
     front-length-requires
     loop-holds
-    mul-row-length
-    shared-slice-read-row-length
-    add-row-length
-    mul-row-length-2
-    shared-slice-read-row-length-2
-    add-row-length-2
+    mul-file-number
+    shared-slice-read-file-number
+    file-number-requires
+    mul-file-number-2
+    shared-slice-read-file-number-2
+    file-number-requires-2
     row-length-requires
     add-size
-    add-i
+    add-edge
     loop-less
     loop-again
     returns)

@@ -1,6 +1,6 @@
 -- `matrix_write::write_matrix` meets its contract: each return is where its checks stop; behind them the header, the size line and the entries are put one behind the
 -- other, and they are the text.
-use mathlib.Core.Path.{_≡_, ap}
+use mathlib.Core.Path.{ap}
 use Prim.Native.Nat.{_≤_}
 use native.Mathlib.Omega.{arith}
 use borrow.Author.Needs.{needs}
@@ -35,34 +35,28 @@ past₇ c = past₃ (c .before .before)
 abbrev past₉ : tie.Else5 → tie.After-form-row
 past₉ c = past₇ (c .before .before)
 
--- the bounds are form 2's
-most-vertices : (c : tie.After-form-row) → c .form-row .result .vertices ≡ form2 .vertices
-most-vertices c = ap (λ (r : Row). r .vertices) (c .form-row .ensures)
-
-most-edges : (c : tie.After-form-row) → c .form-row .result .edges ≡ form2 .edges
-most-edges c = ap (λ (r : Row). r .edges) (c .form-row .ensures)
-
-few-vertices : (c : tie.Else1) → start (past₁ c) .args .n ≤ form2 .vertices
-few-vertices c = omega (arith, c .if1 .left, most-vertices (past₁ c))
-
-bounded : (c : tie.Else3) → let s = start (past₃ c) in Bounded (graph s) (s .args .out .now)
-bounded c =
-    let b = c .before .before in
-    record { vertices = few-vertices (b .before); paired = b .if2 .left; edges = omega (arith, c .if3 .left, most-edges (past₃ c)) }
-
-passes : (c : tie.Else4) → let s = start (past₇ c) in Passed (graph s) (s .args .out .now)
-passes c = let s = start (past₇ c) in passed (graph s) (s .args .out .now) (bounded (c .before .before)) (c .before .bad-edge .ensures) (c .if4 .left)
-
-fits : (c : tie.Else4) → Lines (graph (start (past₇ c)))
-fits c = let s = start (past₇ c) in lines-fit (graph s) (s .args .out .now) (passes c)
-
 form-row-requires : tie.Need-form-row-requires
 form-row-requires c κs = search needs
 
 returns : tie.Need-returns
 returns c =
     let f = c .before .before in
-    writes-1 (graph (start f)) (start f .args .out .now) (omega (arith, c .if1 .taken, most-vertices f))
+    writes-1 (graph (start f)) (start f .args .out .now) (omega (arith, c .if1 .taken, ap (λ (r : Row). r .vertices) (f .form-row .ensures)))
+
+-- what holds where they do not apply: n and the edges are within form 2's bounds, and the ends are vertices
+few-vertices : (c : tie.Else1) → start (past₁ c) .args .n ≤ form2 .vertices
+few-vertices c = omega (arith, c .if1 .left, ap (λ (r : Row). r .vertices) (past₁ c .form-row .ensures))
+
+bounded : (c : tie.Else3) → let s = start (past₃ c) in Bounded (graph s) (s .args .out .now)
+bounded c =
+    let b = c .before .before in
+    record { vertices = few-vertices (b .before); paired = b .if2 .left; edges = omega (arith, c .if3 .left, ap (λ (r : Row). r .edges) (past₃ c .form-row .ensures)) }
+
+passes : (c : tie.Else4) → let s = start (past₇ c) in Passed (graph s) (s .args .out .now)
+passes c = let s = start (past₇ c) in passed (graph s) (s .args .out .now) (bounded (c .before .before)) (c .before .bad-edge .ensures) (c .if4 .left)
+
+fits : (c : tie.Else4) → Lines (graph (start (past₇ c)))
+fits c = let s = start (past₇ c) in lines-fit (graph s) (s .args .out .now) (passes c)
 
 returns-2 : tie.Need-returns-2
 returns-2 c =
@@ -73,7 +67,7 @@ returns-3 : tie.Need-returns-3
 returns-3 c =
     let b = c .before .before in
     let s = start (past₂ b) in
-    writes-3 (graph s) (s .args .out .now) (few-vertices (b .before)) (b .if2 .left) (omega (arith, c .if3 .taken, most-edges (past₂ b)))
+    writes-3 (graph s) (s .args .out .now) (few-vertices (b .before)) (b .if2 .left) (omega (arith, c .if3 .taken, ap (λ (r : Row). r .edges) (past₂ b .form-row .ensures)))
 
 bad-edge-requires : tie.Need-bad-edge-requires
 bad-edge-requires c κs = search needs
