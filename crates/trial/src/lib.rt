@@ -7,6 +7,7 @@ use chain::Chained;
 use convert::Converted;
 use list::Listed;
 use matrix_read::MatrixRead;
+use matrix_write::Written;
 use open::Opened;
 use text_run::MOST_OUTPUT;
 
@@ -326,6 +327,27 @@ pub extern "C" fn trial_read_matrix(
             extra,
             n: 0,
             edges: 0,
+        },
+    }
+}
+
+#[no_mangle]
+pub extern "C" fn trial_write_matrix(
+    sources: &[u32],
+    targets: &[u32],
+    out: &mut [u8],
+    n: u32,
+) -> Counted {
+    match matrix_write::write_matrix(n, sources, targets, out) {
+        Written::Total(count) => Counted {
+            refusal: 0,
+            extra: 0,
+            count,
+        },
+        Written::Refused { number, extra } => Counted {
+            refusal: number,
+            extra,
+            count: 0,
         },
     }
 }
