@@ -7,6 +7,7 @@ use independent::matrix::{read_lines, written, HEADER};
 use independent::{Graph, Refusal};
 use outside::compare::{self, Input};
 use outside::{Face, Library};
+use std::io::Write;
 use std::process::{Command, Stdio};
 
 /// The stack that a call has to do with: the least that a thread can have.
@@ -300,14 +301,17 @@ fn a_million_entries() {
 
 /// Runs a piece of Debian's Python with a text as its input: what it prints. None where scipy is not installed.
 fn scipy(program: &str, input: &[u8]) -> Option<Vec<u8>> {
-    let start = |program: &str| Command::new("/usr/bin/python3").args(["-c", program]).stdin(Stdio::piped()).stdout(Stdio::piped()).stderr(Stdio::inherit()).spawn();
-    let there = Command::new("/usr/bin/python3").args(["-c", "import scipy.io, scipy.sparse"]).stderr(Stdio::null()).status();
-    if !there.is_ok_and(|status| status.success()) {
+    let python = |program: &str| {
+        let mut python = Command::new("/usr/bin/python3");
+        python.args(["-c", program]).stdin(Stdio::piped()).stdout(Stdio::piped());
+        python
+    };
+    if !python("import scipy.io, scipy.sparse").stderr(Stdio::null()).status().is_ok_and(|status| status.success()) {
         println!("skipped: scipy is not installed");
         return None;
     }
-    let mut child = start(program).expect("it starts");
-    std::io::Write::write_all(&mut child.stdin.take().unwrap(), input).expect("it reads its input");
+    let mut child = python(program).spawn().expect("it starts");
+    child.stdin.take().unwrap().write_all(input).expect("it reads its input");
     let output = child.wait_with_output().expect("it ends");
     assert!(output.status.success());
     Some(output.stdout)
