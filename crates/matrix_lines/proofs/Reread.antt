@@ -17,7 +17,8 @@ use Rattle.laws.proofs.Lists.{any-none, in-upto}
 use Rattle.laws.proofs.Every.{every-getD}
 use Rattle.matrix_lines.specs.Matrix.{MatrixReading, says, matrixReading, matrixText}
 use Rattle.matrix_lines.specs.Calls.{MatrixSize, readChecks, readInto, matrixReadAnswer, matrixReadSources, matrixReadTargets, writeChecks, matrixWriteOutput}
-use Rattle.matrix_lines.proofs.Round.{mostWritten, Writable, matrix-round}
+use Rattle.matrix_lines.specs.Grammar.{mostWritten, Writable}
+use Rattle.matrix_lines.proofs.Round.{matrix-round}
 
 -- a form whose numbers have at most seven digits
 pub record Small (F : Form) : Type 0 where

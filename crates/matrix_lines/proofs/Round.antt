@@ -1,25 +1,23 @@
--- Reading what was written gives the same n and edge list.
+-- Reading a text of the subset gives its n and edge list; so what was written is read back.
 use mathlib.Core.Bool.{Bool, true, false, _&&_}
-use mathlib.Core.List.{List, [], _∷_, _++_, map}
+use mathlib.Core.List.{List, [], _∷_, _++_, map, append-assoc}
 use mathlib.Core.Path.{_≡_, refl, sym, ap, ap₂, _∙_}
 use Prim.Native.Nat.{ℕ, zero, suc, _+_, _-_, _≤_, _<_}
 use native.Mathlib.Omega.{arith}
 use lib.Dec.{eqb, leb}
-use lib.ListN.{length, getD}
+use lib.ListN.{length, getD, length-append}
 use borrow.Author.Tests.{eq-eqb, ne-eqb, le-leb, leb-true}
 use Rattle.lineage.specs.Lists.{allOf, Every}
 use Rattle.lineage.specs.Graph.{Graph}
 use Rattle.laws.proofs.Tests.{both}
+use Rattle.laws.proofs.Every.{every-from, every-append}
 use Rattle.text_lines.specs.Lines.{lf, space, isDigit, firstPiece, otherPieces, pieces, isDecimal, value, decimal}
 use Rattle.text_lines.specs.Reader.{isMore}
 use Rattle.matrix_lines.specs.Matrix.{Raw, header, isHeader, isComment, number, mostDigits, isRow, isSize, isVertex, isEntry, Run, stop, withLine, run, ends, says, saying, matrixReading, ended, row, entryRows, matrixText}
+use Rattle.matrix_lines.specs.Grammar.{mostWritten, Writable, Comment, commented}
 use Rattle.text_lines.proofs.Digits.{decimal-digits, decimal-some, decimal-is, decimal-value}
 use Rattle.matrix_lines.proofs.Pieces.{Lacks, row-pieces, row-lacks, ended-pieces}
-use Rattle.matrix_lines.proofs.Runs.{line-passes, line-fails, all-pass, reading-is}
-
--- the greatest number of seven digits
-abbrev pub mostWritten : ℕ
-mostWritten = 9999999
+use Rattle.matrix_lines.proofs.Runs.{line-passes, pass-then, more-behind, all-pass, reading-is}
 
 module _ (x : ℕ) (fits : x ≤ mostWritten) where
   few : isDecimal mostDigits (decimal x) ≡ true
@@ -55,7 +53,7 @@ digit-no-comment (b ∷ w) rest h l =
     let high : 48 ≤ b = leb-true 48 b (both (leb 48 b) (leb b 57) (both (isDigit b) (allOf isDigit w) h .0) .0) in
     ne-eqb b 37 (omega arith)
 
-row-no-comment : (x y : ℕ) (more : List ℕ) → isComment (row x (y ∷ more)) ≡ false
+pub row-no-comment : (x y : ℕ) (more : List ℕ) → isComment (row x (y ∷ more)) ≡ false
 row-no-comment x y more = digit-no-comment (decimal x) (space ∷ row y more) (decimal-digits x) (decimal-some x)
 
 -- an entry
@@ -108,55 +106,54 @@ entries-lack [] T = tt
 entries-lack (u ∷ S) [] = tt
 entries-lack (u ∷ S) (v ∷ T) = (row-lacks (suc u) (suc v ∷ []), entries-lack S T)
 
--- an edge list that can be written: ends below n, and n and the number of edges of at most seven digits
-pub record Writable (G : Graph) : Type 0 where
-  pub low : G .n ≤ mostWritten
-  pub short : length (G .sources) ≤ mostWritten
-  pub even : length (G .sources) ≡ length (G .targets)
-  pub sources : Every (λ u. u < G .n) (G .sources)
-  pub targets : Every (λ v. v < G .n) (G .targets)
-
--- the header stands first
-headed-by : (l : Raw) (more : List Raw) → run isHeader 1 (header ∷ l ∷ more) ≡ record { taken = header ∷ []; rest = l ∷ more }
+pub one-taken : (test : Raw → Bool) (l : Raw) (lines : List Raw) → withLine l (run test 0 lines) ≡ record { taken = l ∷ []; rest = lines }
 unfolding run
-headed-by l more = refl
+one-taken test l lines = refl
 
-stopped : (l : Raw) (lines : List Raw) → withLine l (run isSize 0 lines) ≡ record { taken = l ∷ []; rest = lines }
-unfolding run
-stopped l lines = refl
-
--- the lines of the text: the header, the size line, the entries, and nothing behind the last LF
-written-lines : (G : Graph) → pieces lf (matrixText G) ≡ header ∷ row (G .n) (G .n ∷ length (G .sources) ∷ []) ∷ (entryRows (G .sources) (G .targets) ++ ([] ∷ []))
-unfolding matrixText
-written-lines G =
+-- the lines of the text: the header, the comments, the size line, the entries, and nothing behind the last LF
+written-lines : (comments : List Raw) (G : Graph) → Every Comment comments
+    → pieces lf (commented comments G)
+    ≡ header ∷ (comments ++ (row (G .n) (G .n ∷ length (G .sources) ∷ []) ∷ (entryRows (G .sources) (G .targets) ++ ([] ∷ []))))
+unfolding commented
+written-lines comments G h =
     let n : ℕ = G .n in
     let m : ℕ = length (G .sources) in
-    ended-pieces (header ∷ row n (n ∷ m ∷ []) ∷ entryRows (G .sources) (G .targets)) (refl, (row-lacks n (n ∷ m ∷ []), entries-lack (G .sources) (G .targets)))
+    let R : Raw = row n (n ∷ m ∷ []) in
+    let E : List Raw = entryRows (G .sources) (G .targets) in
+    let lack : Every (Lacks lf) (comments ++ (R ∷ E)) =
+    every-append (Lacks lf) comments (R ∷ E) (every-from Comment (Lacks lf) (λ l c. c .one) comments h) (row-lacks n (n ∷ m ∷ []), entries-lack (G .sources) (G .targets)) in
+    ended-pieces (header ∷ (comments ++ (R ∷ E))) (refl, lack) ∙ ap (λ (ls : List Raw). header ∷ ls) (append-assoc comments (R ∷ E) ([] ∷ []))
 
-more-lines : (ls : List Raw) → isMore (ls ++ ([] ∷ [])) ≡ true
-more-lines [] = refl
-more-lines (l ∷ ls) = refl
-
--- what is written is read back
-pub matrix-round : (G : Graph) → Writable G → matrixReading (matrixText G) ≡ says G
-matrix-round G w =
+-- a text of the subset is read to its edge list
+pub commented-round : (comments : List Raw) (G : Graph) → Every Comment comments → Writable G → matrixReading (commented comments G) ≡ says G
+commented-round comments G remarks w =
     let n : ℕ = G .n in
     let m : ℕ = length (G .sources) in
     let E : List Raw = entryRows (G .sources) (G .targets) in
     let R : Raw = row n (n ∷ m ∷ []) in
-    let h : Run = record { taken = header ∷ []; rest = R ∷ (E ++ ([] ∷ [])) } in
-    let c : Run = stop (R ∷ (E ++ ([] ∷ []))) in
-    let s : Run = record { taken = R ∷ []; rest = E ++ ([] ∷ []) } in
+    let rest : List Raw = E ++ ([] ∷ []) in
+    let h : Run = record { taken = header ∷ []; rest = comments ++ (R ∷ rest) } in
+    let c : Run = record { taken = comments; rest = R ∷ rest } in
+    let s : Run = record { taken = R ∷ []; rest = rest } in
     let e : Run = record { taken = E; rest = [] ∷ [] } in
     let long : length E ≡ m = entries-long (G .sources) (G .targets) (w .even) in
     let first : number 0 R ≡ n = size-first n m (w .low) (w .short) in
     let third : number 2 R ≡ m = size-third n m (w .low) (w .short) in
-    let headed : h ≡ run isHeader 1 (pieces lf (matrixText G)) = rw (written-lines G) (sym (headed-by R (E ++ ([] ∷ [])))) in
-    let none : c ≡ run isComment (length (h .rest)) (h .rest) =
-    sym (line-fails isComment (length (h .rest)) R (E ++ ([] ∷ [])) (rw (row-no-comment n n (m ∷ []), more-lines E))) in
-    let sized : s ≡ run isSize 1 (c .rest) = sym (line-passes isSize 0 R (E ++ ([] ∷ [])) (size-passes n m (w .low) (w .short)) (more-lines E) ∙ stopped R (E ++ ([] ∷ []))) in
-    let entered : e ≡ run (isEntry (number 0 R)) (number 2 R) (E ++ ([] ∷ [])) =
+    let headed : h ≡ run isHeader 1 (pieces lf (commented comments G)) =
+    rw (written-lines comments G remarks)
+    (sym (line-passes isHeader 0 header (comments ++ (R ∷ rest)) refl (more-behind comments R rest) ∙ one-taken isHeader header (comments ++ (R ∷ rest)))) in
+    let passed : c ≡ run isComment (length (h .rest)) (h .rest) =
+    sym
+    (pass-then isComment comments R rest (every-from Comment (λ l. isComment l ≡ true) (λ l k. k .marked) comments remarks)
+    (rw (row-no-comment n n (m ∷ []), more-behind E [] [])) (length (comments ++ (R ∷ rest))) (omega (arith, length-append comments (R ∷ rest)))) in
+    let sized : s ≡ run isSize 1 (c .rest) = sym (line-passes isSize 0 R rest (size-passes n m (w .low) (w .short)) (more-behind E [] []) ∙ one-taken isSize R rest) in
+    let entered : e ≡ run (isEntry (number 0 R)) (number 2 R) rest =
     rw (first, third, ← long) (sym (all-pass (isEntry n) E [] [] (entries-pass n (w .low) (G .sources) (G .targets) (w .sources) (w .targets)))) in
     let same : saying h c s e ≡ says G =
     rw (first, third, long, eq-eqb m m refl, entry-sources n (w .low) (G .sources) (G .targets) (w .even) (w .sources) (w .targets), entry-targets n (w .low) (G .sources) (G .targets) (w .even) (w .sources) (w .targets)) in
-    sym (reading-is (matrixText G) h c s e headed none sized entered) ∙ same
+    sym (reading-is (commented comments G) h c s e headed passed sized entered) ∙ same
+
+-- and what is written has no comments
+pub matrix-round : (G : Graph) → Writable G → matrixReading (matrixText G) ≡ says G
+unfolding matrixText commented
+matrix-round G w = commented-round [] G tt w

@@ -14,6 +14,11 @@ use Rattle.text_lines.specs.Reader.{isMore}
 use Rattle.text_lines.proofs.Words.{line-behind}
 use Rattle.matrix_lines.specs.Matrix.{Raw, Run, stop, withLine, goOn, run, isDone, isHeader, isComment, isSize, isEntry, sizeAt, MatrixReading, saying, matrixReading}
 
+-- a line stands behind these
+pub more-behind : (ls : List Raw) (last : Raw) (rest : List Raw) → isMore (ls ++ (last ∷ rest)) ≡ true
+more-behind [] last rest = refl
+more-behind (l ∷ ls) last rest = refl
+
 module _ (test : Raw → Bool) where
   -- a line that passes and an LF behind it
   pub line-passes : (most : ℕ) (l : Raw) (others : List Raw) → test l ≡ true → isMore others ≡ true → run test (suc most) (l ∷ others) ≡ withLine l (run test most others)
@@ -34,11 +39,25 @@ module _ (test : Raw → Bool) where
   unfolding run
   all-pass [] last rest h = refl
   all-pass (l ∷ lines) last rest h =
-      line-passes (length lines) l (lines ++ (last ∷ rest)) (h .0) (more lines) ∙ ap (withLine l) (all-pass lines last rest (h .1))
-    where
-      more : (ls : List Raw) → isMore (ls ++ (last ∷ rest)) ≡ true
-      more [] = refl
-      more (l' ∷ ls) = refl
+      line-passes (length lines) l (lines ++ (last ∷ rest)) (h .0) (more-behind lines last rest) ∙ ap (withLine l) (all-pass lines last rest (h .1))
+
+  -- all pass, and the line behind them fails or is none
+  pub pass-then : (lines : List Raw) (last : Raw) (rest : List Raw) → Every (λ l. test l ≡ true) lines → (isMore rest && test last) ≡ false
+      → (most : ℕ) → length lines ≤ most → run test most (lines ++ (last ∷ rest)) ≡ record { taken = lines; rest = last ∷ rest }
+  pass-then [] last rest h f most low = line-fails most last rest f
+  pass-then (l ∷ lines) last rest h f zero low = absurd (omega arith)
+  pass-then (l ∷ lines) last rest h f (suc most) low =
+      line-passes most l (lines ++ (last ∷ rest)) (h .0) (more-behind lines last rest) ∙ ap (withLine l) (pass-then lines last rest (h .1) f most (omega arith))
+
+  -- all pass, with a line behind them: as many are taken at least
+  pub pass-least : (lines : List Raw) (last : Raw) (rest : List Raw) → Every (λ l. test l ≡ true) lines → (most : ℕ) → length lines ≤ most
+      → length lines ≤ length (run test most (lines ++ (last ∷ rest)) .taken)
+  pass-least [] last rest h most low = omega arith
+  pass-least (l ∷ lines) last rest h zero low = absurd (omega arith)
+  pass-least (l ∷ lines) last rest h (suc most) low =
+      let one : run test (suc most) (l ∷ (lines ++ (last ∷ rest))) ≡ withLine l (run test most (lines ++ (last ∷ rest))) =
+      line-passes most l (lines ++ (last ∷ rest)) (h .0) (more-behind lines last rest) in
+      omega (arith, ap (λ (R : Run). length (R .taken)) one, pass-least lines last rest (h .1) most (omega arith))
 
 -- at most `most` lines
 pub run-few : (test : Raw → Bool) (most : ℕ) (lines : List Raw) → length (run test most lines .taken) ≤ most
