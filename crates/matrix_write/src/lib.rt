@@ -79,7 +79,11 @@ fn put_front(out: &mut [u8], n: u32, edges: u32) -> usize
     requires { ⌜ length (ended (header ∷ row n (n ∷ edges ∷ []) ∷ [])) ≤ length (now out) ⌝ }
     ensures { λ r. ⌜ Put (now (out .entry)) 0 (ended (header ∷ row n (n ∷ edges ∷ []) ∷ [])) r (now (out .exit)) ⌝ }
 {
-    let a = put_word(out, 0, b"%%MatrixMarket matrix coordinate pattern general\n");
+    let a = put_word(
+        out,
+        0,
+        b"%%MatrixMarket matrix coordinate pattern general\n",
+    );
     let b = put_number(out, a, n);
     let c = put_byte(out, b, b' ');
     put_row(out, c, n, edges)
