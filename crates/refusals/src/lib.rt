@@ -1,5 +1,5 @@
 // The refusal numbers, in the order of document 01, each with its extra number where that is not 0. Numbers are of 32 bits in every call, and so are extra
-// numbers, but for the number of pairs of `ask_all`.
+// numbers, but for the number of pairs of `ask_all` and a line of `read_matrix`.
 
 // Build: n is over the form's bound.
 pub const MANY_VERTICES: u32 = 1;
@@ -51,6 +51,9 @@ pub const LIST_SHORT: u32 = 16;
 
 // The program's text is bad; extra: the line, or 0.
 pub const BAD_TEXT: u32 = 17;
+
+// The Matrix Market text is outside the subset; extra: its first bad line.
+pub const BAD_MATRIX: u32 = 18;
 
 // Conversion: n, k or c is beyond the form's bounds.
 pub const BEYOND_FORM: u32 = 19;
