@@ -10,13 +10,14 @@
 #include <sys/mman.h>
 #include <unistd.h>
 
-/* the calls that take stored forms 1 and 2, those on a turned index, list, chain, those on added edges, build, the rule desk's over parallel lists and the text program's run are exported for
+/* the calls that take stored forms 1 and 2, those on a turned index, list, chain, those on added edges, build, the rule desk's over parallel lists, Matrix Market files and the text program's run are exported for
  * these tests alone (crate trial); where one is not linked, a request for it ends this process */
 typedef struct { uint32_t refusal, extra, count; } counted;
 typedef struct { uint32_t refusal, extra, yes, steps; } chain_of;
 typedef struct { uint32_t sources[256], targets[256], count; } edges;
 typedef struct { uint32_t refusal, extra; edges after; } more;
 typedef struct { uint32_t refusal, extra, yes; } over;
+typedef struct { uint32_t refusal; size_t extra; uint32_t n; size_t edges; } edges_of;
 
 __attribute__((weak)) drobisten_opened trial_open(const uint8_t *index, size_t index_len, uint8_t *marks, size_t marks_len, uint32_t *work, size_t work_len);
 __attribute__((weak)) drobisten_asked trial_ask(const uint8_t *index, size_t index_len, uint8_t *marks, size_t marks_len, uint32_t *work, size_t work_len,
@@ -48,6 +49,9 @@ __attribute__((weak)) counted trial_convert_down(const uint8_t *index, size_t in
 __attribute__((weak)) drobisten_rules_settled trial_settle_lists(const uint8_t *index, size_t index_len, const uint32_t *changed, size_t changed_len, uint8_t *marks,
                                                                  size_t marks_len, uint32_t *work, size_t work_len, const uint32_t *vertices,
                                                                  size_t vertices_len, uint32_t *states, size_t states_len);
+__attribute__((weak)) edges_of trial_read_matrix(const uint8_t *text, size_t text_len, uint32_t *sources, size_t sources_len, uint32_t *targets, size_t targets_len);
+__attribute__((weak)) counted trial_write_matrix(const uint32_t *sources, size_t sources_len, const uint32_t *targets, size_t targets_len, uint8_t *out, size_t out_len,
+                                                 uint32_t n);
 __attribute__((weak)) size_t trial_run(const uint8_t *text, size_t text_len, uint8_t *out);
 
 /* the layout that the header states */
@@ -57,7 +61,7 @@ _Static_assert(sizeof(drobisten_rule) == 12 && offsetof(drobisten_rule, vertex) 
 _Static_assert(sizeof(drobisten_rules_settled) == 16 && offsetof(drobisten_rules_settled, extra) == 8, "drobisten_rules_settled is 16 bytes, extra its last eight");
 
 /* what a request asks for, and of whom: the calls that Rattle code makes, the C host's, which are lent no words, or those on a turned index */
-enum { OPEN = 1, ASK = 2, LIST = 3, BUILD = 4, ASK_MANY = 5, RUN = 6, ASK_ALL = 7, CONVERT_UP = 8, CONVERT_DOWN = 9, CHAIN = 10, ADD = 22, ASK_ADDED = 23, SETTLE_LISTS = 11, SETTLE_RULES = 12 };
+enum { OPEN = 1, ASK = 2, LIST = 3, BUILD = 4, ASK_MANY = 5, RUN = 6, ASK_ALL = 7, CONVERT_UP = 8, CONVERT_DOWN = 9, CHAIN = 10, ADD = 22, ASK_ADDED = 23, SETTLE_LISTS = 11, SETTLE_RULES = 12, READ_MATRIX = 18, WRITE_MATRIX = 19 };
 enum { ORDINARY = 0, HOST = 1, TURNED = 2 };
 
 /* the bytes that a run is lent for its output, and what they hold before it */
@@ -383,6 +387,47 @@ static void serve_build(uint32_t face, uint32_t stack) {
     give_back(b.out);
 }
 
+/* a Matrix Market text read into two lists, or written from them */
+typedef struct { uint32_t n; lent text, sources, targets; edges_of read; counted written; } matrix;
+
+static void *read_matrix(void *job) {
+    matrix *m = job;
+    m->read = trial_read_matrix(m->text.at, m->text.length, words(m->sources), m->sources.length, words(m->targets), m->targets.length);
+    return NULL;
+}
+
+static void *write_matrix(void *job) {
+    matrix *m = job;
+    m->written = trial_write_matrix(words(m->sources), m->sources.length, words(m->targets), m->targets.length, m->text.at, m->text.length, m->n);
+    return NULL;
+}
+
+static void serve_read_matrix(uint32_t stack) {
+    matrix m;
+    m.text = buffer(1);
+    m.sources = buffer(4);
+    m.targets = buffer(4);
+    on_stack(stack, read_matrix, &m);
+    uint32_t numbers[4] = {m.read.refusal, (uint32_t)m.read.extra, m.read.n, (uint32_t)m.read.edges};
+    give(numbers, sizeof numbers);
+    done(m.text);
+    give_back(m.sources);
+    give_back(m.targets);
+}
+
+static void serve_write_matrix(uint32_t stack) {
+    matrix m;
+    m.n = number();
+    m.sources = buffer(4);
+    m.targets = buffer(4);
+    m.text = buffer(1);
+    on_stack(stack, write_matrix, &m);
+    give(&m.written, sizeof m.written);
+    done(m.sources);
+    done(m.targets);
+    give_back(m.text);
+}
+
 /* how many bytes are printed, how many behind them are not as they were, and the bytes printed */
 static void serve_run(void) {
     lent text = buffer(1), out = room(MOST_OUTPUT, 1);
@@ -416,6 +461,8 @@ int main(void) {
         case SETTLE_RULES: serve_settle(stack, 0); break;
         case CONVERT_UP: if (!trial_convert_up) return 5; serve_convert(stack, convert_up); break;
         case CONVERT_DOWN: if (!trial_convert_down) return 5; serve_convert(stack, convert_down); break;
+        case READ_MATRIX: if (!trial_read_matrix) return 5; serve_read_matrix(stack); break;
+        case WRITE_MATRIX: if (!trial_write_matrix) return 5; serve_write_matrix(stack); break;
         case RUN: if (!trial_run) return 5; serve_run(); break;
         default: return 4;
         }

@@ -5,7 +5,7 @@
 //! stored bytes follow the words; soundness is decided by making the index again and comparing bytes.
 //!
 //! The data's way is the reading order: [`graph`], [`closure`], [`groups`], [`labels`], [`index`], [`form`], [`stored`],
-//! [`sound`] with [`every`] beside it, [`question`], [`calls`], [`batch`], [`chain`], [`added`], [`convert`], [`turned`], [`rules`], [`host`], [`text`]. [`chance`] makes graphs,
+//! [`sound`] with [`every`] beside it, [`question`], [`calls`], [`batch`], [`chain`], [`added`], [`convert`], [`turned`], [`rules`], [`host`], [`text`], [`matrix`]. [`chance`] makes graphs,
 //! orders and damage for comparisons.
 
 pub mod added;
@@ -23,6 +23,7 @@ pub mod groups;
 pub mod host;
 pub mod index;
 pub mod labels;
+pub mod matrix;
 pub mod question;
 pub mod refusal;
 pub mod rules;
@@ -39,6 +40,7 @@ pub use convert::{convert_down, convert_up};
 pub use form::{Form, FORMS, FORM_1, FORM_2, FORM_3, ORDINARY};
 pub use graph::Graph;
 pub use index::Index;
+pub use matrix::{read_matrix, write_matrix};
 pub use question::Answer;
 pub use refusal::Refusal;
 pub use rules::{settle_rules, Rule};

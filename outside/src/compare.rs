@@ -302,6 +302,29 @@ pub fn rules(library: &mut Library, index: &[u8], changed: &[u32], lent: Lent, t
     right
 }
 
+/// A Matrix Market text into lists of these sizes: what both say.
+pub fn read_matrix(library: &mut Library, text: &[u8], sizes: (usize, usize)) -> Outcome<(u32, u32)> {
+    let lists = || (vec![BLANK; sizes.0], vec![BLANK; sizes.1]);
+    let (mut ours, mut theirs) = (lists(), lists());
+    let result = library.read_matrix(text, &mut ours.0, &mut ours.1);
+    let right = independent::read_matrix(text, &mut theirs.0, &mut theirs.1);
+    let what = format!("{:?} into lists of {sizes:?}: {right:?}", String::from_utf8_lossy(&text[..text.len().min(400)]));
+    assert_eq!(result, right, "{what}");
+    assert!(ours == theirs, "the lists after {what}");
+    result
+}
+
+/// An edge list as a Matrix Market text, into an output of this size: what both say.
+pub fn write_matrix(library: &mut Library, n: u32, sources: &[u32], targets: &[u32], size: usize) -> Outcome<u32> {
+    let (mut got, mut expected) = (vec![PATTERN; size], vec![PATTERN; size]);
+    let result = library.write_matrix(n, sources, targets, &mut got);
+    let right = independent::write_matrix(n, sources, targets, &mut expected);
+    let what = format!("{} edges of {n} vertices as a text of at most {size} bytes: {right:?}", sources.len());
+    assert_eq!(result, right, "{what}");
+    assert!(got == expected, "{what}: first difference at {:?}", first_difference(&got, &expected));
+    result
+}
+
 /// An index of this form turned into the other one, into an output of this size: the number of the refusal, 0 where there is none.
 pub fn convert(library: &mut Library, from: &Form, index: &[u8], lent: Lent, out: usize) -> u32 {
     let (mut ours, mut theirs) = (lent.buffers(Face::Ordinary), lent.buffers(Face::Ordinary));

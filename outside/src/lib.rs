@@ -101,6 +101,8 @@ const ADD: u32 = 22;
 const ASK_ADDED: u32 = 23;
 const SETTLE_LISTS: u32 = 11;
 const SETTLE_RULES: u32 = 12;
+const READ_MATRIX: u32 = 18;
+const WRITE_MATRIX: u32 = 19;
 
 /// The signal of a touch that is forbidden.
 const SIGSEGV: i32 = 11;
@@ -374,6 +376,30 @@ impl Library {
         let total = self.build(face, input, &mut work, &mut out).expect("it is built");
         out.truncate(total as usize);
         out
+    }
+
+    /// A Matrix Market text into two lists: n and the number of entries.
+    pub fn read_matrix(&mut self, text: &[u8], sources: &mut [u32], targets: &mut [u32]) -> Outcome<(u32, u32)> {
+        self.call(READ_MATRIX, Face::Ordinary);
+        self.bytes(text);
+        self.words(sources);
+        self.words(targets);
+        let [refusal, extra, n, edges] = self.reply();
+        self.words_back(sources);
+        self.words_back(targets);
+        outcome(refusal, extra, n == 0 && edges == 0, (n, edges))
+    }
+
+    /// An edge list as a Matrix Market text: its length.
+    pub fn write_matrix(&mut self, n: u32, sources: &[u32], targets: &[u32], out: &mut [u8]) -> Outcome<u32> {
+        self.call(WRITE_MATRIX, Face::Ordinary);
+        self.number(n);
+        self.words(sources);
+        self.words(targets);
+        self.bytes(out);
+        let [refusal, extra, length] = self.reply();
+        self.bytes_back(out);
+        outcome(refusal, extra, length == 0, length)
     }
 
     /// The text program's run on a text: what it prints. The output behind that is as it was.

@@ -39,6 +39,11 @@ use Rattle.rules_table.proofs.drobisten_settle_rules as settle-rules-call
 use Rattle.rules_table.proofs.Theorems.{table-once}
 use Rattle.text_run.proofs.run as run-call
 use Rattle.text_run.proofs.Theorems.{ran-once}
+use Rattle.matrix_lines.specs.Calls.{matrixReadAnswer, matrixWriteAnswer}
+use Rattle.matrix_read.proofs.read_matrix as read-matrix-call
+use Rattle.matrix_read.proofs.Theorems.{read-once}
+use Rattle.matrix_write.proofs.write_matrix as write-matrix-call
+use Rattle.matrix_write.proofs.Theorems.{written-once}
 use Rattle.drobisten.proofs.drobisten_open as host-open-call
 use Rattle.drobisten.proofs.drobisten_ask as host-ask-call
 use Rattle.drobisten.proofs.drobisten_ask_all as host-ask-all-call
@@ -54,7 +59,7 @@ use Rattle.demands.proofs.Orders.{fewer, on-a-no}
 
 -- 1. The checker's theorem of each call is cited; what the contract says is, equation by equation, what is allowed.
 pub demand-1 : EveryCall
-unfolding buildAnswer buildCall openAnswer askAnswer batchAnswer listAnswer chainAnswer addedAnswer convertAnswer rulesAnswer
+unfolding buildAnswer buildCall openAnswer askAnswer batchAnswer listAnswer chainAnswer addedAnswer convertAnswer rulesAnswer matrixReadAnswer matrixWriteAnswer
 demand-1 = record {
   build = record {
     met = build-call.Met.met;
@@ -176,6 +181,18 @@ demand-1 = record {
     allows = λ κs a r e (counts, writes). record { counts = counts; writes = writes };
     once = λ κs a r r' e e'. ran-once;
   };
+  read-matrix = record {
+    met = read-matrix-call.Met.met;
+    nothing-asked = λ κs a. tt;
+    allows = λ κs a r e allowed. allowed;
+    once = λ κs a r r' e e'. read-once;
+  };
+  write-matrix = record {
+    met = write-matrix-call.Met.met;
+    nothing-asked = λ κs a. tt;
+    allows = λ κs a r e (answers, writes). record { answers = answers; writes = writes };
+    once = λ κs a r r' e e'. written-once;
+  };
   host-open = record {
     met = host-open-call.Met.met;
     nothing-asked = λ κs a. tt;
@@ -200,6 +217,8 @@ demand-1 = record {
   ask-refuses = λ T b u v marks work number extra. first-refusal _ number extra _;
   ask-all-refuses = λ T b sources targets marks work answers number extra. first-refusal _ number extra _;
   list-refuses = λ T b u marks work out number extra. first-refusal _ number extra _;
+  read-matrix-refuses = λ text sources targets number extra. first-refusal _ number extra _;
+  write-matrix-refuses = λ G out number extra. first-refusal _ number extra _;
   chain-refuses = λ T b u v marks work out number extra. first-refusal _ number extra _;
   add-refuses = λ count n from to number extra. first-refusal _ number extra _;
   ask-added-refuses = λ T b state u v marks work number extra. first-refusal _ number extra _;

@@ -21,7 +21,8 @@ use denote.Triple.Clauses.{Ended, AtExit, Clauses, closing}
 use denote.Triple.Entry.{Args, Res}
 use denote.Triple.Spec.{Meets}
 use borrow.Fn.Kinds.{PK, RK, In, Out, Dens, resT, endedOf}
-use Rattle.lineage.specs.Stored.{form3, formOf}
+use Rattle.lineage.specs.Graph.{Graph}
+use Rattle.lineage.specs.Stored.{form2, form3, formOf}
 use Rattle.lineage.specs.Calls.{Check, check, refused, FormsTaken, host, ordinary, turned, takes, Input, turnedInput, buildEarly, buildLate, buildAnswer, buildCall, formChecks, contentsCheck, openAnswer, askEarly, askAnswer, listEarly, listLate, listAnswer}
 use Rattle.build.specs.Input.{inputOf}
 use Rattle.build.proofs.build as build-call
@@ -63,6 +64,13 @@ use Rattle.rules_table.specs.Table as table
 use Rattle.rules_table.proofs.drobisten_settle_rules as settle-rules-call
 use Rattle.text_run.proofs.run as run-call
 use Rattle.text_run.proofs.Theorems as run
+use Rattle.build_orders.specs.Input.{graphOf}
+use Rattle.matrix_lines.specs.Matrix.{matrixReading, matrixText}
+use Rattle.matrix_lines.specs.Calls.{readChecks, matrixReadAnswer, writeChecks, matrixWriteAnswer}
+use Rattle.matrix_read.specs.Answer as reading-matrix
+use Rattle.matrix_read.proofs.read_matrix as read-matrix-call
+use Rattle.matrix_write.specs.Written as writing-matrix
+use Rattle.matrix_write.proofs.write_matrix as write-matrix-call
 use Rattle.drobisten.proofs.drobisten_open as host-open-call
 use Rattle.drobisten.proofs.drobisten_ask as host-ask-call
 use Rattle.drobisten.proofs.drobisten_ask_all as host-ask-all-call
@@ -209,6 +217,16 @@ pub record EveryCall : Type 2 where
   pub run : Answers run-call.Kinds.ps run-call.Kinds.r run-call.Statement.statement run-call.Reads.Asked run-call.Reads.Learnt
       (λ κs (text, (out, _)) r (_, (out', _)). run.Allowed (now text) (now out) r (now out'))
       (λ κs (_, (out, _)) (_, (out', _)). now out ≡ now out')
+  -- Matrix Market files
+  pub read-matrix : Answers read-matrix-call.Kinds.ps read-matrix-call.Kinds.r read-matrix-call.Statement.statement read-matrix-call.Reads.Asked
+      read-matrix-call.Reads.Learnt
+      (λ κs (text, (sources, (targets, _))) r (_, (sources', (targets', _))).
+      reading-matrix.Answered (now text) (now sources) (now targets) r (now sources') (now targets'))
+      (λ κs (_, (sources, (targets, _))) (_, (sources', (targets', _))). (now sources ≡ now sources') × (now targets ≡ now targets'))
+  pub write-matrix : Answers write-matrix-call.Kinds.ps write-matrix-call.Kinds.r write-matrix-call.Statement.statement write-matrix-call.Reads.Asked
+      write-matrix-call.Reads.Learnt
+      (λ κs (n, (sources, (targets, (out, _)))) r (_, (_, (_, (out', _)))). writing-matrix.Allowed (graphOf n (now sources) (now targets)) (now out) r (now out'))
+      (λ κs (_, (_, (_, (out, _)))) (_, (_, (_, (out', _)))). now out ≡ now out')
   -- the C face
   pub host-open : Answers host-open-call.Kinds.ps host-open-call.Kinds.r host-open-call.Statement.statement host-open-call.Reads.Asked host-open-call.Reads.Learnt
       (λ κs (index, (marks, _)) r (_, (marks', _)). face.Opens (now index) (now marks) r (now marks'))
@@ -239,6 +257,10 @@ pub record EveryCall : Type 2 where
       → (listAnswer T b u marks work out ≡ refused number extra) ↔ Refuses (listEarly T b u marks work ++ listLate b u out) number extra
   pub convert-refuses : (from to : ℕ) (b : List ℕ) (marks work out number extra : ℕ)
       → (convertAnswer from to b marks work out ≡ refused number extra) ↔ Refuses (convertEarly from b marks work ++ convertLate to b out) number extra
+  pub read-matrix-refuses : (text : List ℕ) (sources targets number extra : ℕ)
+      → (matrixReadAnswer form2 text sources targets ≡ refused number extra) ↔ Refuses (readChecks form2 (matrixReading text) sources targets) number extra
+  pub write-matrix-refuses : (G : Graph) (out number extra : ℕ)
+      → (matrixWriteAnswer form2 G out ≡ refused number extra) ↔ Refuses (writeChecks form2 G (matrixText G) out) number extra
   pub chain-refuses : (T : FormsTaken) (b : List ℕ) (u v marks work out number extra : ℕ)
       → (chainAnswer T b u v marks work out ≡ refused number extra) ↔ Refuses (askEarly T b u v marks work ++ chainLate b u v out) number extra
   pub add-refuses : (count n from to number extra : ℕ) → (addAnswer count n from to ≡ refused number extra) ↔ Refuses (addChecks count n from to) number extra

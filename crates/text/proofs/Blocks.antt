@@ -15,6 +15,7 @@ use Rattle.text_lines.specs.declared.Line.{Line as LineRead}
 use Rattle.text_lines.specs.declared.Line.the-variants.{Good as GoodLine, Bad as BadLine}
 use Rattle.text_lines.specs.Lines.{space, lf, keep, firstPiece, begin, otherPieces, pieces, Line, linesOf, isDecimal, mostDigits, value, lineIs, numbersIn}
 use Rattle.text_lines.specs.Reader.{Found, found, none, after, foundIf, isMore, wordsIn, lineIn, Into}
+use Rattle.text_lines.proofs.Words.{line-behind}
 use Rattle.text.specs.Text.{Block, stop, block}
 
 -- how many bytes pieces take with the separators in front of them
@@ -43,15 +44,15 @@ decimals-long ((b ∷ word) ∷ words) e =
 -- what a line that was found says of the bytes
 pub record Taken (first : List ℕ) (size : ℕ) (s ns : List ℕ) (k : ℕ) : Type 0 where
   ended : isMore (otherPieces lf s) ≡ true
-  right : lineIs first size (wordsIn s) ≡ true
+  right : lineIs mostDigits first size (wordsIn s) ≡ true
   numbers : ns ≡ numbersIn (wordsIn s)
   bytes : k ≡ suc (length (firstPiece lf s))
 
-pub taken : (first : List ℕ) (size : ℕ) (s ns : List ℕ) (k : ℕ) → lineIn first size s ≡ found ns k → Taken first size s ns k
+pub taken : (first : List ℕ) (size : ℕ) (s ns : List ℕ) (k : ℕ) → lineIn mostDigits first size s ≡ found ns k → Taken first size s ns k
 unfolding lineIn
-taken first size s ns k e = go (isMore (otherPieces lf s)) (lineIs first size (wordsIn s)) refl refl e
+taken first size s ns k e = go (isMore (otherPieces lf s)) (lineIs mostDigits first size (wordsIn s)) refl refl e
   where
-    go : (x y : Bool) → isMore (otherPieces lf s) ≡ x → lineIs first size (wordsIn s) ≡ y
+    go : (x y : Bool) → isMore (otherPieces lf s) ≡ x → lineIs mostDigits first size (wordsIn s) ≡ y
         → foundIf (x && y) (wordsIn s) (suc (length (firstPiece lf s))) ≡ found ns k → Taken first size s ns k
     go true true m l h = record { ended = m; right = l; numbers = cc; bytes = cc }
     go true false m l h = absurd (true≢false cc)
@@ -93,17 +94,6 @@ line-numbers first size s ns k t =
     ap length (t .numbers) ∙ (length-map words value ∙ eqb-true (length words) size (and-eq-true-iff (eqb (length words) size) (allOf (isDecimal mostDigits) words) .0 (both .1) .0))
 
 -- behind the line's LF stand the other lines
-line-behind : (s : List ℕ) → isMore (otherPieces lf s) ≡ true → pieces lf (drop (suc (length (firstPiece lf s))) s) ≡ otherPieces lf s
-unfolding firstPiece otherPieces
-line-behind [] e = absurd (false≢true e)
-line-behind (b ∷ s) e = go (eqb b lf) e (line-behind s)
-  where
-    go : (t : Bool) → isMore (begin t (firstPiece lf s) (otherPieces lf s)) ≡ true
-        → (isMore (otherPieces lf s) ≡ true → pieces lf (drop (suc (length (firstPiece lf s))) s) ≡ otherPieces lf s)
-        → pieces lf (drop (length (keep t b (firstPiece lf s))) s) ≡ begin t (firstPiece lf s) (otherPieces lf s)
-    go true h rest = refl
-    go false h rest = rest h
-
 lines-behind : (s : List ℕ) → isMore (otherPieces lf s) ≡ true → linesOf (drop (suc (length (firstPiece lf s))) s) ≡ map (pieces space) (otherPieces lf s)
 unfolding linesOf
 lines-behind s e = ap (map (pieces space)) (line-behind s e)
@@ -125,12 +115,12 @@ block-more first size most s ns k t =
     go (piece ∷ others) e = rw (t .right, one-add (block first size most (map (pieces space) (piece ∷ others)) .count))
 
 -- the first line is of another kind
-pub block-stops : (first : List ℕ) (size most : ℕ) (s : List ℕ) → lineIn first size s ≡ none → block first size most (linesOf s) ≡ stop (linesOf s)
+pub block-stops : (first : List ℕ) (size most : ℕ) (s : List ℕ) → lineIn mostDigits first size s ≡ none → block first size most (linesOf s) ≡ stop (linesOf s)
 unfolding linesOf block lineIn
 block-stops first size zero s e = refl
-block-stops first size (suc most) s e = go (otherPieces lf s) (lineIs first size (wordsIn s)) refl e
+block-stops first size (suc most) s e = go (otherPieces lf s) (lineIs mostDigits first size (wordsIn s)) refl e
   where
-    go : (others : List (List ℕ)) (y : Bool) → lineIs first size (wordsIn s) ≡ y → foundIf (isMore others && y) (wordsIn s) (suc (length (firstPiece lf s))) ≡ none
+    go : (others : List (List ℕ)) (y : Bool) → lineIs mostDigits first size (wordsIn s) ≡ y → foundIf (isMore others && y) (wordsIn s) (suc (length (firstPiece lf s))) ≡ none
         → block first size (suc most) (wordsIn s ∷ map (pieces space) others) ≡ stop (wordsIn s ∷ map (pieces space) others)
     go [] y l h = refl
     go (piece ∷ others) true l h = absurd (true≢false cc)
@@ -159,20 +149,20 @@ module _ (text into first : List ℕ) (size most i p : ℕ) where
 record Read (text into into' first : List ℕ) (size i p next : ℕ) : Type 0 where
   ns : List ℕ
   k : ℕ
-  line : lineIn first size (drop p text) ≡ found ns k
+  line : lineIn mostDigits first size (drop p text) ≡ found ns k
   stored : take (i * size + size) into' ≡ take (i * size) into ++ ns
   ends : next ≡ p + k
 
 module _ (text into into' first : List ℕ) (size i p : ℕ) where
-  line-read : (next : ℕ) → Into (GoodLine next) (lineIn first size (drop p text)) p (i * size) size into into' → Read text into into' first size i p next
-  line-read next t = go (lineIn first size (drop p text)) refl (t .read)
+  line-read : (next : ℕ) → Into (GoodLine next) (lineIn mostDigits first size (drop p text)) p (i * size) size into into' → Read text into into' first size i p next
+  line-read next t = go (lineIn mostDigits first size (drop p text)) refl (t .read)
     where
-      go : (f : Found) → lineIn first size (drop p text) ≡ f → found (take (i * size + size) into') next ≡ after (take (i * size) into) p f → Read text into into' first size i p next
+      go : (f : Found) → lineIn mostDigits first size (drop p text) ≡ f → found (take (i * size + size) into') next ≡ after (take (i * size) into) p f → Read text into into' first size i p next
       go (found ns k) e h = record { ns = ns; k = k; line = e; stored = cc; ends = cc }
       go none e h = absurd (true≢false cc)
 
-  line-missed : Into BadLine (lineIn first size (drop p text)) p (i * size) size into into' → lineIn first size (drop p text) ≡ none
-  line-missed t = go (lineIn first size (drop p text)) (t .read)
+  line-missed : Into BadLine (lineIn mostDigits first size (drop p text)) p (i * size) size into into' → lineIn mostDigits first size (drop p text) ≡ none
+  line-missed t = go (lineIn mostDigits first size (drop p text)) (t .read)
     where
       go : (f : Found) → none ≡ after (take (i * size) into) p f → f ≡ none
       go (found ns k) h = absurd (true≢false cc)
@@ -180,7 +170,7 @@ module _ (text into into' first : List ℕ) (size i p : ℕ) where
 
   module _ (most : ℕ) where
     -- a line more
-    turns : (next k : ℕ) (ns : List ℕ) → i < most → lineIn first size (drop p text) ≡ found ns k → take (i * size + size) into' ≡ take (i * size) into ++ ns → next ≡ p + k
+    turns : (next k : ℕ) (ns : List ℕ) → i < most → lineIn mostDigits first size (drop p text) ≡ found ns k → take (i * size + size) into' ≡ take (i * size) into ++ ns → next ≡ p + k
         → passed text into' first size most (i + 1) next ≡ passed text into first size most i p
     unfolding passed
     turns next k ns low line stored ends =
@@ -190,20 +180,20 @@ module _ (text into into' first : List ℕ) (size i p : ℕ) where
         rw (one, stored, ends, left, block-more first size (most - (i + 1)) (drop p text) ns k (taken first size (drop p text) ns k line), drop-drop k p text)
         (sym (behind-behind rest i 1 (take (i * size) into) ns))
 
-    pub passed-turns : (next : ℕ) → i < most → Into (GoodLine next) (lineIn first size (drop p text)) p (i * size) size into into'
+    pub passed-turns : (next : ℕ) → i < most → Into (GoodLine next) (lineIn mostDigits first size (drop p text)) p (i * size) size into into'
         → passed text into' first size most (i + 1) next ≡ passed text into first size most i p
     passed-turns next low t =
         let r : Read text into into' first size i p next = line-read next t in
         turns next (r .k) (r .ns) low (r .line) (r .stored) (r .ends)
 
     -- no line more
-    pub passed-stops : Into BadLine (lineIn first size (drop p text)) p (i * size) size into into'
+    pub passed-stops : Into BadLine (lineIn mostDigits first size (drop p text)) p (i * size) size into into'
         → _≡_ {A = Block} (record { count = i; numbers = take (i * size) into'; rest = linesOf (drop p text) }) (passed text into first size most i p)
     unfolding passed
     passed-stops t = rw (t .kept, block-stops first size (most - i) (drop p text) (line-missed t), add-zero i, append-nil (take (i * size) into))
 
 -- what a line that was read takes of the text
-module _ (text into into' : List ℕ) (c size i p next : ℕ) (low : p ≤ length text) (t : Into (GoodLine next) (lineIn (c ∷ []) size (drop p text)) p (i * size) size into into') where
+module _ (text into into' : List ℕ) (c size i p next : ℕ) (low : p ≤ length text) (t : Into (GoodLine next) (lineIn mostDigits (c ∷ []) size (drop p text)) p (i * size) size into into') where
   line-spends : (p + (2 * size + 2) ≤ next) × (next ≤ length text)
   line-spends =
       let r : Read text into into' (c ∷ []) size i p next = line-read text into into' (c ∷ []) size i p next t in
@@ -244,7 +234,7 @@ module _ (text : List ℕ) (at letter size most : ℕ) (entry : List ℕ) where
   }
 
   pub passing-turns : (into into' : List ℕ) (i p next : ℕ) → Passing text at letter size most entry into i p → i < most → length into' ≡ length into
-      → Into (GoodLine next) (lineIn (letter ∷ []) size (drop p text)) p (i * size) size into into' → Passing text at letter size most entry into' (i + 1) next
+      → Into (GoodLine next) (lineIn mostDigits (letter ∷ []) size (drop p text)) p (i * size) size into into' → Passing text at letter size most entry into' (i + 1) next
   passing-turns into into' i p next q low same t = record {
     few = omega arith;
     inside = block-inside text into into' letter size i p next (q .inside) t;

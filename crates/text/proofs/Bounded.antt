@@ -10,7 +10,7 @@ use lib.Dec.{eqb, leb}
 use lib.ListN.{length, drop, length-append, length-drop}
 use borrow.Author.Tests.{leb-true}
 use Rattle.lineage.specs.Stored.{mostLabellings}
-use Rattle.text_lines.specs.Lines.{bytes, Line, linesOf, lineIs}
+use Rattle.text_lines.specs.Lines.{bytes, Line, linesOf, mostDigits, lineIs}
 use Rattle.text_lines.specs.Reader.{Found, found, none, lineIn}
 use Rattle.text.specs.Text.{mostBytes, mostEdges, mostVertices, Block, stop, goOn, block, Text, says, ofPairs, isEnd, vertices, isFirst, textOf, judged, reading}
 use Rattle.text.specs.Blocks.{mostQuestions}
@@ -41,9 +41,9 @@ module _ (c size : ℕ) where
   block-behind : (most : ℕ) (s : List ℕ) → Behind size s (block (c ∷ []) size most (linesOf s))
   unfolding block
   block-behind zero s = none-passed s
-  block-behind (suc most) s = go (lineIn (c ∷ []) size s) refl (λ k. block-behind most (drop k s))
+  block-behind (suc most) s = go (lineIn mostDigits (c ∷ []) size s) refl (λ k. block-behind most (drop k s))
     where
-      go : (f : Found) → lineIn (c ∷ []) size s ≡ f → ((k : ℕ) → Behind size (drop k s) (block (c ∷ []) size most (linesOf (drop k s))))
+      go : (f : Found) → lineIn mostDigits (c ∷ []) size s ≡ f → ((k : ℕ) → Behind size (drop k s) (block (c ∷ []) size most (linesOf (drop k s))))
           → Behind size s (block (c ∷ []) size (suc most) (linesOf s))
       go (found ns k) e rest =
           let t : Taken (c ∷ []) size s ns k = taken (c ∷ []) size s ns k e in
@@ -60,7 +60,7 @@ unfolding block
 block-few first size zero lines = omega arith
 block-few first size (suc most) [] = omega arith
 block-few first size (suc most) (l ∷ []) = omega arith
-block-few first size (suc most) (l ∷ (l' ∷ more)) = go (lineIs first size l) (block-few first size most (l' ∷ more))
+block-few first size (suc most) (l ∷ (l' ∷ more)) = go (lineIs mostDigits first size l) (block-few first size most (l' ∷ more))
   where
     go : (t : Bool) → block first size most (l' ∷ more) .count ≤ most → goOn t l (l' ∷ more) (λ lines. block first size most lines) .count ≤ suc most
     go true h = omega arith

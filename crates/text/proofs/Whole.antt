@@ -10,7 +10,7 @@ use lib.Seq.{drop-cons, getD-take}
 use borrow.Author.Tests.{ne-eqb, le-leb, lt-leb}
 use Rattle.lineage.specs.Lists.{joined}
 use Rattle.lineage.specs.Stored.{mostLabellings}
-use Rattle.text_lines.specs.Lines.{bytes, space, lf, keep, firstPiece, begin, otherPieces, pieces, Line, linesOf, lineIs}
+use Rattle.text_lines.specs.Lines.{bytes, space, lf, keep, firstPiece, begin, otherPieces, pieces, Line, linesOf, mostDigits, lineIs}
 use Rattle.text.specs.Blocks.{BlockInto, mostQuestions, readingOf}
 use Rattle.text.specs.declared.Reading.the-variants.{Says}
 use Rattle.text.specs.Text.{mostBytes, Block, withLine, goOn, block, mostEdges, mostVertices, Text, badLine, ofPairs, isEnd, vertices, judged, saying, reading}
@@ -20,7 +20,7 @@ block-short : (first : List ℕ) (size most : ℕ) (l : Line) (lines : List Line
 unfolding block
 block-short first size zero l lines = omega arith
 block-short first size (suc most) l [] = omega arith
-block-short first size (suc most) l (l' ∷ more) = go (lineIs first size l) (block-short first size most l' more)
+block-short first size (suc most) l (l' ∷ more) = go (lineIs mostDigits first size l) (block-short first size most l' more)
   where
     go : (t : Bool) → block first size most (l' ∷ more) .count ≤ length more
         → goOn t l (l' ∷ more) (λ lines. block first size most lines) .count ≤ suc (length more)
@@ -35,7 +35,7 @@ block-settled first size zero m' lines h h' = absurd (omega arith)
 block-settled first size (suc m) zero lines h h' = absurd (omega arith)
 block-settled first size (suc m) (suc m') [] h h' = refl
 block-settled first size (suc m) (suc m') (l ∷ []) h h' = refl
-block-settled first size (suc m) (suc m') (l ∷ (l' ∷ more)) h h' = go (lineIs first size l) h h' (block-settled first size m m' (l' ∷ more))
+block-settled first size (suc m) (suc m') (l ∷ (l' ∷ more)) h h' = go (lineIs mostDigits first size l) h h' (block-settled first size m m' (l' ∷ more))
   where
     go : (t : Bool) → goOn t l (l' ∷ more) (λ lines. block first size m lines) .count < suc m → goOn t l (l' ∷ more) (λ lines. block first size m' lines) .count < suc m'
         → (block first size m (l' ∷ more) .count < m → block first size m' (l' ∷ more) .count < m' → block first size m (l' ∷ more) ≡ block first size m' (l' ∷ more))

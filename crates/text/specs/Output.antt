@@ -1,28 +1,13 @@
 -- The defined output of the defined program on a text, as bytes (document 01, "Text program").
 use mathlib.Core.Bool.{Bool, true, false, cond}
 use mathlib.Core.List.{List, [], _∷_, _++_}
-use Prim.Native.Nat.{ℕ, zero, suc, _+_, _*_, _/_, _%_}
-use Prim.Native.Char.{code}
+use Prim.Native.Nat.{ℕ, _+_, _*_}
 use lib.Dec.{ltb}
 use lib.ListN.{length}
 use Rattle.lineage.specs.Stored.{form1, mostLabellings, encode}
 use Rattle.lineage.specs.Calls.{Input, Outcome, refused, answered, Said, host, built, buildAnswer, askAnswer}
-use Rattle.text_lines.specs.Lines.{bytes}
+use Rattle.text_lines.specs.Lines.{bytes, decimalBy, decimal}
 use Rattle.text.specs.Text.{Text, Reading, says, badLine, reading, mostBytes, mostVertices, mostEdges}
-
--- a number below 10 is one digit; any other is the digits of its tenth part, then the last digit
-abbrev pub digits : Bool → ℕ → (ℕ → List ℕ) → List ℕ
-digits true x tenth = (code "0" + x) ∷ []
-digits false x tenth = tenth (x / 10) ++ ((code "0" + x % 10) ∷ [])
-
--- the decimal of a number, without needless zeros; f bounds its digits
-unfoldable pub decimalBy : ℕ → ℕ → List ℕ
-decimalBy zero x = []
-decimalBy (suc f) x = digits (ltb x 10) x (λ y. decimalBy f y)
-
--- the decimal of a number: one of 32 bits has at most 10 digits
-abbrev pub decimal : ℕ → List ℕ
-decimal x = decimalBy 10 x
 
 -- two numbers
 abbrev pub twoNumbers : ℕ → ℕ → List ℕ

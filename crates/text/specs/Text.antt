@@ -6,7 +6,7 @@ use lib.Dec.{eqb, leb}
 use lib.ListN.{length, getD}
 use Rattle.lineage.specs.Lists.{joined}
 use Rattle.lineage.specs.Stored.{mostLabellings}
-use Rattle.text_lines.specs.Lines.{bytes, Line, linesOf, lineIs, numbersIn}
+use Rattle.text_lines.specs.Lines.{bytes, Line, linesOf, mostDigits, lineIs, numbersIn}
 
 -- at most 32,768 bytes
 abbrev pub mostBytes : ℕ
@@ -45,7 +45,7 @@ unfolding lineIs
 block first size zero lines = stop lines
 block first size (suc most) [] = stop []
 block first size (suc most) (l ∷ []) = stop (l ∷ [])
-block first size (suc most) (l ∷ (l' ∷ more)) = goOn (lineIs first size l) l (l' ∷ more) (λ lines. block first size most lines)
+block first size (suc most) (l ∷ (l' ∷ more)) = goOn (lineIs mostDigits first size l) l (l' ∷ more) (λ lines. block first size most lines)
 
 -- n; the edges; the orders, of which there are d, one after the other; of each question its source and its target
 pub record Text : Type 0 where

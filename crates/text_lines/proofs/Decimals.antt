@@ -19,7 +19,7 @@ use Rattle.text_lines.specs.Reader.{word, isEnded, digitsIn, numberIn}
 use Rattle.text_lines.proofs.Bytes.{tag, above-digits, digit-goes, letter-goes, Sees, letter, digit, blank, newline, other, nothing}
 
 -- the byte of a digit
-digit-is : (d : ℕ) → d ≤ 9 → isDigit (48 + d) ≡ true
+pub digit-is : (d : ℕ) → d ≤ 9 → isDigit (48 + d) ≡ true
 digit-is d h = rw (le-leb 48 (48 + d) (omega arith), le-leb (48 + d) 57 (omega arith))
 
 digit-value : (d : ℕ) → digitOf (48 + d) ≡ d

@@ -1,10 +1,10 @@
 -- The lines of a text (document 01, "Text program"): bytes cut at LF into lines, a line cut at single spaces into words, a word read as a decimal.
 use mathlib.Core.Bool.{Bool, true, false, not, _&&_, _||_}
-use mathlib.Core.List.{List, [], _∷_, map}
-use Prim.Native.Nat.{ℕ, _+_, _-_, _*_}
+use mathlib.Core.List.{List, [], _∷_, _++_, map}
+use Prim.Native.Nat.{ℕ, zero, suc, _+_, _-_, _*_, _/_, _%_}
 use Prim.Native.Char.{code}
 use Prim.Native.String.{String, [] as []ˢ, _∷_ as _∷ˢ_}
-use lib.Dec.{eqb, leb}
+use lib.Dec.{eqb, leb, ltb}
 use lib.ListN.{length, getD}
 use Rattle.lineage.specs.Lists.{allOf, sameList}
 
@@ -78,15 +78,29 @@ valueFrom a (b ∷ more) = valueFrom (10 * a + digitOf b) more
 abbrev pub value : List ℕ → ℕ
 value word = valueFrom 0 word
 
--- the most digits of a number
+-- a number below 10 is one digit; any other is the digits of its tenth part, then the last digit
+abbrev pub digits : Bool → ℕ → (ℕ → List ℕ) → List ℕ
+digits true x tenth = (code "0" + x) ∷ []
+digits false x tenth = tenth (x / 10) ++ ((code "0" + x % 10) ∷ [])
+
+-- the decimal of a number, without needless zeros; f bounds its digits
+unfoldable pub decimalBy : ℕ → ℕ → List ℕ
+decimalBy zero x = []
+decimalBy (suc f) x = digits (ltb x 10) x (λ y. decimalBy f y)
+
+-- the decimal of a number: one of 32 bits has at most 10 digits
+abbrev pub decimal : ℕ → List ℕ
+decimal x = decimalBy 10 x
+
+-- the most digits of a number in the text program
 abbrev pub mostDigits : ℕ
 mostDigits = 5
 
--- the line is this word and exactly `size` numbers
-unfoldable pub lineIs : List ℕ → ℕ → Line → Bool
+-- the line is this word and exactly `size` numbers of at most `most` digits
+unfoldable pub lineIs : ℕ → List ℕ → ℕ → Line → Bool
 unfolding isDecimal
-lineIs first size [] = false
-lineIs first size (word ∷ words) = sameList word first && (eqb (length words) size && allOf (isDecimal mostDigits) words)
+lineIs most first size [] = false
+lineIs most first size (word ∷ words) = sameList word first && (eqb (length words) size && allOf (isDecimal most) words)
 
 -- the numbers of a line
 abbrev pub numbersIn : Line → List ℕ

@@ -90,10 +90,10 @@ isMore (piece ∷ others) = true
 abbrev pub wordsIn : List ℕ → Line
 wordsIn s = pieces space (firstPiece lf s)
 
--- the line that stands first, where an LF ends it and it is this word and `size` numbers; its bytes count from here
-unfoldable pub lineIn : List ℕ → ℕ → List ℕ → Found
+-- the line that stands first, where an LF ends it and it is this word and `size` numbers of at most `most` digits; its bytes count from here
+unfoldable pub lineIn : ℕ → List ℕ → ℕ → List ℕ → Found
 unfolding firstPiece otherPieces lineIs
-lineIn first size s = foundIf (isMore (otherPieces lf s) && lineIs first size (wordsIn s)) (wordsIn s) (suc (length (firstPiece lf s)))
+lineIn most first size s = foundIf (isMore (otherPieces lf s) && lineIs most first size (wordsIn s)) (wordsIn s) (suc (length (firstPiece lf s)))
 
 -- what a call that reads a line gives, with the numbers that it left in the list
 abbrev pub foundBy : LineRead → List ℕ → Found

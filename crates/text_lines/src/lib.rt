@@ -4,6 +4,7 @@ ghost use mathlib.Core.Bool.{true};
 ghost use mathlib.Core.List.{_∷_, []};
 ghost use Prim.Native.Nat.{_+_, _*_, _^_, _≤_};
 ghost use lib.ListN.{length, drop};
+ghost use Rattle.text_lines.specs.Lines.{mostDigits};
 ghost use Rattle.text_lines.specs.Reader.{isLetter, byteIn, digitsIn, numberIn, lineIn, Into};
 
 pub const MOST_DIGITS: usize = 5;
@@ -97,10 +98,17 @@ pub enum Line {
     Bad,
 }
 
-// Exactly `size` numbers, each behind a single space, then LF. They go into the list from `base` on.
-fn read_numbers(text: &[u8], at: usize, size: usize, into: &mut [u32], base: usize) -> Line
-    requires { ⌜ base + size ≤ length (now into) ⌝ }
-    ensures { λ r. ⌜ Into r (lineIn [] size (drop at (now (text .entry)))) at base size (now (into .entry)) (now (into .exit)) ⌝ }
+// Exactly `size` numbers of at most `most` digits, each behind a single space, then LF. They go into the list from `base` on.
+pub fn read_numbers(
+    text: &[u8],
+    at: usize,
+    most: usize,
+    size: usize,
+    into: &mut [u32],
+    base: usize,
+) -> Line
+    requires { ⌜ ((1 ≤ most) × (most ≤ 9)) × (base + size ≤ length (now into)) ⌝ }
+    ensures { λ r. ⌜ Into r (lineIn most [] size (drop at (now (text .entry)))) at base size (now (into .entry)) (now (into .exit)) ⌝ }
 {
     let mut j = 0;
     let mut p = at;
@@ -108,7 +116,7 @@ fn read_numbers(text: &[u8], at: usize, size: usize, into: &mut [u32], base: usi
         let Byte::Space = byte_at(text, p) else {
             return Line::Bad;
         };
-        let Number::Good { value, next } = read_number(text, p + 1, MOST_DIGITS) else {
+        let Number::Good { value, next } = read_number(text, p + 1, most) else {
             return Line::Bad;
         };
         into[base + j] = value;
@@ -131,12 +139,12 @@ pub fn read_line(
     base: usize,
 ) -> Line
     requires { ⌜ (isLetter letter ≡ true) × (base + size ≤ length (now into)) ⌝ }
-    ensures { λ r. ⌜ Into r (lineIn (letter ∷ []) size (drop at (now (text .entry)))) at base size (now (into .entry)) (now (into .exit)) ⌝ }
+    ensures { λ r. ⌜ Into r (lineIn mostDigits (letter ∷ []) size (drop at (now (text .entry)))) at base size (now (into .entry)) (now (into .exit)) ⌝ }
 {
     match byte_at(text, at) {
         Byte::Letter(b) => {
             if b == letter {
-                read_numbers(text, at + 1, size, into, base)
+                read_numbers(text, at + 1, MOST_DIGITS, size, into, base)
             } else {
                 Line::Bad
             }

@@ -3,7 +3,6 @@ use mathlib.Core.Bool.{Bool, true, false, cond}
 use mathlib.Core.List.{List, [], _∷_, _++_}
 use mathlib.Core.Path.{_≡_, refl, sym, ap, ap₂, _∙_, subst}
 use Prim.Native.Nat.{ℕ, zero, suc, _+_, _/_, _%_, _^_, _≤_, _<_}
-use native.Mathlib.Nat.{div-lt-iff-lt-mul, pow-suc}
 use native.Mathlib.Numerals.{add-one}
 use native.Mathlib.Omega.{arith}
 use lib.Dec.{ltb}
@@ -11,8 +10,9 @@ use lib.ListN.{length, getD, take, set, length-append}
 use lib.Seq.{take-all, take-suc}
 use borrow.Author.Tests.{lt-ltb, le-ltb}
 use Rattle.lineage.specs.Calls.{Outcome, refused, answered, Said}
-use Rattle.text.specs.Output.{digits, decimalBy, decimal, twoNumbers, threeNumbers, said, told, question, questionLine}
-use Rattle.text_lines.specs.Lines.{bytes}
+use Rattle.text_lines.specs.Lines.{bytes, digits, decimalBy, decimal}
+use Rattle.text_lines.proofs.Digits.{tenth-low}
+use Rattle.text.specs.Output.{twoNumbers, threeNumbers, said, told, question, questionLine}
 use Rattle.numbers.specs.Put.{put}
 use Rattle.numbers.proofs.Put.{put-none, put-next, put-sets}
 use Rattle.text_printing.specs.Printer.{Put}
@@ -27,10 +27,6 @@ put-put {out} {mid} {exit} {at} {next} {last} {xs} {ys} p q low = record {
   behind = omega (arith, p .behind, q .behind, length-append xs ys);
   whole = q .whole ∙ (ap₂ (λ (s : List ℕ) (k : ℕ). put s k ys) (p .whole) (p .behind) ∙ put-next out at xs low ys);
 }
-
--- the tenth part has a digit less
-tenth-low : (f x : ℕ) → x < 10 ^ suc f → x / 10 < 10 ^ f
-tenth-low f x h = div-lt-iff-lt-mul {k = 10} (omega arith) .1 (omega (arith, pow-suc 10 f))
 
 -- as many digits as may be, or one more: the decimal is the same
 decimal-settled : (f x : ℕ) → x < 10 ^ suc f → decimalBy (suc f) x ≡ decimalBy (suc (suc f)) x
@@ -72,13 +68,17 @@ put-same {out} {exit} {at} {next} e p = subst (λ (s : List ℕ). Put out at s n
 pub number-one : {out exit : List ℕ} {at next b : ℕ} (x : ℕ) → x < 10 → b ≡ 48 + x % 10 → Put out at (b ∷ []) next exit → Put out at (decimal x) next exit
 number-one x h e p = put-same (ap (λ (d : ℕ). d ∷ []) e ∙ sym (decimal-one x h)) p
 
+-- it has one digit, and any other number one more than its tenth part
+pub one-long : (x : ℕ) → x < 10 → length (decimal x) ≡ 1
+one-long x h = ap length (decimal-one x h)
+
+pub tenth-long : (x : ℕ) → 10 ≤ x → x < 2 ^ 32 → length (decimal x) ≡ length (decimal (x / 10)) + 1
+tenth-long x low fits = ap length (decimal-more x low (omega arith)) ∙ length-append (decimal (x / 10)) ((48 + x % 10) ∷ [])
+
 module _ {out mid : List ℕ} {at p : ℕ} (x : ℕ) (low : 10 ≤ x) (fits : x < 2 ^ 32) (tenth : Put out at (decimal (x / 10)) p mid) where
   -- its tenth part is put, and there is room for the last digit
-  pub number-room : at + 10 ≤ length out → p < length out
-  number-room h =
-      let long : length (decimal x) ≡ length (decimal (x / 10)) + 1 =
-      ap length (decimal-more x low (omega arith)) ∙ length-append (decimal (x / 10)) ((48 + x % 10) ∷ []) in
-      omega (arith, number-short x, tenth .behind)
+  pub number-room : at + length (decimal x) ≤ length out → p < length out
+  number-room h = omega (arith, tenth-long x low fits, tenth .behind)
 
   -- and the last digit behind it
   pub number-more : {exit : List ℕ} {next b : ℕ} → b ≡ 48 + x % 10 → Put mid p (b ∷ []) next exit → at ≤ length out → Put out at (decimal x) next exit

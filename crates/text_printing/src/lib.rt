@@ -3,7 +3,8 @@ ghost use mathlib.Core.List.{_∷_, []};
 ghost use mathlib.Core.Path.{_≡_};
 ghost use Prim.Native.Nat.{_+_, _%_, _≤_, _<_};
 ghost use lib.ListN.{length};
-ghost use Rattle.text.specs.Output.{decimal, twoNumbers, threeNumbers, question, refusal, said};
+ghost use Rattle.text_lines.specs.Lines.{decimal};
+ghost use Rattle.text.specs.Output.{twoNumbers, threeNumbers, question, refusal, said};
 ghost use Rattle.text_printing.specs.Printer.{Put};
 
 pub fn put_byte(out: &mut [u8], at: usize, b: u8) -> usize
@@ -35,7 +36,7 @@ fn digit(x: u32) -> u8
 
 // A number in decimal: its tenth part, then the last digit.
 pub fn put_number(out: &mut [u8], at: usize, x: u32) -> usize
-    requires { ⌜ at + 10 ≤ length (now out) ⌝ }
+    requires { ⌜ at + length (decimal x) ≤ length (now out) ⌝ }
     ensures { λ r. ⌜ Put (now (out .entry)) at (decimal x) r (now (out .exit)) ⌝ }
 {
     if x < 10 {
@@ -43,6 +44,19 @@ pub fn put_number(out: &mut [u8], at: usize, x: u32) -> usize
     }
     let p = put_number(out, at, x / 10);
     put_byte(out, p, digit(x))
+}
+
+// How many digits a number has.
+pub fn decimal_length(x: u32) -> usize
+    ensures { λ r. ⌜ r ≡ length (decimal x) ⌝ }
+{
+    let mut n = 1;
+    let mut y = x;
+    while 10 <= y {
+        y = y / 10;
+        n += 1;
+    }
+    n
 }
 
 // Two numbers with a space between them.

@@ -9,6 +9,8 @@ use build::Built;
 use chain::Chained;
 use convert::Converted;
 use list::Listed;
+use matrix_read::MatrixRead;
+use matrix_write::Written;
 use open::Opened;
 use rules::Settled;
 use text_run::MOST_OUTPUT;
@@ -415,6 +417,58 @@ pub extern "C" fn trial_build_turned(
     d: u32,
 ) -> Counted {
     built_of(turned::build_turned(n, sources, targets, orders, d, work, out))
+}
+
+// n and the number of edges, or a refusal with its number and its extra number.
+#[repr(C)]
+pub struct Matrix {
+    pub refusal: u32,
+    pub extra: usize,
+    pub n: u32,
+    pub edges: usize,
+}
+
+#[no_mangle]
+pub extern "C" fn trial_read_matrix(
+    text: &[u8],
+    sources: &mut [u32],
+    targets: &mut [u32],
+) -> Matrix {
+    match matrix_read::read_matrix(text, sources, targets) {
+        MatrixRead::Says { n, edges } => Matrix {
+            refusal: 0,
+            extra: 0,
+            n,
+            edges,
+        },
+        MatrixRead::Refused { number, extra } => Matrix {
+            refusal: number,
+            extra,
+            n: 0,
+            edges: 0,
+        },
+    }
+}
+
+#[no_mangle]
+pub extern "C" fn trial_write_matrix(
+    sources: &[u32],
+    targets: &[u32],
+    out: &mut [u8],
+    n: u32,
+) -> Counted {
+    match matrix_write::write_matrix(n, sources, targets, out) {
+        Written::Total(count) => Counted {
+            refusal: 0,
+            extra: 0,
+            count,
+        },
+        Written::Refused { number, extra } => Counted {
+            refusal: number,
+            extra,
+            count: 0,
+        },
+    }
 }
 
 #[no_mangle]

@@ -5,6 +5,7 @@ use native.Mathlib.Omega.{arith}
 use borrow.Author.Needs.{needs}
 use lib.ListN.{length, take, drop}
 use Rattle.text_lines.specs.declared.Byte.the-variants.{Letter}
+use Rattle.text_lines.specs.Lines.{mostDigits}
 use Rattle.text_lines.specs.Reader.{after}
 use Rattle.text_lines.proofs.Bytes.{Sees, seen, within}
 use Rattle.text_lines.proofs.Words.{letter-passed, other-letter, no-letter}
@@ -40,18 +41,18 @@ returns c =
     let e = c .before .before .read-numbers .ensures in
     record {
       kept = e .kept;
-      read = e .read ∙ letter-passed (a .text .now) (take (a .base) (a .into .now)) (a .at) (a .size) (a .letter) (here (t .before .before)) (t .if1 .taken);
+      read = e .read ∙ letter-passed mostDigits (a .text .now) (take (a .base) (a .into .now)) (a .at) (a .size) (a .letter) (here (t .before .before)) (t .if1 .taken);
     }
 
 returns-2 : tie.Need-returns-2
 returns-2 c =
     let a = c .before .before .before .before .before .before .before .args in
-    record { kept = refl; read = sym (ap (after (take (a .base) (a .into .now)) (a .at)) (other-letter _ _ (here (c .before .before)) (c .if1 .left))) }
+    record { kept = refl; read = sym (ap (after (take (a .base) (a .into .now)) (a .at)) (other-letter _ _ _ (here (c .before .before)) (c .if1 .left))) }
 
 returns-3 : tie.Need-returns-3
 returns-3 c =
     let s = c .before .before .before .before in
-    let none = no-letter _ _ (s .pre .0) (seen _ _ (c .before .byte-at .ensures)) (c .match .keys2) in
+    let none = no-letter _ _ _ (s .pre .0) (seen _ _ (c .before .byte-at .ensures)) (c .match .keys2) in
     record { kept = refl; read = sym (ap (after (take (s .args .base) (s .args .into .now)) (s .args .at)) none) }
 
 pub read-line-spec : {M : Type 1} → statement M

@@ -13,16 +13,16 @@ use Rattle.text_lines.proofs.read_numbers.Statement.{statement}
 use Rattle.text_lines.proofs.read_numbers.Tie as tie
 
 abbrev Inv-loop : tie.InvT-loop
-Inv-loop text at size into₀ base j₀ p₀ into j p =
+Inv-loop text at most size into₀ base j₀ p₀ into j p =
     (j ≤ size)
     × ((length into ≡ length into₀)
-    × ((take base into ≡ take base into₀) × (still text into base size j p ≡ after (take base into₀) at (lineIn [] size (drop at text)))))
+    × ((take base into ≡ take base into₀) × (still most text into base size j p ≡ after (take base into₀) at (lineIn most [] size (drop at text)))))
 
 abbrev μ-loop : tie.MeasureT-loop
-μ-loop text at size into₀ base j₀ p₀ into j p = size - j
+μ-loop text at most size into₀ base j₀ p₀ into j p = size - j
 
 loop-holds : tie.Need-loop-holds Inv-loop μ-loop
-loop-holds c = (omega arith, (refl, (refl, still-begins _ _ _ _ _)))
+loop-holds c = (omega arith, (refl, (refl, still-begins _ _ _ _ _ _)))
 
 byte-at-requires : tie.Need-byte-at-requires Inv-loop μ-loop
 byte-at-requires c κs = tt
@@ -38,7 +38,7 @@ returns c =
     let i = c .before .before .before .loop .inv in
     record {
       kept = i .1 .1 .0;
-      read = still-unspaced _ _ _ _ _ _ (c .before .before .loop-test .taken) (seen _ _ (c .before .byte-at .ensures)) (c .match .keys2) ∙ i .1 .1 .1;
+      read = still-unspaced _ _ _ _ _ _ _ (c .before .before .loop-test .taken) (seen _ _ (c .before .byte-at .ensures)) (c .match .keys2) ∙ i .1 .1 .1;
     }
 
 -- at a number: the turn's start, and the function's
@@ -63,7 +63,7 @@ add-read-number : tie.Need-add-read-number Inv-loop μ-loop
 add-read-number c = omega (arith, inside c, start (turn c) .good)
 
 read-number-requires : tie.Need-read-number-requires Inv-loop μ-loop
-read-number-requires c κs = omega arith
+read-number-requires c κs = start (turn c) .pre .0
 
 enum-known-value : tie.Need-enum-known-value Inv-loop μ-loop
 enum-known-value c = c .match2 .keys1
@@ -81,7 +81,7 @@ returns-2 c =
     record {
       kept = turn a .loop .inv .1 .1 .0;
       read =
-          still-missing _ _ _ _ _ _ low (spaced a) (sym (c .enum-told2 .given .1) ∙ c .before .before .read-number .ensures)
+          still-missing _ _ _ _ _ _ _ low (spaced a) (sym (c .enum-told2 .given .1) ∙ c .before .before .read-number .ensures)
           ∙ turn a .loop .inv .1 .1 .1;
     }
 
@@ -112,7 +112,7 @@ loop-again c =
     let low = a .before .before .before .loop-test .taken in
     let i = turn a .loop .inv in
     let number = sym (c .before .value .given .1) ∙ c .before .before .before .read-number .ensures in
-    (omega (arith, low), (simp length-set (i .1 .0), (front-kept (turn a .loop .into) (start (turn a) .args .base) (turn a .loop .j) _ ∙ i .1 .1 .0, still-turns _ _ _ _ _ _ _ _ low (room a) (spaced a) number ∙ i .1 .1 .1)))
+    (omega (arith, low), (simp length-set (i .1 .0), (front-kept (turn a .loop .into) (start (turn a) .args .base) (turn a .loop .j) _ ∙ i .1 .1 .0, still-turns _ _ _ _ _ _ _ _ _ low (room a) (spaced a) number ∙ i .1 .1 .1)))
 
 byte-at-requires-2 : tie.Need-byte-at-requires-2 Inv-loop μ-loop
 byte-at-requires-2 c κs = tt
@@ -128,8 +128,8 @@ ended c = seen _ _ (sym (c .enum-told3 .given .1) ∙ c .before .before .byte-at
 full : (c : tie.After-loop Inv-loop μ-loop) → c .before .loop .j ≡ start (c .before) .args .size
 full c = omega (arith, c .loop-test .left, c .before .loop .inv .0)
 
-add-t18 : tie.Need-add-t18 Inv-loop μ-loop
-add-t18 c =
+add-t19 : tie.Need-add-t19 Inv-loop μ-loop
+add-t19 c =
     let l = c .before .before .before .before in
     omega (arith, within (start l .args .text .now) (l .loop .p) (ended c) (λ e. omega arith), start l .good)
 
@@ -139,7 +139,7 @@ same-length-3 c = c .before .before .before .before .loop .inv .1 .0
 returns-3 : tie.Need-returns-3 Inv-loop μ-loop
 returns-3 c =
     let i = c .before .before .before .before .loop .inv in
-    record { kept = i .1 .1 .0; read = still-ends _ _ _ _ _ _ (full (c .before .before .before)) (ended c) ∙ i .1 .1 .1 }
+    record { kept = i .1 .1 .0; read = still-ends _ _ _ _ _ _ _ (full (c .before .before .before)) (ended c) ∙ i .1 .1 .1 }
 
 same-length-4 : tie.Need-same-length-4 Inv-loop μ-loop
 same-length-4 c = c .before .before .before .loop .inv .1 .0
@@ -149,7 +149,7 @@ returns-4 c =
     let i = c .before .before .before .loop .inv in
     record {
       kept = i .1 .1 .0;
-      read = still-unended _ _ _ _ _ _ (full (c .before .before)) (seen _ _ (c .before .byte-at2 .ensures)) (c .match3 .keys2) ∙ i .1 .1 .1;
+      read = still-unended _ _ _ _ _ _ _ (full (c .before .before)) (seen _ _ (c .before .byte-at2 .ensures)) (c .match3 .keys2) ∙ i .1 .1 .1;
     }
 
 pub read-numbers-spec : {M : Type 1} → statement M
@@ -177,7 +177,7 @@ read-numbers-spec =
     loop-again
     byte-at-requires-2
     enum-told-3
-    add-t18
+    add-t19
     same-length-3
     returns-3
     same-length-4

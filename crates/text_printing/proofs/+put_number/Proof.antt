@@ -4,7 +4,7 @@ use Prim.Native.Nat.{ℕ, _<_}
 use native.Mathlib.Omega.{arith}
 use borrow.Fn.Kinds.{In}
 use borrow.Fn.PlainCycle.{Measures, is, falls, and}
-use Rattle.text_printing.proofs.Putting.{number-one, number-room, number-more}
+use Rattle.text_printing.proofs.Putting.{number-one, one-long, tenth-long, number-room, number-more}
 use Rattle.text_printing.proofs.put_number.Reads as put-number
 use Rattle.text_printing.proofs.put_number.Kinds as put-number-kinds
 use Rattle.text_printing.proofs.+put_number.Lts-put_number as put-number-lts
@@ -30,7 +30,9 @@ digit-requires : (t : ℕ) → put-number-lts.Need-digit-requires (calls t) (at 
 digit-requires t c κs = tt
 
 put-byte-requires : (t : ℕ) → put-number-lts.Need-put-byte-requires (calls t) (at t) put-number.Post
-put-byte-requires t c κs = omega (arith, c .before .before .before .before .pre .1)
+put-byte-requires t c κs =
+    let s = c .before .before .before .before in
+    omega (arith, one-long (s .args .x) (c .before .before .if1 .taken), s .pre .1)
 
 same-length : (t : ℕ) → put-number-lts.Need-same-length (calls t) (at t) put-number.Post
 same-length t c = c .before .before .put-byte .kept .0
@@ -43,7 +45,7 @@ returns t c =
 put-number-requires : (t : ℕ) → put-number-lts.Need-put-number-requires (calls t) (at t) put-number.Post
 put-number-requires t c κs =
     let s = c .before .before .before in
-    (omega (arith, c .before .if1 .left, s .pre .0), s .pre .1)
+    (omega (arith, c .before .if1 .left, s .pre .0), omega (arith, tenth-long (s .args .x) (c .before .if1 .left) (s .fits .x .fits), s .pre .1))
 
 digit-requires-2 : (t : ℕ) → put-number-lts.Need-digit-requires-2 (calls t) (at t) put-number.Post
 digit-requires-2 t c κs = tt

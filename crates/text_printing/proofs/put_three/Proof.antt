@@ -8,7 +8,7 @@ use Rattle.text_printing.proofs.put_three.Statement.{statement}
 use Rattle.text_printing.proofs.put_three.Tie as tie
 
 put-number-requires : tie.Need-put-number-requires
-put-number-requires c κs = search needs
+put-number-requires c κs = omega (arith, number-short (c .before .before .args .x), c .before .before .pre)
 
 put-byte-requires : tie.Need-put-byte-requires
 put-byte-requires c κs =

@@ -8,7 +8,7 @@ use Rattle.text_printing.proofs.put_two.Statement.{statement}
 use Rattle.text_printing.proofs.put_two.Tie as tie
 
 put-number-requires : tie.Need-put-number-requires
-put-number-requires c κs = search needs
+put-number-requires c κs = omega (arith, number-short (c .before .before .args .x), c .before .before .pre)
 
 put-byte-requires : tie.Need-put-byte-requires
 put-byte-requires c κs =
@@ -21,7 +21,7 @@ put-number-requires-2 c κs =
     let b = c .before .before .before in
     let n = b .before .before .before .before in
     let s = n .before .before .before in
-    omega (arith, number-short (s .args .x), n .put-number .ensures .behind, n .put-number .kept .0, b .put-byte .ensures .behind, b .put-byte .kept .0, s .pre)
+    omega (arith, number-short (s .args .x), number-short (s .args .y), n .put-number .ensures .behind, n .put-number .kept .0, b .put-byte .ensures .behind, b .put-byte .kept .0, s .pre)
 
 same-length : tie.Need-same-length
 same-length c = search needs
