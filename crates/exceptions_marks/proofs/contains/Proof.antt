@@ -25,7 +25,7 @@ loop-holds : tie.Need-loop-holds Inv-loop μ-loop
 loop-holds c = passed-none _ _
 
 triples-requires : tie.Need-triples-requires Inv-loop μ-loop
-triples-requires c κs = (c .before .before .before .pre .0, c .loop-test .taken)
+triples-requires c κs = (c .before .before .before .pre .0, omega (arith, c .loop-test .taken))
 
 lies-in-requires : tie.Need-lies-in-requires Inv-loop μ-loop
 lies-in-requires c κs = let p = lent c .pre in (p .0 .width, (p .1 .0, (p .1 .1, omega (arith, c .triples .ensures .long))))
