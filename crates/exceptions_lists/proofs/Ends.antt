@@ -1,6 +1,6 @@
 -- Where lists end. The first x + 1 lists have the entries of the first x and those of list x; so all numbers that are stored are k, the number of entries, 0, where each
 -- list ends, and the entries.
-use mathlib.Core.Path.{_≡_, refl, sym, ap, ap₂, _∙_}
+use mathlib.Core.Path.{_≡_, refl, sym, ap, _∙_}
 use mathlib.Core.List.{List, [], _∷_, _++_, map, map-append}
 use Prim.Native.Nat.{ℕ, zero, suc, _+_, _*_, _≤_, _<_}
 use native.Mathlib.Decide.{ℕ-discrete}
@@ -8,13 +8,15 @@ use native.Mathlib.Numerals.{add-one}
 use native.Mathlib.Nat.{not-suc-le-zero}
 use native.Mathlib.Omega.{arith}
 use lib.ListN.{length, getD, length-append, List·getD-append}
-use lib.Seq.{getD-append-add}
+use lib.Seq.{getD-append-add, ext-getD}
 use Rattle.lineage.specs.Lists.{upto, joined}
 use Rattle.lineage.specs.Index.{Index}
 use Rattle.lineage.specs.Stored.{startsFrom}
-use Rattle.laws.proofs.Lists.{table-long}
+use Rattle.laws.proofs.Lists.{table-long, table-at}
+use Rattle.laws.proofs.Joined.{joined-more}
+use Rattle.laws.proofs.Starts.{starts-long}
 use Rattle.laws_exceptions.specs.Exceptions.{exceptionsOf, entriesOf, exceptionRows, exceptionNumbers}
-use Rattle.laws_exceptions.proofs.Rows.{rowsTo, rows-more, rows-few}
+use Rattle.laws_exceptions.proofs.Rows.{rowsTo, start-is, rows-few}
 use Rattle.numbers.specs.Bounds.{vertexBound}
 use Rattle.exceptions_lists.specs.Lists.{entriesTo, endsTo}
 
@@ -36,13 +38,13 @@ module _ (I : Index) where
   -- one list more
   entries-next : (x : ℕ) → entriesTo I (suc x) ≡ entriesTo I x + length (entriesOf I x)
   unfolding entriesTo
-  entries-next x = ap length (rows-more I x .1) ∙ length-append (entriesIn x) (entriesOf I x)
+  entries-next x = ap length (joined-more (entriesOf I) x) ∙ length-append (entriesIn x) (entriesOf I x)
 
   pub entries-more : (x : ℕ) → entriesTo I (x + 1) ≡ entriesTo I x + length (entriesOf I x)
   entries-more x = rw (add-one x) (entries-next x)
 
   pub entries-behind : (x : ℕ) → entriesIn (x + 1) ≡ entriesIn x ++ entriesOf I x
-  entries-behind x = rw (add-one x) (rows-more I x .1)
+  entries-behind x = rw (add-one x) (joined-more (entriesOf I) x)
 
   pub entries-up : (x n : ℕ) → x ≤ n → entriesTo I x ≤ entriesTo I n
   entries-up x zero h = let e : x ≡ 0 = omega arith in rw e (omega arith)
@@ -67,7 +69,7 @@ module _ (I : Index) where
   pub entry-among : (x n j : ℕ) → x < n → j < length (entriesOf I x) → getD (entriesIn n) (entriesTo I x + j) 0 ≡ getD (entriesOf I x) j 0
   entry-among x zero j h l = absurd (not-suc-le-zero h)
   entry-among x (suc n) j h l =
-      ap (λ (z : List ℕ). getD z (entriesTo I x + j) 0) (rows-more I n .1)
+      ap (λ (z : List ℕ). getD z (entriesTo I x + j) 0) (joined-more (entriesOf I) n)
       ∙ elim (ℕ-discrete x n) [
         | yes e ↦
             rw e
@@ -94,12 +96,15 @@ module _ (I : Index) where
   ends-long x = table-long (λ i. entriesTo I (suc i)) x
 
   -- with 0 before them they are the starts
-  starts-are : (x : ℕ) → startsFrom 0 (rowsTo I x) ≡ 0 ∷ endsTo I x
-  starts-are zero = ap (0 ∷_) (sym ends-none)
-  starts-are (suc x) =
-      rows-more I x .0
-      ∙ ap₂ (λ (zs : List ℕ) (z : ℕ). zs ++ (z ∷ [])) (starts-are x) (ap (λ (z : ℕ). z + length (entriesOf I x)) (entries-long x) ∙ sym (entries-next x))
-      ∙ ap (0 ∷_) (sym (ends-next x))
+  starts-are : (n : ℕ) → startsFrom 0 (rowsTo I n) ≡ 0 ∷ endsTo I n
+  starts-are n = ext-getD (startsFrom 0 (rowsTo I n)) (0 ∷ endsTo I n) 0 (omega (arith, starts-long 0 (rowsTo I n), table-long (entriesOf I) n, ends-long n)) at
+    where
+      at : (i : ℕ) → i < length (startsFrom 0 (rowsTo I n)) → getD (startsFrom 0 (rowsTo I n)) i 0 ≡ getD (0 ∷ endsTo I n) i 0
+      unfolding endsTo
+      at zero h = start-is I n 0 (omega arith)
+      at (suc i) h =
+          let low : i < n = omega (arith, starts-long 0 (rowsTo I n), table-long (entriesOf I) n) in
+          start-is I n (suc i) low ∙ entries-long (suc i) ∙ sym (table-at (λ j. entriesTo I (suc j)) n i 0 low)
 
   pub numbers-are : exceptionNumbers I ≡ (k ∷ length (joined (exceptionRows I)) ∷ 0 ∷ []) ++ (endsTo I k ++ joined (exceptionRows I))
   unfolding exceptionNumbers exceptionRows

@@ -1,4 +1,6 @@
 -- The laws that the proofs of this crate and of those above cite.
 pub mod Ends
+pub mod Apart
 pub mod Writing
+pub mod Matches
 pub mod Matched

@@ -16,15 +16,16 @@ use Rattle.lineage.specs.Lists.{joined, allBelow, sameList, Every}
 use Rattle.lineage.specs.Index.{Index}
 use Rattle.lineage.specs.Numbers.{numAt}
 use Rattle.lineage.specs.Stored.{startsFrom}
-use Rattle.laws.proofs.Tests.{and-both, both, is-false, tests-same}
+use Rattle.laws.proofs.Tests.{and-both, both, is-false}
 use Rattle.laws.proofs.Lists.{all-from, all-below, table-long}
 use Rattle.laws.proofs.Starts.{starts-long}
+use Rattle.laws_same.proofs.Lineage.{tests-same}
 use Rattle.laws_exceptions.specs.Exceptions.{entriesOf, exceptionRows, exceptionNumbers, encodeExceptions}
 use Rattle.laws_exceptions.proofs.Rows.{rowsTo, start-is, numbers-small}
 use Rattle.numbers.proofs.Written.{Bytes}
-use Rattle.numbers.proofs.Matches.{matches-exactly}
 use Rattle.exceptions_rows.specs.Rows.{agrees}
 use Rattle.exceptions_lists.specs.Lists.{entriesTo, listStands}
+use Rattle.exceptions_lists.proofs.Matches.{matches-exactly}
 use Rattle.exceptions_lists.proofs.Ends.{entriesIn, entries-long, entries-none, entries-more, entries-behind, entries-up, entry-among}
 
 module _ (I : Index) where
@@ -54,7 +55,7 @@ module _ (I : Index) where
       let two : i + 2 ≡ suc (suc i) = omega arith in
       ap (λ (z : ℕ). getD all z 0) two
       ∙ List·getD-append (startsFrom 0 (rowsTo I k)) (entriesIn I k) 0 i (omega (arith, starts-long 0 (rowsTo I k), table-long (entriesOf I) k))
-      ∙ start-is I i h
+      ∙ start-is I (length (I .groups)) i h
       ∙ entries-long I i
 
   pub number-entry : (j : ℕ) → getD all (k + 3 + j) 0 ≡ getD (entriesIn I k) j 0

@@ -11,9 +11,10 @@ use Rattle.lineage.specs.Numbers.{leBytes, written}
 use Rattle.laws_exceptions.specs.Exceptions.{entriesOf, exceptionRows, exceptionNumbers, encodeExceptions}
 use Rattle.numbers.specs.Put.{put}
 use Rattle.numbers.proofs.Numbers.{bytes-long}
-use Rattle.numbers.proofs.Put.{put-none, put-long, put-apart}
+use Rattle.numbers.proofs.Put.{put-none}
 use Rattle.numbers.proofs.Written.{written-long, written-next, written-one}
 use Rattle.exceptions_lists.specs.Lists.{entriesTo, endsTo}
+use Rattle.exceptions_lists.proofs.Apart.{put-long, put-apart}
 use Rattle.exceptions_lists.proofs.Ends.{entriesIn, entries-long, entries-none, entries-more, entries-behind, entries-up, entries-all, entries-count, ends-none, ends-more, ends-long, numbers-are}
 
 -- three numbers, one by one

@@ -7,9 +7,10 @@ use native.Mathlib.Omega.{arith}
 use native.Mathlib.Nat.{add-zero}
 use lib.Dec.{eqb, leb}
 use lib.ListN.{length, getD, length-append}
-use borrow.Author.Tests.{eq-eqb, ne-eqb, le-leb, lt-leb}
+use borrow.Author.Tests.{eq-eqb, ne-eqb, leb-true, le-leb, lt-leb}
 use Rattle.lineage.specs.Index.{Index}
 use Rattle.lineage.specs.Numbers.{numAt}
+use Rattle.laws.proofs.Tests.{and-left}
 use Rattle.laws.proofs.Lists.{all-broken}
 use Rattle.laws.proofs.Passed.{Passed, passed-none, passed-next, passed-all}
 use Rattle.laws_exceptions.specs.Exceptions.{isException, exceptionsOf, entry, entriesOf}
@@ -61,7 +62,7 @@ module _ {I : Index} {x : ℕ} {lists : List ℕ} {from y at : ℕ} (K : Compari
   comparing-all e = passed-all (K .passed) (omega (arith, ap length (row-all I x y e)))
 
 -- the whole list, of which `count` is the length
-module _ {lists row : List ℕ} {at most count : ℕ} (counted : count ≡ length row) (low : at ≤ most) where
+module _ (lists row : List ℕ) {at most count : ℕ} (counted : count ≡ length row) (low : at ≤ most) where
   pub stands-short : most - at < count → false ≡ stands lists at most row
   stands-short h = rw (lt-leb (at + length row) most (omega arith))
 
@@ -75,6 +76,9 @@ module _ {lists row : List ℕ} {at most count : ℕ} (counted : count ≡ lengt
   module _ {r : Bool} (told : r ≡ stands lists at most row) where
     pub row-differs : r ≡ false → Differs ≡ compared lists at most row
     row-differs f = rw (← told, f)
+
+    pub row-within : r ≡ true → at + count ≤ most
+    row-within t = omega (arith, leb-true (at + length row) most (and-left (leb (at + length row) most) (agrees lists at row) (sym told ∙ t)))
 
     pub row-ends : r ≡ true → Ends (at + count) ≡ compared lists at most row
     row-ends t = rw (← told, t, counted)

@@ -5,12 +5,12 @@ use mathlib.Core.List.{List}
 use Prim.Native.Nat.{ℕ, _≤_, _<_}
 use native.Mathlib.Omega.{arith}
 use lib.Dec.{eqb}
-use lib.ListN.{length, getD}
+use lib.ListN.{length, getD, length-map}
 use borrow.Author.Tests.{eq-eqb, ne-eqb}
 use Rattle.lineage.specs.Index.{Index}
 use Rattle.lineage.specs.Numbers.{numAt}
 use Rattle.lineage.specs.Calls.{indexIn}
-use Rattle.laws_exceptions.specs.Exceptions.{isException, entry}
+use Rattle.laws_exceptions.specs.Exceptions.{isException, exceptionsOf, entry, entriesOf}
 use Rattle.stored_header.specs.declared.Layout.{Layout}
 use Rattle.stored.specs.Sections.{Six, childrenIn, labelsIn}
 use Rattle.sound_places.specs.Lent.{SoundBytes}
@@ -43,3 +43,7 @@ module _
 
         pub not-excepted : (getD marks name 0 ≡ 2 → ⊥) → isException (indexIn b) x y ≡ false
         not-excepted n = sym mark-told ∙ ne-eqb (getD marks name 0) 2 n
+
+-- as many entries as exceptions
+pub entries-many : (I : Index) (x : ℕ) {r : ℕ} → r ≡ length (exceptionsOf I x) → r ≡ length (entriesOf I x)
+entries-many I x e = e ∙ sym (length-map (exceptionsOf I x) (entry I x))

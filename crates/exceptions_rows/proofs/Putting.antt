@@ -14,6 +14,11 @@ use Rattle.numbers.specs.Put.{put}
 use Rattle.numbers.proofs.Put.{put-none}
 use Rattle.numbers.proofs.Written.{written-next, written-one}
 
+-- no entries, nothing written
+pub putting-nothing : (out : List ℕ) (at : ℕ) (row : List ℕ) → length row ≡ 0 → out ≡ put out at (written 4 row)
+putting-nothing out at [] e = sym (put-none out at)
+putting-nothing out at (y ∷ row) e = absurd (omega arith)
+
 pub record Putting (I : Index) (x from y at : ℕ) (before out : List ℕ) : Type 0 where
   pub long : length out ≡ length before
   pub here : at ≡ from + length (rowTo I x y)
