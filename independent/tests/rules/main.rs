@@ -4,6 +4,7 @@ mod chaining;
 mod chance;
 mod commands;
 mod converting;
+mod exceptions;
 mod given;
 mod labels;
 mod listing;
