@@ -10,10 +10,11 @@
 #include <sys/mman.h>
 #include <unistd.h>
 
-/* the calls that take stored forms 1 and 2, those on a turned index, list, chain, build and the text program's run are exported for these tests alone (crate trial); where one is not linked, a request
+/* the calls that take stored forms 1 and 2, those on a turned index and on exception lists, list, chain, build and the text program's run are exported for these tests alone (crate trial); where one is not linked, a request
  * for it ends this process */
 typedef struct { uint32_t refusal, extra, count; } counted;
 typedef struct { uint32_t refusal, extra, yes, steps; } chain_of;
+typedef struct { uint32_t refusal, extra, groups, entries; } list_counts;
 
 __attribute__((weak)) drobisten_opened trial_open(const uint8_t *index, size_t index_len, uint8_t *marks, size_t marks_len, uint32_t *work, size_t work_len);
 __attribute__((weak)) drobisten_asked trial_ask(const uint8_t *index, size_t index_len, uint8_t *marks, size_t marks_len, uint32_t *work, size_t work_len,
@@ -39,6 +40,13 @@ __attribute__((weak)) chain_of trial_chain(const uint8_t *index, size_t index_le
 __attribute__((weak)) counted trial_convert_up(const uint8_t *index, size_t index_len, uint8_t *marks, size_t marks_len, uint8_t *out, size_t out_len);
 __attribute__((weak)) counted trial_convert_down(const uint8_t *index, size_t index_len, uint8_t *marks, size_t marks_len, uint32_t *work, size_t work_len, uint8_t *out,
                                                  size_t out_len);
+__attribute__((weak)) drobisten_asked_all trial_build_exceptions(const uint8_t *index, size_t index_len, uint8_t *marks, size_t marks_len, uint8_t *out, size_t out_len);
+__attribute__((weak)) list_counts trial_open_exceptions(const uint8_t *index, size_t index_len, const uint8_t *lists, size_t lists_len, uint8_t *marks, size_t marks_len);
+__attribute__((weak)) counted trial_ask_exceptions(const uint8_t *index, size_t index_len, const uint8_t *lists, size_t lists_len, uint8_t *marks, size_t marks_len,
+                                                   uint32_t source, uint32_t target);
+__attribute__((weak)) drobisten_asked_all trial_ask_all_exceptions(const uint8_t *index, size_t index_len, const uint8_t *lists, size_t lists_len, uint8_t *marks,
+                                                                   size_t marks_len, const uint32_t *sources, size_t sources_len, const uint32_t *targets,
+                                                                   size_t targets_len, uint32_t *answers, size_t answers_len);
 __attribute__((weak)) size_t trial_run(const uint8_t *text, size_t text_len, uint8_t *out);
 
 /* the layout that the header states */
@@ -46,7 +54,8 @@ _Static_assert(sizeof(drobisten_opened) == 24, "drobisten_opened is 24 bytes");
 _Static_assert(sizeof(drobisten_asked) == 24 && offsetof(drobisten_asked, labelling) == 20, "drobisten_asked is 24 bytes, labelling its last four");
 
 /* what a request asks for, and of whom: the calls that Rattle code makes, the C host's, which are lent no words, or those on a turned index */
-enum { OPEN = 1, ASK = 2, LIST = 3, BUILD = 4, ASK_MANY = 5, RUN = 6, ASK_ALL = 7, CONVERT_UP = 8, CONVERT_DOWN = 9, CHAIN = 10 };
+enum { OPEN = 1, ASK = 2, LIST = 3, BUILD = 4, ASK_MANY = 5, RUN = 6, ASK_ALL = 7, CONVERT_UP = 8, CONVERT_DOWN = 9, CHAIN = 10,
+       BUILD_LISTS = 14, OPEN_LISTS = 15, ASK_LISTS = 16, ASK_ALL_LISTS = 17 };
 enum { ORDINARY = 0, HOST = 1, TURNED = 2 };
 
 /* the bytes that a run is lent for its output, and what they hold before it */
@@ -314,6 +323,67 @@ static void serve_build(uint32_t face, uint32_t stack) {
     give_back(b.out);
 }
 
+/* exception lists: what they stand beside, and the marks */
+static void take_beside(asking *a) {
+    a->index = buffer(1);
+    a->marks = buffer(1);
+}
+
+static void serve_build_lists(void) {
+    asking a = {.face = ORDINARY};
+    take_beside(&a);
+    a.out = buffer(1);
+    drobisten_asked_all r = trial_build_exceptions(a.index.at, a.index.length, a.marks.at, a.marks.length, a.out.at, a.out.length);
+    uint32_t numbers[3] = {r.refusal, (uint32_t)r.extra, (uint32_t)r.count};
+    give(numbers, sizeof numbers);
+    done(a.index);
+    give_back(a.marks);
+    give_back(a.out);
+}
+
+static void serve_open_lists(void) {
+    asking a = {.face = ORDINARY};
+    take_beside(&a);
+    lent lists = buffer(1);
+    list_counts r = trial_open_exceptions(a.index.at, a.index.length, lists.at, lists.length, a.marks.at, a.marks.length);
+    give(&r, sizeof r);
+    done(a.index);
+    done(lists);
+    give_back(a.marks);
+}
+
+static void serve_ask_lists(void) {
+    asking a = {.face = ORDINARY};
+    a.source = number();
+    a.target = number();
+    take_beside(&a);
+    lent lists = buffer(1);
+    counted r = trial_ask_exceptions(a.index.at, a.index.length, lists.at, lists.length, a.marks.at, a.marks.length, a.source, a.target);
+    give(&r, sizeof r);
+    done(a.index);
+    done(lists);
+    give_back(a.marks);
+}
+
+static void serve_ask_all_lists(void) {
+    asking a = {.face = ORDINARY};
+    take_beside(&a);
+    lent lists = buffer(1);
+    a.sources = buffer(4);
+    a.targets = buffer(4);
+    a.out = buffer(4);
+    drobisten_asked_all r = trial_ask_all_exceptions(a.index.at, a.index.length, lists.at, lists.length, a.marks.at, a.marks.length, words(a.sources), a.sources.length,
+                                                     words(a.targets), a.targets.length, words(a.out), a.out.length);
+    uint32_t numbers[3] = {r.refusal, (uint32_t)r.extra, (uint32_t)r.count};
+    give(numbers, sizeof numbers);
+    done(a.index);
+    done(lists);
+    done(a.sources);
+    done(a.targets);
+    give_back(a.marks);
+    give_back(a.out);
+}
+
 /* how many bytes are printed, how many behind them are not as they were, and the bytes printed */
 static void serve_run(void) {
     lent text = buffer(1), out = room(MOST_OUTPUT, 1);
@@ -343,6 +413,10 @@ int main(void) {
         case CHAIN: if (!trial_chain) return 5; serve_chain(stack); break;
         case CONVERT_UP: if (!trial_convert_up) return 5; serve_convert(stack, convert_up); break;
         case CONVERT_DOWN: if (!trial_convert_down) return 5; serve_convert(stack, convert_down); break;
+        case BUILD_LISTS: if (!trial_build_exceptions) return 5; serve_build_lists(); break;
+        case OPEN_LISTS: if (!trial_open_exceptions) return 5; serve_open_lists(); break;
+        case ASK_LISTS: if (!trial_ask_exceptions) return 5; serve_ask_lists(); break;
+        case ASK_ALL_LISTS: if (!trial_ask_all_exceptions) return 5; serve_ask_all_lists(); break;
         case RUN: if (!trial_run) return 5; serve_run(); break;
         default: return 4;
         }
