@@ -4,7 +4,7 @@ use mathlib.Core.List.{List, _++_, append-assoc}
 use Prim.Native.Nat.{ℕ, _+_, _-_, _≤_}
 use native.Mathlib.Omega.{arith}
 use lib.ListN.{length, take, drop, length-append, length-drop}
-use lib.Seq.{length-take-le, take-add, take-take, take-append-le, take-append-add, drop-at, drop-append-le}
+use lib.Seq.{length-take-le, take-add, take-take, take-append-le, take-append-add, drop-at, drop-append-le, drop-drop}
 use Rattle.numbers.specs.Put.{put}
 
 module _ (s : List ℕ) (p : ℕ) (bs : List ℕ) where
@@ -53,9 +53,13 @@ module _ (s : List ℕ) (p : ℕ) (bs : List ℕ) where
     rest-put : drop (q + length cs) (put s p bs) ≡ drop (q + length cs) s
     unfolding put
     rest-put =
-        let whole : q + length cs ≡ behind + (q + length cs - behind) = omega arith in
-        ap₂ drop whole (sym (append-assoc (take p s) bs (drop behind s)))
-        ∙ ?
+        let j : ℕ = q + length cs - behind in
+        let whole : q + length cs ≡ behind + j = omega arith in
+        ap (λ (n : ℕ). drop n (put s p bs)) whole
+        ∙ sym (drop-drop j behind (put s p bs))
+        ∙ ap (drop j) (ap (drop behind) (sym (append-assoc (take p s) bs (drop behind s))) ∙ drop-at (take p s ++ bs) (drop behind s) behind front)
+        ∙ drop-drop j behind s
+        ∙ ap (λ (n : ℕ). drop n s) (sym whole)
 
     pub put-apart : put (put s q cs) p bs ≡ put (put s p bs) q cs
     unfolding put

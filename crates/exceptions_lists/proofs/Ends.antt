@@ -1,6 +1,6 @@
 -- Where lists end. The first x + 1 lists have the entries of the first x and those of list x; so all numbers that are stored are k, the number of entries, 0, where each
 -- list ends, and the entries.
-use mathlib.Core.Path.{_≡_, refl, sym, ap, _∙_}
+use mathlib.Core.Path.{_≡_, refl, sym, ap, subst⁻¹, _∙_}
 use mathlib.Core.List.{List, [], _∷_, _++_, map, map-append}
 use Prim.Native.Nat.{ℕ, zero, suc, _+_, _*_, _≤_, _<_}
 use native.Mathlib.Decide.{ℕ-discrete}
@@ -9,7 +9,7 @@ use native.Mathlib.Nat.{not-suc-le-zero}
 use native.Mathlib.Omega.{arith}
 use lib.ListN.{length, getD, length-append, List·getD-append}
 use lib.Seq.{getD-append-add, ext-getD}
-use Rattle.lineage.specs.Lists.{upto, joined}
+use Rattle.lineage.specs.Lists.{upto, joined, cleared}
 use Rattle.lineage.specs.Index.{Index}
 use Rattle.lineage.specs.Stored.{startsFrom}
 use Rattle.laws.proofs.Lists.{table-long, table-at}
@@ -97,10 +97,10 @@ module _ (I : Index) where
 
   -- with 0 before them they are the starts
   starts-are : (n : ℕ) → startsFrom 0 (rowsTo I n) ≡ 0 ∷ endsTo I n
-  starts-are n = ext-getD (startsFrom 0 (rowsTo I n)) (0 ∷ endsTo I n) 0 (omega (arith, starts-long 0 (rowsTo I n), table-long (entriesOf I) n, ends-long n)) at
+  unfolding endsTo
+  starts-are n = ext-getD 0 (startsFrom 0 (rowsTo I n)) (0 ∷ endsTo I n) (omega (arith, starts-long 0 (rowsTo I n), table-long (entriesOf I) n, ends-long n)) at
     where
       at : (i : ℕ) → i < length (startsFrom 0 (rowsTo I n)) → getD (startsFrom 0 (rowsTo I n)) i 0 ≡ getD (0 ∷ endsTo I n) i 0
-      unfolding endsTo
       at zero h = start-is I n 0 (omega arith)
       at (suc i) h =
           let low : i < n = omega (arith, starts-long 0 (rowsTo I n), table-long (entriesOf I) n) in
@@ -109,3 +109,7 @@ module _ (I : Index) where
   pub numbers-are : exceptionNumbers I ≡ (k ∷ length (joined (exceptionRows I)) ∷ 0 ∷ []) ++ (endsTo I k ++ joined (exceptionRows I))
   unfolding exceptionNumbers exceptionRows
   numbers-are = ap (λ (z : List ℕ). k ∷ length (joined (rowsTo I k)) ∷ (z ++ joined (rowsTo I k))) (starts-are k)
+
+-- marks that are as they were lent are long enough, and cleared, as they were
+pub marks-still : {n : ℕ} (before marks : List ℕ) → marks ≡ before → (n ≤ length before) × (before ≡ cleared n before) → (n ≤ length marks) × (marks ≡ cleared n marks)
+marks-still {n} before marks e = subst⁻¹ (λ (z : List ℕ). (n ≤ length before) × (before ≡ cleared n before) → (n ≤ length z) × (z ≡ cleared n z)) e (λ h. h)

@@ -2,5 +2,6 @@
 pub mod Ends
 pub mod Apart
 pub mod Writing
+pub mod Standing
 pub mod Matches
 pub mod Matched

@@ -18,15 +18,16 @@ use Rattle.lineage.specs.Numbers.{numAt}
 use Rattle.lineage.specs.Stored.{startsFrom}
 use Rattle.laws.proofs.Tests.{and-both, both, is-false}
 use Rattle.laws.proofs.Lists.{all-from, all-below, table-long}
+use Rattle.laws.proofs.Joined.{joined-more}
 use Rattle.laws.proofs.Starts.{starts-long}
 use Rattle.laws_same.proofs.Lineage.{tests-same}
 use Rattle.laws_exceptions.specs.Exceptions.{entriesOf, exceptionRows, exceptionNumbers, encodeExceptions}
 use Rattle.laws_exceptions.proofs.Rows.{rowsTo, start-is, numbers-small}
 use Rattle.numbers.proofs.Written.{Bytes}
-use Rattle.exceptions_rows.specs.Rows.{agrees}
+use Rattle.exceptions_rows.specs.Rows.{agrees, stands}
 use Rattle.exceptions_lists.specs.Lists.{entriesTo, listStands}
 use Rattle.exceptions_lists.proofs.Matches.{matches-exactly}
-use Rattle.exceptions_lists.proofs.Ends.{entriesIn, entries-long, entries-none, entries-more, entries-behind, entries-up, entry-among}
+use Rattle.exceptions_lists.proofs.Ends.{entriesIn, entries-long, entries-none, entries-more, entries-up, entry-among}
 
 module _ (I : Index) where
   abbrev k : ℕ
@@ -64,7 +65,7 @@ module _ (I : Index) where
       let behind : k + 3 + j ≡ suc (suc (length (startsFrom 0 (rowsTo I k)) + j)) = omega (arith, starts-long 0 (rowsTo I k), table-long (entriesOf I) k) in
       ap (λ (z : ℕ). getD all z 0) behind ∙ getD-append-add (startsFrom 0 (rowsTo I k)) (entriesIn I k) j 0
 
-module _ (I : Index) {lists : List ℕ} (bytes : Bytes lists) (few : length (I .groups) ≤ 4096) where
+module _ (I : Index) (lists : List ℕ) (bytes : Bytes lists) (few : length (I .groups) ≤ 4096) where
   abbrev Same : Type 0
   Same = sameList lists (encodeExceptions I) ≡ true
 
@@ -109,15 +110,20 @@ module _ (I : Index) {lists : List ℕ} (bytes : Bytes lists) (few : length (I .
       abbrev last : Bool
       last = eqb (k I + 3 + entriesTo I (k I)) most
 
+      -- one list stands, and ends where it should
+      stands-so : stand ≡ true → (x : ℕ) → x < k I
+          → (stands lists (k I + 3 + entriesTo I x) most (entriesOf I x) ≡ true) × (eqb (numAt 4 lists (x + 3)) (entriesTo I (x + 1)) ≡ true)
+      stands-so t x h =
+          both (stands lists (k I + 3 + entriesTo I x) most (entriesOf I x)) (eqb (numAt 4 lists (x + 3)) (entriesTo I (x + 1)))
+          (all-below (k I) (listStands I lists (k I + 3) most) x t h)
+
       -- where each stands, all entries agree
       entries-agree : stand ≡ true → (n : ℕ) → n ≤ k I → (j : ℕ) → j < entriesTo I n → numAt 4 lists (k I + 3 + j) ≡ getD (entriesIn I n) j 0
       entries-agree t zero h j l = absurd (omega (arith, entries-none I))
       entries-agree t (suc n) h j l =
           let more : entriesTo I (suc n) ≡ entriesTo I n + length (entriesOf I n) = rw (← add-one n) (entries-more I n) in
-          let row = both (leb (k I + 3 + entriesTo I n + length (entriesOf I n)) most) (agrees lists (k I + 3 + entriesTo I n) (entriesOf I n))
-          (both _ _ (all-below (k I) (listStands I lists (k I + 3) most) n t h) .0) .1 in
-          rw (← add-one n, entries-behind I n)
-          (elim (decLt j (entriesTo I n)) [
+          let row = both (leb (k I + 3 + entriesTo I n + length (entriesOf I n)) most) (agrees lists (k I + 3 + entriesTo I n) (entriesOf I n)) (stands-so t n h .0) .1 in
+          elim (decLt j (entriesTo I n)) [
             | yes below ↦
                 entries-agree t n (omega arith) j below ∙ sym (List·getD-append (entriesIn I n) (entriesOf I n) 0 j (omega (arith, entries-long I n)))
             | no not ↦
@@ -128,14 +134,15 @@ module _ (I : Index) {lists : List ℕ} (bytes : Bytes lists) (few : length (I .
                 ∙ eqb-true (numAt 4 lists (k I + 3 + entriesTo I n + i)) (getD (entriesOf I n) i 0)
                 (all-below (length (entriesOf I n)) (λ z. eqb (numAt 4 lists (k I + 3 + entriesTo I n + z)) (getD (entriesOf I n) z 0)) i row (omega arith))
                 ∙ sym (ap (λ (z : ℕ). getD (entriesIn I n ++ entriesOf I n) z 0) there ∙ getD-append-add (entriesIn I n) (entriesOf I n) i 0)
-          ])
+          ]
+          ∙ sym (ap (λ (z : List ℕ). getD z j 0) (joined-more (entriesOf I) n))
 
       starts-agree : stand ≡ true → (i : ℕ) → i ≤ k I → numAt 4 lists (i + 2) ≡ entriesTo I i
       starts-agree t zero h = first ∙ sym (entries-none I)
       starts-agree t (suc x) h =
           let three : suc x + 2 ≡ x + 3 = omega arith in
           ap (numAt 4 lists) three
-          ∙ eqb-true (numAt 4 lists (x + 3)) (entriesTo I (x + 1)) (both _ _ (all-below (k I) (listStands I lists (k I + 3) most) x t h) .1)
+          ∙ eqb-true (numAt 4 lists (x + 3)) (entriesTo I (x + 1)) (stands-so t x h .1)
           ∙ ap (entriesTo I) (add-one x)
 
       stand-right : stand ≡ true → last ≡ true → Right
@@ -186,9 +193,11 @@ module _ (I : Index) {lists : List ℕ} (bytes : Bytes lists) (few : length (I .
               let three : x + 3 ≡ x + 1 + 2 = omega arith in
               each (x + 3) (omega (arith, numbers-count I)) ∙ ap (λ (z : ℕ). getD (all I) z 0) three ∙ number-start I (x + 1) (omega arith)
 
-      pub lists-by : {r : Bool} → r ≡ (stand && last) → r ≡ sameList lists (encodeExceptions I)
-      lists-by e =
-          e
+      -- so they are told list by list, of as many groups as there are
+      pub lists-by :
+          {r : Bool} (n : ℕ) → k I ≡ n → r ≡ (allBelow n (listStands I lists (n + 3) most) && eqb (n + 3 + entriesTo I n) most) → r ≡ sameList lists (encodeExceptions I)
+      lists-by n many e =
+          rw (← many) at e
           ∙ tests-same (stand && last) (sameList lists (encodeExceptions I)) (
             (λ t. let (s, m) = both stand last t in same (stand-right s m)),
             λ t.

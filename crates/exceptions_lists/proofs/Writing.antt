@@ -103,15 +103,17 @@ module _
           ∙ ap (λ (z : List ℕ). put before 12 (written 4 (endsTo I k ++ z))) (entries-all I k all)
 
 -- the head, and behind it all that follows
-module _ {I : Index} {k : ℕ} (all : k ≡ length (I .groups)) {before head out : List ℕ} {entries : ℕ} (count : entries ≡ length (joined (exceptionRows I)))
+module _ (I : Index) {k : ℕ} (all : k ≡ length (I .groups)) (before head out : List ℕ) {entries : ℕ} (count : entries ≡ length (joined (exceptionRows I)))
     (room : 12 ≤ length before) (first : head ≡ put before 0 (written 4 (k ∷ entries ∷ 0 ∷ [])))
     (rest : out ≡ put head 12 (written 4 (endsTo I k ++ joined (exceptionRows I))))
   where
+    all-given : (k ∷ entries ∷ 0 ∷ []) ++ (endsTo I k ++ joined (exceptionRows I)) ≡ exceptionNumbers I
+    all-given = rw (all, count) (sym (numbers-are I))
+
     pub lists-written : out ≡ put before 0 (encodeExceptions I)
     unfolding encodeExceptions
     lists-written =
         rest
         ∙ ap (λ (z : List ℕ). put z 12 (written 4 (endsTo I k ++ joined (exceptionRows I)))) first
         ∙ written-next 4 0 before (k ∷ entries ∷ 0 ∷ []) (endsTo I k ++ joined (exceptionRows I)) 12 (omega arith) (omega arith)
-        ∙ ap (λ (z : List ℕ). put before 0 (written 4 z))
-        (rw (all, count) (sym (numbers-are I)))
+        ∙ ap (λ (z : List ℕ). put before 0 (written 4 z)) all-given

@@ -110,7 +110,7 @@ loop-again c =
     (λ b. rw (b .4) (
       omega (arith, i .loop-test .taken),
       comparing-more (l .loop .inv .1) (is-excepted (p .0) (given a) (i .loop-test .taken) (n .num .ensures .0) (p .1 .0 .1 .1) (b .0 .taken)) (in-groups i) (b .1 .ensures .0)
-      (entry-here (p .0) (given a) _ _ (b .2 .ensures)) (b .3 .left),
+          (entry-here (p .0) (given a) _ _ (b .2 .ensures)) (b .3 .left),
     ))
     (λ b. rw (b .1) (
       omega (arith, i .loop-test .taken),

@@ -109,7 +109,7 @@ loop-again c =
     (λ b. rw (b .6, b .7) (
       omega (arith, i .loop-test .taken),
       putting-more (p .1 .1) (l .loop .inv .1) (is-excepted (p .0) (given a) (i .loop-test .taken) (n .num .ensures .0) (p .1 .0 .1 .1) (b .0 .taken)) (in-groups i)
-      (entry-here (p .0) (given a) _ _ (b .1 .ensures)) (b .3 .ensures) (b .3 .kept .0),
+          (entry-here (p .0) (given a) _ _ (b .1 .ensures)) (b .3 .ensures) (b .3 .kept .0),
     ))
     (λ b. rw (b .1, b .2) (
       omega (arith, i .loop-test .taken),
