@@ -4,3 +4,4 @@ pub mod Filled
 pub mod Opening
 pub mod Asking
 pub mod Building
+pub mod Excepted

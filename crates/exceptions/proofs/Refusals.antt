@@ -117,17 +117,20 @@ module _ (b lists : List ℕ) {r : Bool} (told : r ≡ sameList lists (encodeExc
   belonging f = same-list lists (encodeExceptions (indexIn b)) (sym told ∙ not-false r f)
 
 -- form 1 has at most 4,096 vertices
-module _ {b : List ℕ} {marks : ℕ} {l : Layout} (A : Admits host b marks 0 l) where
+module _ (b : List ℕ) (marks : ℕ) (passes : Pass (formOneChecks b marks)) where
   one : headerAt b 0 ≡ 1
   one =
-      let (low, high) = both (leb 1 (headerAt b 0)) (leb (headerAt b 0) 1) (both _ _ (not-false (takes host (headerAt b 0)) (admitted A .1 .0)) .0) in
+      let (low, high) = both (leb 1 (headerAt b 0)) (leb (headerAt b 0) 1) (both _ _ (not-false (takes host (headerAt b 0)) (passes .1 .0)) .0) in
       omega (arith, leb-true 1 (headerAt b 0) low, leb-true (headerAt b 0) 1 high)
 
   most : formOf (headerAt b 0) .vertices ≡ 4096
   most = ap (λ (z : ℕ). formOf z .vertices) one
 
-  pub vertices-few : l .n ≤ 4096
-  vertices-few =
+  pub counts-few : countsIn b .n ≤ 4096
+  counts-few =
       let F : Form = formOf (headerAt b 0) in
-      let fits = neither (countsFit F (countsIn b)) (offsetsFit F (countsIn b) b) (admitted A .1 .1 .0) .0 in
-      omega (arith, n-is (admitted-laid A), most, leb-true (countsIn b .n) (F .vertices) (both (leb (countsIn b .n) (F .vertices)) _ fits .0))
+      let fits = neither (countsFit F (countsIn b)) (offsetsFit F (countsIn b) b) (passes .1 .1 .0) .0 in
+      omega (arith, most, leb-true (countsIn b .n) (F .vertices) (both (leb (countsIn b .n) (F .vertices)) _ fits .0))
+
+pub vertices-few : {b : List ℕ} {marks : ℕ} {l : Layout} → Admits host b marks 0 l → l .n ≤ 4096
+vertices-few {b} {marks} A = omega (arith, n-is (admitted-laid A), counts-few b marks (admitted A))
