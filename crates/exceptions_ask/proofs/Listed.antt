@@ -61,7 +61,7 @@ module _
     long-is = omega (arith, start-is, next-is, entries-more I x)
 
     -- list x is the entries of x
-    list-is : listIn lists k x ≡ entriesOf I x
+    pub list-is : listIn lists k x ≡ entriesOf I x
     unfolding listIn
     list-is =
         ext-getD 0 (listIn lists k x) (entriesOf I x) (numbers-long 4 (part lists (4 * (k + 3 + startIn lists x)) (4 * longIn lists x)) (longIn lists x) ∙ long-is)
