@@ -2,3 +2,4 @@
 pub mod Pairs
 pub mod Tabled
 pub mod Refusals
+pub mod Theorems

@@ -70,7 +70,7 @@ ask-each-requires c κs =
     let a = laid o in
     let p = start a .pre in (
       tabled-ready (p .0) (six a) (p .1 .0 .0) (p .1 .0 .1 .1) (table o)
-      (omega (arith, table-long o, length-append (o .lay-out .last .1 .1 .1 .1 .1 .0) (drop (start a .args .l .n) (start a .args .places .now)))),
+          (omega (arith, table-long o, length-append (o .lay-out .last .1 .1 .1 .1 .1 .0) (drop (start a .args .l .n) (start a .args .places .now)))),
       p .1 .1,
     )
 
