@@ -60,14 +60,14 @@ module _ {l : Layout} {names groups levels starts children labels : List ℕ} (S
 
   -- the table holds the place of every vertex's group, so it answers as the index does
   module _ {places : List ℕ} (P : Placed w n k names groups places) where
-    placed : (v : ℕ) → v < n → getD places v 0 ≡ placeIn (indexAt l names groups levels starts children labels) v
+    pub placed : (v : ℕ) → v < n → getD places v 0 ≡ placeIn (indexAt l names groups levels starts children labels) v
     unfolding indexFrom
     placed v h =
         let q : ℕ = placeOf (numbers w groups k) (getD (numbers w names n) v 0) in
         let low : q < k = omega (arith, children-long w starts children k (l .c), place-low (lent-sound S) v (in-names v h)) in
         P .at v q h low (sym (numbers-at w groups k q low) ∙ name-of-place (lent-sound S) v (in-names v h) ∙ numbers-at w names n v h)
 
-    placed-low : (v : ℕ) → v < n → getD places v 0 < k
+    pub placed-low : (v : ℕ) → v < n → getD places v 0 < k
     unfolding indexFrom
     placed-low v h = omega (arith, placed v h, children-long w starts children k (l .c), place-low (lent-sound S) v (in-names v h))
 
