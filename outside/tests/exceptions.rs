@@ -45,7 +45,7 @@ fn every_index_of_up_to_4_vertices() {
                 let pairs: Vec<(u32, u32)> = (0..=n as u32).flat_map(|u| (0..=n as u32).map(move |v| (u, v))).collect();
                 assert_eq!(compare::exceptions(&mut library, &image, &lists, n, &pairs, NUMBERS * pairs.len()), [0, 0]);
                 for other in others.iter().rev().take(3) {
-                    compare::exceptions(&mut library, &image, other, n, &pairs[..2], NUMBERS * 2);
+                    compare::exceptions(&mut library, &image, other, n, &pairs[..1], NUMBERS);
                 }
                 if others.last() != Some(&lists) {
                     others.push(lists);
