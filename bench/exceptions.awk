@@ -2,17 +2,15 @@
 # awk -f bench/tables.awk -f bench/exceptions.awk FIGURES
 BEGIN {
     split("512 4096", N, " ")
-    pairs = 20000
 }
 
-# what a pair takes beyond what the call takes without pairs
-function pair(kind, n, d, who) { return (time("pairs", kind, n, d, "mixed", who) - time("pairs", kind, n, d, "mixed", who ", none")) / pairs }
+function pair(kind, n, d, who) { return time("pairs", kind, n, d, "mixed", who) }
 
-# from how many pairs on the call by the lists takes less than the one by the walk
+# from how many pairs on the call by the lists takes less than the one by the walk: what its check takes more, by what a pair takes less
 function from(kind, n, d,    gain) {
     gain = pair(kind, n, d, "walk") - pair(kind, n, d, "lists")
     if (gain <= 0) return "never"
-    return grouped((time("pairs", kind, n, d, "mixed", "lists, none") - time("pairs", kind, n, d, "mixed", "walk, none")) / gain)
+    return grouped((time("lists", kind, n, d, "-", "open") - time("lists", kind, n, d, "-", "index")) / gain)
 }
 
 function grouped(x,    digits, out) {
@@ -27,7 +25,7 @@ END {
     for (a = 1; a in KIND; a++) for (i = 1; i in N; i++) for (j = 1; j in D; j++) {
         kind = KIND[a]; n = N[i]; d = D[j]
         print "| " title[kind] " | " grouped(n) " | " d " | " grouped(time("entries", kind, n, d, "-", "ours")) \
-            " | " sprintf("%.3g KB", time("entries", kind, n, d, "-", "bytes") / 1000) \
+            " | " grouped(time("entries", kind, n, d, "-", "bytes") / 1000) " KB" \
             " | " told(time("lists", kind, n, d, "-", "ours")) " | " ratio(time("lists", kind, n, d, "-", "ours"), time("lists", kind, n, d, "-", "peer")) \
             " | " told(time("lists", kind, n, d, "-", "open")) " | " told(time("lists", kind, n, d, "-", "index")) \
             " | " told(pair(kind, n, d, "lists")) " | " told(pair(kind, n, d, "walk")) " | " from(kind, n, d) " |"

@@ -3,8 +3,8 @@
 //     exceptions all | quick
 //
 // prints the figures (measure.hpp) of one building, one opening, one pair inside the call that checks index and lists once, and one pair inside the call for all pairs by
-// the walk; and as `entries` how many exceptions there are and the bytes that they take. The peer makes the same lists in C++ on arrays of ints, without any check. `quick` is one small size with few
-// repetitions.
+// the walk, the checks of both cut; and as `entries` how many exceptions there are and the bytes that they take. The peer makes the same lists in C++ on arrays of ints, without any
+// check. `quick` is one small size with few repetitions.
 #include "measure.hpp"
 #include "peers.hpp"
 #include <drobisten.h>
@@ -22,6 +22,11 @@ counted trial_ask_exceptions(const uint8_t *index, size_t index_len, const uint8
                              uint32_t target);
 drobisten_asked_all trial_ask_all_exceptions(const uint8_t *index, size_t index_len, const uint8_t *lists, size_t lists_len, uint8_t *marks, size_t marks_len,
                                              const uint32_t *sources, size_t sources_len, const uint32_t *targets, size_t targets_len, uint32_t *answers, size_t answers_len);
+// the same with the checks cut, and the call for all pairs by the walk
+drobisten_asked_all unchecked_ask_all_exceptions(const uint8_t *index, size_t index_len, const uint8_t *lists, size_t lists_len, uint8_t *marks, size_t marks_len,
+                                                 const uint32_t *sources, size_t sources_len, const uint32_t *targets, size_t targets_len, uint32_t *answers, size_t answers_len);
+drobisten_asked_all unchecked_ask_all(const uint8_t *index, size_t index_len, uint8_t *marks, size_t marks_len, uint32_t *work, size_t work_len, const uint32_t *sources,
+                                      size_t sources_len, const uint32_t *targets, size_t targets_len, uint32_t *answers, size_t answers_len);
 }
 
 struct Case {
@@ -103,19 +108,23 @@ static void lists(Where w, Case &c) {
     }
 }
 
-// All pairs in one call, and the same call without pairs, by the lists and by the walk.
+// All pairs in one call, by the lists and by the walk, the checks cut; once with them.
 static void pairs(Where w, Case &c, const Numbers &sources, const Numbers &targets) {
     const size_t count = sources.size();
-    Numbers three(3 * count), six(6 * count);
-    auto by_lists = [&](size_t some) {
-        sink = trial_ask_all_exceptions(c.index.data(), c.index.size(), c.lists.data(), c.lists.size(), c.marks.data(), w.n, sources.data(), some, targets.data(), some,
-                                        three.data(), three.size()).count;
+    Numbers three(3 * count), six(6 * count), checked(3 * count);
+    auto by_lists = [&] {
+        sink = unchecked_ask_all_exceptions(c.index.data(), c.index.size(), c.lists.data(), c.lists.size(), c.marks.data(), w.n, sources.data(), count, targets.data(), count,
+                                            three.data(), three.size()).count;
     };
-    auto by_walk = [&](size_t some) {
-        sink = drobisten_ask_all(c.index.data(), c.index.size(), c.marks.data(), w.n, sources.data(), some, targets.data(), some, six.data(), six.size()).count;
+    auto by_walk = [&] {
+        std::fill(c.marks.begin(), c.marks.end(), 0);
+        sink = unchecked_ask_all(c.index.data(), c.index.size(), c.marks.data(), w.n, nullptr, 0, sources.data(), count, targets.data(), count, six.data(), six.size()).count;
     };
     w.measure = "pairs";
-    measure(w, 1, {{"lists", [&] { by_lists(count); }}, {"lists, none", [&] { by_lists(0); }}, {"walk", [&] { by_walk(count); }}, {"walk, none", [&] { by_walk(0); }}});
+    measure(w, count, {{"lists", by_lists}, {"walk", by_walk}});
+    drobisten_asked_all whole = trial_ask_all_exceptions(c.index.data(), c.index.size(), c.lists.data(), c.lists.size(), c.marks.data(), w.n, sources.data(), count, targets.data(),
+                                                         count, checked.data(), checked.size());
+    must(whole.refusal == 0 && checked == three, "the call answers otherwise with its checks");
     for (size_t i = 0; i < count; i++) must(three[3 * i] == 0 && three[3 * i + 2] == six[6 * i + 2], "the lists answer otherwise than the walk");
     for (size_t i = 0; i < 3; i++) {
         counted one = trial_ask_exceptions(c.index.data(), c.index.size(), c.lists.data(), c.lists.size(), c.marks.data(), w.n, sources[i], targets[i]);
