@@ -1,6 +1,6 @@
--- A question by exception lists, wherever it is answered, says what the walk says of the same index and vertices, so yes exactly where a path leads from source to target,
--- in whatever graph yields the index. The contract allows one result.
-use mathlib.Core.Bool.{Bool, true, false}
+-- Lists that do not belong to the index are told before the vertices are looked at. A question by exception lists, wherever it is answered, says what the walk says of the
+-- same index and vertices, so yes exactly where a path leads from source to target, in whatever graph yields the index. The contract allows one result.
+use mathlib.Core.Bool.{Bool, true, false, not}
 use mathlib.Core.Logic.{_↔_}
 use mathlib.Core.Path.{_≡_, refl, sym, ap, _∙_}
 use mathlib.Core.List.{List, [], _∷_, _++_}
@@ -11,22 +11,39 @@ use lib.ListN.{length}
 use borrow.Author.Tests.{leb-false, not-false}
 use Rattle.lineage.specs.Graph.{Reaches}
 use Rattle.lineage.specs.Index.{Made}
-use Rattle.lineage.specs.Stored.{countsIn, formOf, headerAt, countsFit, offsetsFit}
+use Rattle.lineage.specs.Lists.{sameList}
+use Rattle.lineage.specs.Stored.{Counts, countsIn, formOf, headerAt}
 use Rattle.lineage.specs.Question.{answer}
-use Rattle.lineage.specs.Calls.{Check, check, answered, outcome, host, formChecks, contentsCheck, indexIn, Said, saidOf, askEarly, askAnswer}
+use Rattle.lineage.specs.Calls.{Check, check, refused, answered, host, contentsCheck, indexIn, openAnswer, Said, saidOf, askEarly, askAnswer}
 use Rattle.laws.specs.Checks.{Pass}
 use Rattle.laws.specs.Sound.{Sound}
-use Rattle.laws.proofs.Checks.{stops-outcome, pass-front, pass-behind, pass-both, answered-pass, answered-is}
+use Rattle.laws.proofs.Tests.{is-false}
+use Rattle.laws.proofs.Lists.{same-list}
+use Rattle.laws.proofs.Checks.{stops-outcome, pass-front, pass-behind, pass-both, answered-pass, answered-is, rest-comes}
 use Rattle.laws_same.proofs.Lineage.{tests-same}
-use Rattle.laws_exceptions.specs.Exceptions.{saysByExceptions}
+use Rattle.laws_exceptions.specs.Exceptions.{encodeExceptions, saysByExceptions}
 use Rattle.laws_exceptions.proofs.Says.{says-same, says-right}
 use Rattle.stored_header.proofs.Admitted.{header-pass}
 use Rattle.stored_header.proofs.Laid.{header-laid, d-is}
 use Rattle.stored.proofs.Contents.{names-many, labels-many, contents-sound}
-use Rattle.exceptions.specs.Calls.{formOneChecks, askLate, exceptionsAsked, exceptionsMarks}
+use Rattle.exceptions.specs.Calls.{formOneChecks, belongCheck, askLate, exceptionsAsked, exceptionsMarks}
 use Rattle.exceptions.specs.declared.Said as declared
 use Rattle.exceptions.specs.declared.Said.the-variants.{Answer, Refused}
 use Rattle.exceptions.specs.Said as told
+
+-- beside an index that opens, lists that are not its exceptions get 20, whatever the vertices
+pub others-first :
+    (b lists : List ℕ) (u v marks : ℕ) (a : Counts) → openAnswer host b marks 0 ≡ answered a → (lists ≡ encodeExceptions (indexIn b) → ⊥)
+    → exceptionsAsked b lists u v marks ≡ refused 20 0
+unfolding openAnswer exceptionsAsked
+others-first b lists u v marks a e n =
+    let first : List Check = formOneChecks b marks in
+    let vertices : List Check = check (leb (countsIn b .n) u) 14 0 ∷ check (leb (countsIn b .n) v) 14 1 ∷ [] in
+    let says : Bool = saysByExceptions (indexIn b) u v in
+    let own : List ℕ = encodeExceptions (indexIn b) in
+    let other : sameList lists own ≡ false = is-false (sameList lists own) (λ t. n (same-list lists own t)) in
+    rest-comes says first (contentsCheck b ∷ []) (belongCheck b lists ∷ vertices) (answered-pass (countsIn b) (first ++ (contentsCheck b ∷ [])) a e)
+    (stops-outcome says (belongCheck b lists ∷ vertices) 0 (ap not other)) .says
 
 module _ (b lists : List ℕ) (u v marks : ℕ) (s : Bool) (e : exceptionsAsked b lists u v marks ≡ answered s) where
   abbrev first : List Check
