@@ -10,7 +10,7 @@
 #include <sys/mman.h>
 #include <unistd.h>
 
-/* the calls that take stored forms 1 and 2, those on a turned index, list, chain, those on added edges, build, the rule desk's over parallel lists, Matrix Market files and the text program's run are exported for
+/* the calls that take stored forms 1 and 2, those on a turned index and on exception lists, list, chain, those on added edges, build, the rule desk's over parallel lists, Matrix Market files and the text program's run are exported for
  * these tests alone (crate trial); where one is not linked, a request for it ends this process */
 typedef struct { uint32_t refusal, extra, count; } counted;
 typedef struct { uint32_t refusal, extra, yes, steps; } chain_of;
@@ -18,6 +18,7 @@ typedef struct { uint32_t sources[256], targets[256], count; } edges;
 typedef struct { uint32_t refusal, extra; edges after; } more;
 typedef struct { uint32_t refusal, extra, yes; } over;
 typedef struct { uint32_t refusal; size_t extra; uint32_t n; size_t edges; } edges_of;
+typedef struct { uint32_t refusal, extra, groups, entries; } list_counts;
 
 __attribute__((weak)) drobisten_opened trial_open(const uint8_t *index, size_t index_len, uint8_t *marks, size_t marks_len, uint32_t *work, size_t work_len);
 __attribute__((weak)) drobisten_asked trial_ask(const uint8_t *index, size_t index_len, uint8_t *marks, size_t marks_len, uint32_t *work, size_t work_len,
@@ -52,6 +53,13 @@ __attribute__((weak)) drobisten_rules_settled trial_settle_lists(const uint8_t *
 __attribute__((weak)) edges_of trial_read_matrix(const uint8_t *text, size_t text_len, uint32_t *sources, size_t sources_len, uint32_t *targets, size_t targets_len);
 __attribute__((weak)) counted trial_write_matrix(const uint32_t *sources, size_t sources_len, const uint32_t *targets, size_t targets_len, uint8_t *out, size_t out_len,
                                                  uint32_t n);
+__attribute__((weak)) drobisten_asked_all trial_build_exceptions(const uint8_t *index, size_t index_len, uint8_t *marks, size_t marks_len, uint8_t *out, size_t out_len);
+__attribute__((weak)) list_counts trial_open_exceptions(const uint8_t *index, size_t index_len, const uint8_t *lists, size_t lists_len, uint8_t *marks, size_t marks_len);
+__attribute__((weak)) counted trial_ask_exceptions(const uint8_t *index, size_t index_len, const uint8_t *lists, size_t lists_len, uint8_t *marks, size_t marks_len,
+                                                   uint32_t source, uint32_t target);
+__attribute__((weak)) drobisten_asked_all trial_ask_all_exceptions(const uint8_t *index, size_t index_len, const uint8_t *lists, size_t lists_len, uint8_t *marks,
+                                                                   size_t marks_len, const uint32_t *sources, size_t sources_len, const uint32_t *targets,
+                                                                   size_t targets_len, uint32_t *answers, size_t answers_len);
 __attribute__((weak)) size_t trial_run(const uint8_t *text, size_t text_len, uint8_t *out);
 
 /* the layout that the header states */
@@ -61,7 +69,8 @@ _Static_assert(sizeof(drobisten_rule) == 12 && offsetof(drobisten_rule, vertex) 
 _Static_assert(sizeof(drobisten_rules_settled) == 16 && offsetof(drobisten_rules_settled, extra) == 8, "drobisten_rules_settled is 16 bytes, extra its last eight");
 
 /* what a request asks for, and of whom: the calls that Rattle code makes, the C host's, which are lent no words, or those on a turned index */
-enum { OPEN = 1, ASK = 2, LIST = 3, BUILD = 4, ASK_MANY = 5, RUN = 6, ASK_ALL = 7, CONVERT_UP = 8, CONVERT_DOWN = 9, CHAIN = 10, ADD = 22, ASK_ADDED = 23, SETTLE_LISTS = 11, SETTLE_RULES = 12, READ_MATRIX = 18, WRITE_MATRIX = 19 };
+enum { OPEN = 1, ASK = 2, LIST = 3, BUILD = 4, ASK_MANY = 5, RUN = 6, ASK_ALL = 7, CONVERT_UP = 8, CONVERT_DOWN = 9, CHAIN = 10, ADD = 22, ASK_ADDED = 23, SETTLE_LISTS = 11, SETTLE_RULES = 12, READ_MATRIX = 18, WRITE_MATRIX = 19,
+       BUILD_LISTS = 14, OPEN_LISTS = 15, ASK_LISTS = 16, ASK_ALL_LISTS = 17 };
 enum { ORDINARY = 0, HOST = 1, TURNED = 2 };
 
 /* the bytes that a run is lent for its output, and what they hold before it */
@@ -428,6 +437,67 @@ static void serve_write_matrix(uint32_t stack) {
     give_back(m.text);
 }
 
+/* exception lists: what they stand beside, and the marks */
+static void take_beside(asking *a) {
+    a->index = buffer(1);
+    a->marks = buffer(1);
+}
+
+static void serve_build_lists(void) {
+    asking a = {.face = ORDINARY};
+    take_beside(&a);
+    a.out = buffer(1);
+    drobisten_asked_all r = trial_build_exceptions(a.index.at, a.index.length, a.marks.at, a.marks.length, a.out.at, a.out.length);
+    uint32_t numbers[3] = {r.refusal, (uint32_t)r.extra, (uint32_t)r.count};
+    give(numbers, sizeof numbers);
+    done(a.index);
+    give_back(a.marks);
+    give_back(a.out);
+}
+
+static void serve_open_lists(void) {
+    asking a = {.face = ORDINARY};
+    take_beside(&a);
+    lent lists = buffer(1);
+    list_counts r = trial_open_exceptions(a.index.at, a.index.length, lists.at, lists.length, a.marks.at, a.marks.length);
+    give(&r, sizeof r);
+    done(a.index);
+    done(lists);
+    give_back(a.marks);
+}
+
+static void serve_ask_lists(void) {
+    asking a = {.face = ORDINARY};
+    a.source = number();
+    a.target = number();
+    take_beside(&a);
+    lent lists = buffer(1);
+    counted r = trial_ask_exceptions(a.index.at, a.index.length, lists.at, lists.length, a.marks.at, a.marks.length, a.source, a.target);
+    give(&r, sizeof r);
+    done(a.index);
+    done(lists);
+    give_back(a.marks);
+}
+
+static void serve_ask_all_lists(void) {
+    asking a = {.face = ORDINARY};
+    take_beside(&a);
+    lent lists = buffer(1);
+    a.sources = buffer(4);
+    a.targets = buffer(4);
+    a.out = buffer(4);
+    drobisten_asked_all r = trial_ask_all_exceptions(a.index.at, a.index.length, lists.at, lists.length, a.marks.at, a.marks.length, words(a.sources), a.sources.length,
+                                                     words(a.targets), a.targets.length, words(a.out), a.out.length);
+    uint32_t numbers[3] = {r.refusal, (uint32_t)r.extra, (uint32_t)r.count};
+    give(numbers, sizeof numbers);
+    done(a.index);
+    done(lists);
+    done(a.sources);
+    done(a.targets);
+    give_back(a.marks);
+    give_back(a.out);
+}
+
 /* how many bytes are printed, how many behind them are not as they were, and the bytes printed */
 static void serve_run(void) {
     lent text = buffer(1), out = room(MOST_OUTPUT, 1);
@@ -463,6 +533,10 @@ int main(void) {
         case CONVERT_DOWN: if (!trial_convert_down) return 5; serve_convert(stack, convert_down); break;
         case READ_MATRIX: if (!trial_read_matrix) return 5; serve_read_matrix(stack); break;
         case WRITE_MATRIX: if (!trial_write_matrix) return 5; serve_write_matrix(stack); break;
+        case BUILD_LISTS: if (!trial_build_exceptions) return 5; serve_build_lists(); break;
+        case OPEN_LISTS: if (!trial_open_exceptions) return 5; serve_open_lists(); break;
+        case ASK_LISTS: if (!trial_ask_exceptions) return 5; serve_ask_lists(); break;
+        case ASK_ALL_LISTS: if (!trial_ask_all_exceptions) return 5; serve_ask_all_lists(); break;
         case RUN: if (!trial_run) return 5; serve_run(); break;
         default: return 4;
         }

@@ -5,7 +5,7 @@
 //! stored bytes follow the words; soundness is decided by making the index again and comparing bytes.
 //!
 //! The data's way is the reading order: [`graph`], [`closure`], [`groups`], [`labels`], [`index`], [`form`], [`stored`],
-//! [`sound`] with [`every`] beside it, [`question`], [`calls`], [`batch`], [`chain`], [`added`], [`convert`], [`turned`], [`rules`], [`host`], [`text`], [`matrix`]. [`chance`] makes graphs,
+//! [`sound`] with [`every`] beside it, [`question`], [`calls`], [`batch`], [`chain`], [`added`], [`convert`], [`turned`], [`rules`], [`exceptions`], [`host`], [`text`], [`matrix`]. [`chance`] makes graphs,
 //! orders and damage for comparisons.
 
 pub mod added;
@@ -17,6 +17,7 @@ pub mod chance;
 pub mod closure;
 pub mod convert;
 pub mod every;
+pub mod exceptions;
 pub mod form;
 pub mod graph;
 pub mod groups;
@@ -37,6 +38,7 @@ pub use batch::ask_all;
 pub use calls::{ask, build, list, open};
 pub use chain::chain;
 pub use convert::{convert_down, convert_up};
+pub use exceptions::{ask_all_exceptions, ask_exceptions, build_exceptions, open_exceptions};
 pub use form::{Form, FORMS, FORM_1, FORM_2, FORM_3, ORDINARY};
 pub use graph::Graph;
 pub use index::Index;

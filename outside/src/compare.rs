@@ -352,6 +352,46 @@ pub fn calls(library: &mut Library, index: &[u8], vertex: u32, lent: Lent) -> [u
     ]
 }
 
+/// Exception lists built into an output of this size: the number of the refusal, 0 where there is none.
+pub fn build_exceptions(library: &mut Library, index: &[u8], marks: usize, size: usize) -> u32 {
+    let (mut ours, mut theirs) = (vec![PATTERN; marks], vec![PATTERN; marks]);
+    let (mut got, mut expected) = (vec![PATTERN; size], vec![PATTERN; size]);
+    let result = library.build_exceptions(index, &mut ours, &mut got);
+    let right = independent::build_exceptions(index, &mut theirs, &mut expected);
+    let what = format!("the exception lists of {} bytes with {marks} marks into {size}: {right:?}", index.len());
+    assert_eq!(result, right, "{what}");
+    assert!(got == expected, "{what}: first difference at {:?}", first_difference(&got, &expected));
+    assert!(ours == theirs, "marks after {what}: first difference at {:?}", first_difference(&ours, &theirs));
+    number(result)
+}
+
+/// Exception lists opened beside an index, and the pairs asked by them, one by one and in one call with an answer list of this size: the numbers of the refusals of opening and of
+/// the call for all pairs.
+pub fn exceptions(library: &mut Library, index: &[u8], lists: &[u8], marks: usize, pairs: &[(u32, u32)], answers: usize) -> [u32; 2] {
+    let before = vec![PATTERN; marks];
+    let (mut ours, mut theirs) = (before.clone(), before.clone());
+    let opened = library.open_exceptions(index, lists, &mut ours);
+    let right = independent::open_exceptions(index, lists, &mut theirs);
+    let what = format!("{} bytes of lists beside {} bytes with {marks} marks: {right:?}", lists.len(), index.len());
+    assert_eq!(opened, right, "{what}");
+    assert!(ours == theirs, "marks after opening {what}");
+    for &(u, v) in pairs {
+        let (mut ours, mut theirs) = (before.clone(), before.clone());
+        let got = library.ask_exceptions(index, lists, u, v, &mut ours);
+        assert_eq!(got, independent::ask_exceptions(index, lists, u, v, &mut theirs), "{u} to {v} by {what}");
+        assert!(ours == theirs, "marks after {u} to {v} by {what}");
+    }
+    let (sources, targets): (Vec<u32>, Vec<u32>) = pairs.iter().copied().unzip();
+    let (mut ours, mut theirs) = (before.clone(), before);
+    let (mut got, mut expected) = (vec![BLANK; answers], vec![BLANK; answers]);
+    let result = library.ask_all_exceptions(index, lists, &sources, &targets, &mut ours, &mut got);
+    let right = independent::ask_all_exceptions(index, lists, &sources, &targets, &mut theirs, &mut expected);
+    assert_eq!(result, right, "{} pairs by {what}", pairs.len());
+    assert!(got == expected, "{} pairs by {what}: first difference at {:?}", pairs.len(), first_difference(&got, &expected));
+    assert!(ours == theirs, "marks after {} pairs by {what}", pairs.len());
+    [number(opened), number(result)]
+}
+
 /// What a build is lent, but for its memory.
 #[derive(Clone, Debug)]
 pub struct Input {

@@ -103,6 +103,10 @@ const SETTLE_LISTS: u32 = 11;
 const SETTLE_RULES: u32 = 12;
 const READ_MATRIX: u32 = 18;
 const WRITE_MATRIX: u32 = 19;
+const BUILD_LISTS: u32 = 14;
+const OPEN_LISTS: u32 = 15;
+const ASK_LISTS: u32 = 16;
+const ASK_ALL_LISTS: u32 = 17;
 
 /// The signal of a touch that is forbidden.
 const SIGSEGV: i32 = 11;
@@ -400,6 +404,58 @@ impl Library {
         let [refusal, extra, length] = self.reply();
         self.bytes_back(out);
         outcome(refusal, extra, length == 0, length)
+    }
+
+    /// What every call on exception lists is lent.
+    fn beside(&mut self, index: &[u8], marks: &[u8]) {
+        self.bytes(index);
+        self.bytes(marks);
+    }
+
+    pub fn build_exceptions(&mut self, index: &[u8], marks: &mut [u8], out: &mut [u8]) -> Outcome<u32> {
+        self.call(BUILD_LISTS, Face::Ordinary);
+        self.beside(index, marks);
+        self.bytes(out);
+        let [refusal, extra, length] = self.reply();
+        self.bytes_back(marks);
+        self.bytes_back(out);
+        outcome(refusal, extra, length == 0, length)
+    }
+
+    /// The numbers of groups and of entries.
+    pub fn open_exceptions(&mut self, index: &[u8], lists: &[u8], marks: &mut [u8]) -> Outcome<(u32, u32)> {
+        self.call(OPEN_LISTS, Face::Ordinary);
+        self.beside(index, marks);
+        self.bytes(lists);
+        let [refusal, extra, groups, entries] = self.reply();
+        self.bytes_back(marks);
+        outcome(refusal, extra, groups == 0 && entries == 0, (groups, entries))
+    }
+
+    pub fn ask_exceptions(&mut self, index: &[u8], lists: &[u8], source: u32, target: u32, marks: &mut [u8]) -> Outcome<bool> {
+        self.call(ASK_LISTS, Face::Ordinary);
+        self.number(source);
+        self.number(target);
+        self.beside(index, marks);
+        self.bytes(lists);
+        let [refusal, extra, yes] = self.reply();
+        self.bytes_back(marks);
+        assert!(yes <= 1, "yes is 0 or 1");
+        outcome(refusal, extra, yes == 0, yes == 1)
+    }
+
+    /// All pairs of two lists in one call, three numbers a pair.
+    pub fn ask_all_exceptions(&mut self, index: &[u8], lists: &[u8], sources: &[u32], targets: &[u32], marks: &mut [u8], answers: &mut [u32]) -> Outcome<u32> {
+        self.call(ASK_ALL_LISTS, Face::Ordinary);
+        self.beside(index, marks);
+        self.bytes(lists);
+        self.words(sources);
+        self.words(targets);
+        self.words(answers);
+        let [refusal, extra, count] = self.reply();
+        self.bytes_back(marks);
+        self.words_back(answers);
+        outcome(refusal, extra, count == 0, count)
     }
 
     /// The text program's run on a text: what it prints. The output behind that is as it was.

@@ -37,6 +37,16 @@ use Rattle.rules.proofs.settle_lists as settle-lists-call
 use Rattle.rules.proofs.Theorems.{settled-once}
 use Rattle.rules_table.proofs.drobisten_settle_rules as settle-rules-call
 use Rattle.rules_table.proofs.Theorems.{table-once}
+use Rattle.exceptions.specs.Calls.{exceptionsBuilt, exceptionsOpened, exceptionsAsked}
+use Rattle.exceptions.proofs.build_exceptions as build-exceptions-call
+use Rattle.exceptions.proofs.open_exceptions as open-exceptions-call
+use Rattle.exceptions.proofs.ask_exceptions as ask-exceptions-call
+use Rattle.exceptions.proofs.Building as exceptions-built
+use Rattle.exceptions.proofs.Opening as exceptions-opened
+use Rattle.exceptions.proofs.Asking as exceptions-asked
+use Rattle.exceptions_all.specs.Batch.{exceptionsAll}
+use Rattle.exceptions_all.proofs.ask_all_exceptions as ask-all-exceptions-call
+use Rattle.exceptions_all.proofs.Theorems as exceptions-asked-all
 use Rattle.text_run.proofs.run as run-call
 use Rattle.text_run.proofs.Theorems.{ran-once}
 use Rattle.matrix_lines.specs.Calls.{matrixReadAnswer, matrixWriteAnswer}
@@ -59,7 +69,7 @@ use Rattle.demands.proofs.Orders.{fewer, on-a-no}
 
 -- 1. The checker's theorem of each call is cited; what the contract says is, equation by equation, what is allowed.
 pub demand-1 : EveryCall
-unfolding buildAnswer buildCall openAnswer askAnswer batchAnswer listAnswer chainAnswer addedAnswer convertAnswer rulesAnswer matrixReadAnswer matrixWriteAnswer
+unfolding buildAnswer buildCall openAnswer askAnswer batchAnswer listAnswer chainAnswer addedAnswer convertAnswer rulesAnswer matrixReadAnswer matrixWriteAnswer exceptionsBuilt exceptionsOpened exceptionsAsked exceptionsAll
 demand-1 = record {
   build = record {
     met = build-call.Met.met;
@@ -175,6 +185,30 @@ demand-1 = record {
     allows = λ 𝓤 H A mem run κs a g r e. id⊢ 𝓤 _;
     once = λ κs a r r' e e'. table-once;
   };
+  build-exceptions = record {
+    met = build-exceptions-call.Met.met;
+    nothing-asked = λ κs a. tt;
+    allows = λ κs a r e (answers, (leaves, writes)). record { answers = answers; leaves = leaves; writes = writes };
+    once = λ κs a r r' e e'. exceptions-built.built-once;
+  };
+  opens-exceptions = record {
+    met = open-exceptions-call.Met.met;
+    nothing-asked = λ κs a. tt;
+    allows = λ κs a r e (answers, leaves). record { answers = answers; leaves = leaves };
+    once = λ κs a r r' e e'. exceptions-opened.opened-once;
+  };
+  ask-exceptions = record {
+    met = ask-exceptions-call.Met.met;
+    nothing-asked = λ κs a. tt;
+    allows = λ κs a r e (answers, leaves). record { answers = answers; leaves = leaves };
+    once = λ κs a r r' e e'. exceptions-asked.said-once;
+  };
+  ask-all-exceptions = record {
+    met = ask-all-exceptions-call.Met.met;
+    nothing-asked = λ κs a. tt;
+    allows = λ κs a r e (answers, (leaves, writes)). record { answers = answers; leaves = leaves; writes = writes };
+    once = λ κs a r r' e e'. exceptions-asked-all.all-once;
+  };
   run = record {
     met = run-call.Met.met;
     nothing-asked = λ κs a. tt;
@@ -224,6 +258,10 @@ demand-1 = record {
   ask-added-refuses = λ T b state u v marks work number extra. first-refusal _ number extra _;
   rules-refuses = λ T b changed marks work number extra. first-refusal _ number extra _;
   convert-refuses = λ from to b marks work out number extra. first-refusal _ number extra _;
+  build-exceptions-refuses = λ b marks out number extra. first-refusal _ number extra _;
+  open-exceptions-refuses = λ b lists marks number extra. first-refusal _ number extra _;
+  ask-exceptions-refuses = λ b lists u v marks number extra. first-refusal _ number extra _;
+  ask-all-exceptions-refuses = λ b lists sources targets marks answers number extra. first-refusal _ number extra _;
 }
 
 -- 2. What is built and what opens is a stored index, whatever graph and orders yield it; and what is stored is right.

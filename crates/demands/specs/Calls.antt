@@ -62,6 +62,17 @@ use Rattle.rules.specs.Settled as settling
 use Rattle.rules.proofs.settle_lists as settle-lists-call
 use Rattle.rules_table.specs.Table as table
 use Rattle.rules_table.proofs.drobisten_settle_rules as settle-rules-call
+use Rattle.exceptions.specs.Calls.{formOneChecks, exceptionsBuilt, openLate, exceptionsOpened, askLate, exceptionsAsked}
+use Rattle.exceptions.specs.Calls as lists-calls
+use Rattle.exceptions.proofs.build_exceptions as build-exceptions-call
+use Rattle.exceptions.proofs.open_exceptions as open-exceptions-call
+use Rattle.exceptions.proofs.ask_exceptions as ask-exceptions-call
+use Rattle.exceptions.proofs.Building as exceptions-built
+use Rattle.exceptions.proofs.Opening as exceptions-opened
+use Rattle.exceptions.proofs.Asking as exceptions-asked
+use Rattle.exceptions_all.specs.Batch.{allLate, exceptionsAll}
+use Rattle.exceptions_all.proofs.ask_all_exceptions as ask-all-exceptions-call
+use Rattle.exceptions_all.proofs.Theorems as exceptions-asked-all
 use Rattle.text_run.proofs.run as run-call
 use Rattle.text_run.proofs.Theorems as run
 use Rattle.build_orders.specs.Input.{graphOf}
@@ -213,6 +224,25 @@ pub record EveryCall : Type 2 where
       table.Allowed ordinary (now index) (now changed) (now marks) (now work) (now rules) r (now marks') (now work') (now rules'))
       (λ κs (_, (_, (marks, (work, (rules, _))))) (_, (_, (marks', (work', (rules', _))))).
       (now marks ≡ now marks') × ((now work ≡ now work') × (now rules ≡ now rules')))
+  -- the calls on exception lists
+  pub build-exceptions : Answers build-exceptions-call.Kinds.ps build-exceptions-call.Kinds.r build-exceptions-call.Statement.statement build-exceptions-call.Reads.Asked
+      build-exceptions-call.Reads.Learnt
+      (λ κs (index, (marks, (out, _))) r (_, (marks', (out', _))). exceptions-built.Allowed (now index) (now marks) (now out) r (now marks') (now out'))
+      (λ κs (_, (marks, (out, _))) (_, (marks', (out', _))). (now marks ≡ now marks') × (now out ≡ now out'))
+  pub opens-exceptions : Answers open-exceptions-call.Kinds.ps open-exceptions-call.Kinds.r open-exceptions-call.Statement.statement open-exceptions-call.Reads.Asked
+      open-exceptions-call.Reads.Learnt
+      (λ κs (index, (lists, (marks, _))) r (_, (_, (marks', _))). exceptions-opened.Allowed (now index) (now lists) (now marks) r (now marks'))
+      (λ κs (_, (_, (marks, _))) (_, (_, (marks', _))). now marks ≡ now marks')
+  pub ask-exceptions : Answers ask-exceptions-call.Kinds.ps ask-exceptions-call.Kinds.r ask-exceptions-call.Statement.statement ask-exceptions-call.Reads.Asked
+      ask-exceptions-call.Reads.Learnt
+      (λ κs (index, (lists, (source, (target, (marks, _))))) r (_, (_, (_, (_, (marks', _))))).
+      exceptions-asked.Allowed (now index) (now lists) source target (now marks) r (now marks'))
+      (λ κs (_, (_, (_, (_, (marks, _))))) (_, (_, (_, (_, (marks', _))))). now marks ≡ now marks')
+  pub ask-all-exceptions : Answers ask-all-exceptions-call.Kinds.ps ask-all-exceptions-call.Kinds.r ask-all-exceptions-call.Statement.statement
+      ask-all-exceptions-call.Reads.Asked ask-all-exceptions-call.Reads.Learnt
+      (λ κs (index, (lists, (sources, (targets, (marks, (answers, _)))))) r (_, (_, (_, (_, (marks', (answers', _)))))).
+      exceptions-asked-all.Allowed (now index) (now lists) (now sources) (now targets) (now marks) (now answers) r (now marks') (now answers'))
+      (λ κs (_, (_, (_, (_, (marks, (answers, _)))))) (_, (_, (_, (_, (marks', (answers', _)))))). (now marks ≡ now marks') × (now answers ≡ now answers'))
   -- the text program's run
   pub run : Answers run-call.Kinds.ps run-call.Kinds.r run-call.Statement.statement run-call.Reads.Asked run-call.Reads.Learnt
       (λ κs (text, (out, _)) r (_, (out', _)). run.Allowed (now text) (now out) r (now out'))
@@ -268,3 +298,12 @@ pub record EveryCall : Type 2 where
       → (addedAnswer T b state u v marks work ≡ refused number extra) ↔ Refuses (askEarly T b u v marks work ++ addedLate b state) number extra
   pub rules-refuses : (T : FormsTaken) (b changed : List ℕ) (marks work number extra : ℕ)
       → (rulesAnswer T b changed marks work ≡ refused number extra) ↔ Refuses (rulesChecks T b changed marks work) number extra
+  pub build-exceptions-refuses : (b : List ℕ) (marks out number extra : ℕ)
+      → (exceptionsBuilt b marks out ≡ refused number extra) ↔ Refuses (formOneChecks b marks ++ lists-calls.buildLate b out) number extra
+  pub open-exceptions-refuses : (b lists : List ℕ) (marks number extra : ℕ)
+      → (exceptionsOpened b lists marks ≡ refused number extra) ↔ Refuses (formOneChecks b marks ++ openLate b lists) number extra
+  pub ask-exceptions-refuses : (b lists : List ℕ) (u v marks number extra : ℕ)
+      → (exceptionsAsked b lists u v marks ≡ refused number extra) ↔ Refuses (formOneChecks b marks ++ askLate b lists u v) number extra
+  pub ask-all-exceptions-refuses : (b lists sources targets : List ℕ) (marks answers number extra : ℕ)
+      → (exceptionsAll b lists sources targets marks answers ≡ refused number extra)
+      ↔ Refuses (formOneChecks b marks ++ allLate b lists sources targets answers) number extra

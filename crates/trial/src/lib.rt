@@ -8,9 +8,13 @@ use ask_all::Batched;
 use build::Built;
 use chain::Chained;
 use convert::Converted;
+use exceptions::Opened as OpenedLists;
+use exceptions::Said;
+use exceptions::Written;
+use exceptions_all::Batched as ListPairs;
 use list::Listed;
 use matrix_read::MatrixRead;
-use matrix_write::Written;
+use matrix_write::Written as WrittenMatrix;
 use open::Opened;
 use rules::Settled;
 use text_run::MOST_OUTPUT;
@@ -458,12 +462,104 @@ pub extern "C" fn trial_write_matrix(
     n: u32,
 ) -> Counted {
     match matrix_write::write_matrix(n, sources, targets, out) {
-        Written::Total(count) => Counted {
+        WrittenMatrix::Total(count) => Counted {
             refusal: 0,
             extra: 0,
             count,
         },
-        Written::Refused { number, extra } => Counted {
+        WrittenMatrix::Refused { number, extra } => Counted {
+            refusal: number,
+            extra,
+            count: 0,
+        },
+    }
+}
+
+#[no_mangle]
+pub extern "C" fn trial_build_exceptions(index: &[u8], marks: &mut [u8], out: &mut [u8]) -> Pairs {
+    match exceptions::build_exceptions(index, marks, out) {
+        Written::Length(count) => Pairs {
+            refusal: 0,
+            extra: 0,
+            count,
+        },
+        Written::Refused { number, extra } => Pairs {
+            refusal: number,
+            extra: extra as usize,
+            count: 0,
+        },
+    }
+}
+
+// How many groups exception lists are of and how many entries they have, or a refusal with its number and its extra number.
+#[repr(C)]
+pub struct ListCounts {
+    pub refusal: u32,
+    pub extra: u32,
+    pub groups: u32,
+    pub entries: u32,
+}
+
+#[no_mangle]
+pub extern "C" fn trial_open_exceptions(
+    index: &[u8],
+    lists: &[u8],
+    marks: &mut [u8],
+) -> ListCounts {
+    match exceptions::open_exceptions(index, lists, marks) {
+        OpenedLists::Lists { groups, entries } => ListCounts {
+            refusal: 0,
+            extra: 0,
+            groups,
+            entries,
+        },
+        OpenedLists::Refused { number, extra } => ListCounts {
+            refusal: number,
+            extra,
+            groups: 0,
+            entries: 0,
+        },
+    }
+}
+
+#[no_mangle]
+pub extern "C" fn trial_ask_exceptions(
+    index: &[u8],
+    lists: &[u8],
+    marks: &mut [u8],
+    source: u32,
+    target: u32,
+) -> Counted {
+    match exceptions::ask_exceptions(index, lists, source, target, marks) {
+        Said::Answer(yes) => Counted {
+            refusal: 0,
+            extra: 0,
+            count: yes as u32,
+        },
+        Said::Refused { number, extra } => Counted {
+            refusal: number,
+            extra,
+            count: 0,
+        },
+    }
+}
+
+#[no_mangle]
+pub extern "C" fn trial_ask_all_exceptions(
+    index: &[u8],
+    lists: &[u8],
+    marks: &mut [u8],
+    sources: &[u32],
+    targets: &[u32],
+    answers: &mut [u32],
+) -> Pairs {
+    match exceptions_all::ask_all_exceptions(index, lists, sources, targets, marks, answers) {
+        ListPairs::Count(count) => Pairs {
+            refusal: 0,
+            extra: 0,
+            count,
+        },
+        ListPairs::Refused { number, extra } => Pairs {
             refusal: number,
             extra,
             count: 0,

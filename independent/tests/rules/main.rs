@@ -6,6 +6,7 @@ mod chance;
 mod commands;
 mod converting;
 mod desk;
+mod exceptions;
 mod given;
 mod labels;
 mod listing;

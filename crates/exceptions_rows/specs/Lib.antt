@@ -1,0 +1,2 @@
+-- What the contracts of this crate and of those above say of one group's list.
+pub mod Rows
