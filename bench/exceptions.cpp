@@ -16,7 +16,7 @@ struct lists_opened {
 struct counted {
     uint32_t refusal, extra, count;
 };
-drobisten_asked_all trial_build_exceptions(const uint8_t *index, size_t index_len, uint8_t *marks, size_t marks_len, uint8_t *out, size_t out_len);
+counted trial_build_exceptions(const uint8_t *index, size_t index_len, uint8_t *marks, size_t marks_len, uint8_t *out, size_t out_len);
 lists_opened trial_open_exceptions(const uint8_t *index, size_t index_len, const uint8_t *lists, size_t lists_len, uint8_t *marks, size_t marks_len);
 counted trial_ask_exceptions(const uint8_t *index, size_t index_len, const uint8_t *lists, size_t lists_len, uint8_t *marks, size_t marks_len, uint32_t source,
                              uint32_t target);
@@ -90,7 +90,7 @@ static void lists(Where w, Case &c) {
     theirs.build(c.grail);
     c.lists.assign(4 * theirs.numbers.size(), 0);
     auto ours = [&] {
-        drobisten_asked_all r = trial_build_exceptions(c.index.data(), c.index.size(), c.marks.data(), w.n, c.lists.data(), c.lists.size());
+        counted r = trial_build_exceptions(c.index.data(), c.index.size(), c.marks.data(), w.n, c.lists.data(), c.lists.size());
         must(r.refusal == 0 && r.count == c.lists.size(), "building lists is refused");
     };
     auto open = [&] { must(trial_open_exceptions(c.index.data(), c.index.size(), c.lists.data(), c.lists.size(), c.marks.data(), w.n).refusal == 0, "lists are refused"); };

@@ -10,7 +10,7 @@
 #include <sys/mman.h>
 #include <unistd.h>
 
-/* the calls that take stored forms 1 and 2, those on a turned index and on exception lists, list, chain, those on added edges, build, the rule desk's over parallel lists, Matrix Market files and the text program's run are exported for
+/* the calls that take stored forms 1 and 2, those on a turned index and on exception lists or a plain hierarchy, list, chain, those on added edges, build, the rule desk's over parallel lists, Matrix Market files and the text program's run are exported for
  * these tests alone (crate trial); where one is not linked, a request for it ends this process */
 typedef struct { uint32_t refusal, extra, count; } counted;
 typedef struct { uint32_t refusal, extra, yes, steps; } chain_of;
@@ -39,6 +39,16 @@ __attribute__((weak)) counted trial_list_turned(const uint8_t *index, size_t ind
 __attribute__((weak)) counted trial_build_turned(const uint32_t *sources, size_t sources_len, const uint32_t *targets, size_t targets_len,
                                                  const uint32_t *orders, size_t orders_len, uint32_t *work, size_t work_len, uint8_t *out, size_t out_len,
                                                  uint32_t n, uint32_t d);
+__attribute__((weak)) drobisten_opened trial_open_hierarchy(const uint8_t *index, size_t index_len, uint8_t *marks, size_t marks_len, uint32_t *work, size_t work_len);
+__attribute__((weak)) drobisten_asked trial_ask_hierarchy(const uint8_t *index, size_t index_len, uint8_t *marks, size_t marks_len, uint32_t *work, size_t work_len,
+                                                          uint32_t source, uint32_t target);
+__attribute__((weak)) counted trial_build_hierarchy(const uint32_t *sources, size_t sources_len, const uint32_t *targets, size_t targets_len,
+                                                    const uint32_t *orders, size_t orders_len, uint32_t *work, size_t work_len, uint8_t *out, size_t out_len,
+                                                    uint32_t n, uint32_t d);
+__attribute__((weak)) counted trial_to_hierarchy(const uint8_t *index, size_t index_len, uint8_t *marks, size_t marks_len, uint32_t *work, size_t work_len, uint8_t *out,
+                                                 size_t out_len);
+__attribute__((weak)) counted trial_from_hierarchy(const uint8_t *index, size_t index_len, uint8_t *marks, size_t marks_len, uint32_t *work, size_t work_len, uint8_t *out,
+                                                   size_t out_len);
 __attribute__((weak)) chain_of trial_chain(const uint8_t *index, size_t index_len, uint8_t *marks, size_t marks_len, uint32_t *work, size_t work_len, uint32_t *steps,
                                            size_t steps_len, uint32_t source, uint32_t target);
 __attribute__((weak)) more trial_add(edges added, uint32_t n, uint32_t from, uint32_t to);
@@ -53,7 +63,7 @@ __attribute__((weak)) drobisten_rules_settled trial_settle_lists(const uint8_t *
 __attribute__((weak)) edges_of trial_read_matrix(const uint8_t *text, size_t text_len, uint32_t *sources, size_t sources_len, uint32_t *targets, size_t targets_len);
 __attribute__((weak)) counted trial_write_matrix(const uint32_t *sources, size_t sources_len, const uint32_t *targets, size_t targets_len, uint8_t *out, size_t out_len,
                                                  uint32_t n);
-__attribute__((weak)) drobisten_asked_all trial_build_exceptions(const uint8_t *index, size_t index_len, uint8_t *marks, size_t marks_len, uint8_t *out, size_t out_len);
+__attribute__((weak)) counted trial_build_exceptions(const uint8_t *index, size_t index_len, uint8_t *marks, size_t marks_len, uint8_t *out, size_t out_len);
 __attribute__((weak)) list_counts trial_open_exceptions(const uint8_t *index, size_t index_len, const uint8_t *lists, size_t lists_len, uint8_t *marks, size_t marks_len);
 __attribute__((weak)) counted trial_ask_exceptions(const uint8_t *index, size_t index_len, const uint8_t *lists, size_t lists_len, uint8_t *marks, size_t marks_len,
                                                    uint32_t source, uint32_t target);
@@ -68,10 +78,10 @@ _Static_assert(sizeof(drobisten_asked) == 24 && offsetof(drobisten_asked, labell
 _Static_assert(sizeof(drobisten_rule) == 12 && offsetof(drobisten_rule, vertex) == 4 && offsetof(drobisten_rule, state) == 8, "drobisten_rule is 12 bytes, three numbers");
 _Static_assert(sizeof(drobisten_rules_settled) == 16 && offsetof(drobisten_rules_settled, extra) == 8, "drobisten_rules_settled is 16 bytes, extra its last eight");
 
-/* what a request asks for, and of whom: the calls that Rattle code makes, the C host's, which are lent no words, or those on a turned index */
+/* what a request asks for, and of whom: the calls that Rattle code makes, the C host's, which are lent no words, or those on a turned index or a plain hierarchy */
 enum { OPEN = 1, ASK = 2, LIST = 3, BUILD = 4, ASK_MANY = 5, RUN = 6, ASK_ALL = 7, CONVERT_UP = 8, CONVERT_DOWN = 9, CHAIN = 10, ADD = 22, ASK_ADDED = 23, SETTLE_LISTS = 11, SETTLE_RULES = 12, READ_MATRIX = 18, WRITE_MATRIX = 19,
-       BUILD_LISTS = 14, OPEN_LISTS = 15, ASK_LISTS = 16, ASK_ALL_LISTS = 17 };
-enum { ORDINARY = 0, HOST = 1, TURNED = 2 };
+       BUILD_LISTS = 14, OPEN_LISTS = 15, ASK_LISTS = 16, ASK_ALL_LISTS = 17, TO_HIERARCHY = 20, FROM_HIERARCHY = 21 };
+enum { ORDINARY = 0, HOST = 1, TURNED = 2, HIERARCHY = 3 };
 
 /* the bytes that a run is lent for its output, and what they hold before it */
 enum { MOST_OUTPUT = 338582, PATTERN = 0xa5 };
@@ -148,16 +158,19 @@ typedef struct {
 static void *open_index(void *job) {
     asking *a = job;
     a->r.opened = a->face == HOST ? drobisten_open(a->index.at, a->index.length, a->marks.at, a->marks.length)
-                                  : (a->face == TURNED ? trial_open_turned : trial_open)(a->index.at, a->index.length, a->marks.at, a->marks.length,
-                                                                                         words(a->work), a->work.length);
+                                  : (a->face == TURNED      ? trial_open_turned
+                                     : a->face == HIERARCHY ? trial_open_hierarchy
+                                                            : trial_open)(a->index.at, a->index.length, a->marks.at, a->marks.length, words(a->work), a->work.length);
     return NULL;
 }
 
 static void *ask(void *job) {
     asking *a = job;
     a->r.asked = a->face == HOST ? drobisten_ask(a->index.at, a->index.length, a->marks.at, a->marks.length, a->source, a->target)
-                                 : (a->face == TURNED ? trial_ask_turned : trial_ask)(a->index.at, a->index.length, a->marks.at, a->marks.length,
-                                                                                      words(a->work), a->work.length, a->source, a->target);
+                                 : (a->face == TURNED      ? trial_ask_turned
+                                    : a->face == HIERARCHY ? trial_ask_hierarchy
+                                                           : trial_ask)(a->index.at, a->index.length, a->marks.at, a->marks.length, words(a->work), a->work.length,
+                                                                        a->source, a->target);
     return NULL;
 }
 
@@ -214,6 +227,19 @@ static void *convert_up(void *job) {
 static void *convert_down(void *job) {
     asking *a = job;
     a->r.converted = trial_convert_down(a->index.at, a->index.length, a->marks.at, a->marks.length, words(a->work), a->work.length, a->out.at, a->out.length);
+    return NULL;
+}
+
+/* form 2 turned into form 4, and back */
+static void *to_hierarchy(void *job) {
+    asking *a = job;
+    a->r.converted = trial_to_hierarchy(a->index.at, a->index.length, a->marks.at, a->marks.length, words(a->work), a->work.length, a->out.at, a->out.length);
+    return NULL;
+}
+
+static void *from_hierarchy(void *job) {
+    asking *a = job;
+    a->r.converted = trial_from_hierarchy(a->index.at, a->index.length, a->marks.at, a->marks.length, words(a->work), a->work.length, a->out.at, a->out.length);
     return NULL;
 }
 
@@ -368,14 +394,15 @@ typedef struct { uint32_t face, form, n, d; lent sources, targets, orders, work,
 
 static void *build(void *job) {
     building *b = job;
-    b->r = b->face == TURNED ? trial_build_turned(words(b->sources), b->sources.length, words(b->targets), b->targets.length, words(b->orders), b->orders.length,
-                                                  words(b->work), b->work.length, b->out.at, b->out.length, b->n, b->d)
-                             : trial_build(words(b->sources), b->sources.length, words(b->targets), b->targets.length, words(b->orders), b->orders.length,
-                                           words(b->work), b->work.length, b->out.at, b->out.length, b->form, b->n, b->d);
+    b->r = b->face == ORDINARY ? trial_build(words(b->sources), b->sources.length, words(b->targets), b->targets.length, words(b->orders), b->orders.length,
+                                             words(b->work), b->work.length, b->out.at, b->out.length, b->form, b->n, b->d)
+                               : (b->face == TURNED ? trial_build_turned : trial_build_hierarchy)(words(b->sources), b->sources.length, words(b->targets), b->targets.length,
+                                                                                                  words(b->orders), b->orders.length, words(b->work), b->work.length,
+                                                                                                  b->out.at, b->out.length, b->n, b->d);
     return NULL;
 }
 
-/* a turned build is told no form: the number that comes in its place is not looked at */
+/* the builds of a turned index and of a plain hierarchy are told no form: the number that comes in its place is not looked at */
 static void serve_build(uint32_t face, uint32_t stack) {
     building b;
     b.face = face;
@@ -447,9 +474,8 @@ static void serve_build_lists(void) {
     asking a = {.face = ORDINARY};
     take_beside(&a);
     a.out = buffer(1);
-    drobisten_asked_all r = trial_build_exceptions(a.index.at, a.index.length, a.marks.at, a.marks.length, a.out.at, a.out.length);
-    uint32_t numbers[3] = {r.refusal, (uint32_t)r.extra, (uint32_t)r.count};
-    give(numbers, sizeof numbers);
+    counted r = trial_build_exceptions(a.index.at, a.index.length, a.marks.at, a.marks.length, a.out.at, a.out.length);
+    give(&r, sizeof r);
     done(a.index);
     give_back(a.marks);
     give_back(a.out);
@@ -511,19 +537,21 @@ static void serve_run(void) {
 }
 
 /* whether the call is linked that this face makes */
-static int linked(uint32_t face, int ordinary, int host, int turned) { return face == HOST ? host : face == TURNED ? turned : ordinary; }
+static int linked(uint32_t face, int ordinary, int host, int turned, int hierarchy) {
+    return face == HOST ? host : face == TURNED ? turned : face == HIERARCHY ? hierarchy : ordinary;
+}
 
 int main(void) {
     uint32_t call;
     while (fread(&call, 4, 1, stdin) == 1) {
         uint32_t face = number(), stack = number();
         switch (call) {
-        case OPEN: if (!linked(face, trial_open != NULL, 1, trial_open_turned != NULL)) return 5; serve_open(face, stack); break;
-        case ASK: if (!linked(face, trial_ask != NULL, 1, trial_ask_turned != NULL)) return 5; serve_ask(face, stack); break;
-        case ASK_MANY: if (!linked(face, trial_ask != NULL, 1, trial_ask_turned != NULL)) return 5; serve_ask_many(face); break;
-        case ASK_ALL: if (!linked(face, trial_ask_all != NULL, 1, 0)) return 5; serve_ask_all(face, stack); break;
-        case LIST: if (!linked(face, trial_list != NULL, 0, trial_list_turned != NULL)) return 5; serve_list(face, stack); break;
-        case BUILD: if (!linked(face, trial_build != NULL, 0, trial_build_turned != NULL)) return 5; serve_build(face, stack); break;
+        case OPEN: if (!linked(face, trial_open != NULL, 1, trial_open_turned != NULL, trial_open_hierarchy != NULL)) return 5; serve_open(face, stack); break;
+        case ASK: if (!linked(face, trial_ask != NULL, 1, trial_ask_turned != NULL, trial_ask_hierarchy != NULL)) return 5; serve_ask(face, stack); break;
+        case ASK_MANY: if (!linked(face, trial_ask != NULL, 1, trial_ask_turned != NULL, trial_ask_hierarchy != NULL)) return 5; serve_ask_many(face); break;
+        case ASK_ALL: if (!linked(face, trial_ask_all != NULL, 1, 0, 0)) return 5; serve_ask_all(face, stack); break;
+        case LIST: if (!linked(face, trial_list != NULL, 0, trial_list_turned != NULL, 0)) return 5; serve_list(face, stack); break;
+        case BUILD: if (!linked(face, trial_build != NULL, 0, trial_build_turned != NULL, trial_build_hierarchy != NULL)) return 5; serve_build(face, stack); break;
         case CHAIN: if (!trial_chain) return 5; serve_chain(stack); break;
         case ADD: if (!trial_add) return 5; serve_add(); break;
         case ASK_ADDED: if (!trial_ask_added) return 5; serve_ask_added(stack); break;
@@ -537,6 +565,8 @@ int main(void) {
         case OPEN_LISTS: if (!trial_open_exceptions) return 5; serve_open_lists(); break;
         case ASK_LISTS: if (!trial_ask_exceptions) return 5; serve_ask_lists(); break;
         case ASK_ALL_LISTS: if (!trial_ask_all_exceptions) return 5; serve_ask_all_lists(); break;
+        case TO_HIERARCHY: if (!trial_to_hierarchy) return 5; serve_convert(stack, to_hierarchy); break;
+        case FROM_HIERARCHY: if (!trial_from_hierarchy) return 5; serve_convert(stack, from_hierarchy); break;
         case RUN: if (!trial_run) return 5; serve_run(); break;
         default: return 4;
         }

@@ -1,8 +1,6 @@
 //! The numbers of the documents that are the same for every stored form, each with one name. What a form decides is in
 //! [`crate::form`].
 
-pub const MOST_LABELLINGS: usize = 5;
-
 /// Twelve 32-bit numbers.
 pub const HEADER_BYTES: usize = 48;
 

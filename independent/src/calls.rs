@@ -1,8 +1,8 @@
 //! The four calls with the refusals of the documents, in their order, and what each leaves in lent memory. They take the
 //! stored forms 1 and 2; [`crate::host`] has those of the C host, which takes form 1 alone, [`crate::turned`] those on a turned
-//! index.
+//! index, [`crate::hierarchy`] those on a plain hierarchy.
 
-use crate::bounds::{work_words, MOST_LABELLINGS};
+use crate::bounds::work_words;
 use crate::form::{Form, ORDINARY};
 use crate::graph::{is_permutation, Graph};
 use crate::index::Index;
@@ -53,7 +53,7 @@ pub(crate) fn build_as(
     if sources.len() > form.most_edges {
         return refuse(3, 0);
     }
-    if !(1..=MOST_LABELLINGS).contains(&labellings) {
+    if !(1..=form.most_labellings).contains(&labellings) {
         return refuse(4, 0);
     }
     if orders.len() != labellings * vertices {
@@ -78,7 +78,11 @@ pub(crate) fn build_as(
         return refuse(8, order);
     }
     let graph = Graph::from_lists(n, sources, targets);
-    let bytes = encode(form, &Index::of(&graph, &orders));
+    let index = Index::of(&graph, &orders);
+    if let Some(name) = form.kept_out_by(&index.groups) {
+        return refuse(22, name);
+    }
+    let bytes = encode(form, &index);
     if out.len() < bytes.len() {
         return refuse(9, bytes.len());
     }

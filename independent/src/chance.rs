@@ -1,7 +1,7 @@
 //! Chance with a fixed seed: numbers, orders, graphs of several kinds, and damage to stored bytes. The same seed gives
 //! the same things on every machine, so a failure that is reported with its seed can be seen again.
 
-use crate::bounds::{HEADER_BYTES, MOST_LABELLINGS};
+use crate::bounds::HEADER_BYTES;
 use crate::form::{Form, FORMS, FORM_1, ORDINARY};
 use crate::graph::Graph;
 use crate::stored::{decode, encode, little_endian, Counts};
@@ -73,7 +73,7 @@ pub enum Damage {
     SwapFields,
     /// Two neighbouring fields behind the header exchanged.
     SwapNeighbours,
-    /// The triples and ranks of two places exchanged throughout one labelling.
+    /// The labels and ranks of two places exchanged throughout one labelling.
     SwapRanks,
     /// The last bytes cut off.
     Cut,
@@ -364,20 +364,21 @@ impl Chance {
     }
 
     fn swap_ranks(&mut self, bytes: &mut [u8]) {
-        let Ok((_, counts)) = Counts::read(bytes, &FORMS) else {
+        let Ok((form, counts)) = Counts::read(bytes, &FORMS) else {
             return;
         };
         if counts.k == 0 {
             return;
         }
         let mut fields = Fields::of(bytes);
-        let labels = counts.sections()[..5].iter().sum::<usize>();
-        let first = labels + 4 * counts.k * self.below(counts.d);
+        let labels = counts.sections(&form)[..5].iter().sum::<usize>();
+        let by_place = form.by_place();
+        let first = labels + (by_place + 1) * counts.k * self.below(counts.d);
         let (a, b) = (self.below(counts.k), self.below(counts.k));
-        for part in 0..3 {
-            fields.swap(first + 3 * a + part, first + 3 * b + part);
+        for part in 0..by_place {
+            fields.swap(first + by_place * a + part, first + by_place * b + part);
         }
-        for rank in first + 3 * counts.k..first + 4 * counts.k {
+        for rank in first + by_place * counts.k..first + (by_place + 1) * counts.k {
             let place = fields.get(rank);
             if place == a {
                 fields.set(rank, b);
@@ -395,13 +396,13 @@ impl Chance {
             n,
             k: self.between(0, n),
             c: self.between(0, most),
-            d: self.between(1, MOST_LABELLINGS),
+            d: self.between(1, form.most_labellings),
         };
         let mut bytes: Vec<u8> = Vec::new();
         for number in counts.header(&form) {
             bytes.extend(number.to_le_bytes());
         }
-        for _ in 0..counts.sections().iter().sum::<usize>() {
+        for _ in 0..counts.sections(&form).iter().sum::<usize>() {
             bytes.extend(&self.between(0, n + 1).to_le_bytes()[..form.width]);
         }
         bytes

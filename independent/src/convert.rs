@@ -17,7 +17,8 @@ pub fn convert_down(index: &[u8], marks: &mut [u8], words: &mut [u32], out: &mut
     convert(&FORM_2, &FORM_1, index, marks, words, out)
 }
 
-fn convert(
+/// Refusals beyond those of opening: 19 if n, k or c is beyond the other form, 4 and 22 by that form, then 9.
+pub(crate) fn convert(
     from: &Form,
     to: &Form,
     index: &[u8],
@@ -27,9 +28,15 @@ fn convert(
 ) -> Result<u32, Refusal> {
     let held = Held::of(&[*from], index, marks, words)?;
     let index = held.sound_or_refused(index, marks, words)?;
-    let Counts { n, k, c, .. } = held.counts;
+    let Counts { n, k, c, d } = held.counts;
     if n > to.most_vertices || k > to.most_vertices || c > to.most_child_entries {
         return refuse(19, 0);
+    }
+    if d > to.most_labellings {
+        return refuse(4, 0);
+    }
+    if let Some(name) = to.kept_out_by(&index.groups) {
+        return refuse(22, name);
     }
     let bytes = encode(to, &index);
     if out.len() < bytes.len() {

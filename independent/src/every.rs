@@ -9,13 +9,16 @@ use crate::labels::Labelling;
 use crate::stored::encode;
 use std::collections::BTreeSet;
 
-/// The images, in a form, of all graphs on n vertices under all choices of d orders. Repeated edges and self-loops change neither
+/// The images, in a form, of all graphs on n vertices that it takes, under all choices of d orders. Repeated edges and self-loops change neither
 /// what reaches what nor which groups are children, so sets of edges between different vertices give all images.
 pub fn every_image(form: &Form, n: usize, d: usize) -> BTreeSet<Vec<u8>> {
     let orders = every_order(n);
     let mut images = BTreeSet::new();
     for graph in every_graph(n) {
         let groups = Groups::of(&graph);
+        if form.kept_out_by(&groups).is_some() {
+            continue;
+        }
         let labellings: Vec<Labelling> = orders.iter().map(|order| Labelling::of(&groups, order)).collect();
         for choice in every_choice(&labellings, d) {
             let index = Index {

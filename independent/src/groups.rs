@@ -49,6 +49,14 @@ impl Groups {
             .filter(|place| !of_somebody.contains(place))
             .collect()
     }
+
+    /// The smallest name of a group that is a child of two others; none in a plain hierarchy.
+    pub fn two_parents(&self) -> Option<usize> {
+        let mut entries = vec![0; self.list.len()];
+        self.children.iter().flatten().for_each(|&child| entries[child] += 1);
+        let place = entries.iter().position(|&parents| parents > 1)?;
+        Some(self.list[place])
+    }
 }
 
 /// A group's name is its smallest vertex. A search goes down a path and keeps the vertices that it has come to and that are

@@ -5,7 +5,7 @@
 //! stored bytes follow the words; soundness is decided by making the index again and comparing bytes.
 //!
 //! The data's way is the reading order: [`graph`], [`closure`], [`groups`], [`labels`], [`index`], [`form`], [`stored`],
-//! [`sound`] with [`every`] beside it, [`question`], [`calls`], [`batch`], [`chain`], [`added`], [`convert`], [`turned`], [`rules`], [`exceptions`], [`host`], [`text`], [`matrix`]. [`chance`] makes graphs,
+//! [`sound`] with [`every`] beside it, [`question`], [`calls`], [`batch`], [`chain`], [`added`], [`convert`], [`turned`], [`rules`], [`exceptions`], [`hierarchy`], [`host`], [`text`], [`matrix`]. [`chance`] makes graphs,
 //! orders and damage for comparisons.
 
 pub mod added;
@@ -21,6 +21,7 @@ pub mod exceptions;
 pub mod form;
 pub mod graph;
 pub mod groups;
+pub mod hierarchy;
 pub mod host;
 pub mod index;
 pub mod labels;
@@ -39,8 +40,9 @@ pub use calls::{ask, build, list, open};
 pub use chain::chain;
 pub use convert::{convert_down, convert_up};
 pub use exceptions::{ask_all_exceptions, ask_exceptions, build_exceptions, open_exceptions};
-pub use form::{Form, FORMS, FORM_1, FORM_2, FORM_3, ORDINARY};
+pub use form::{Form, FORMS, FORM_1, FORM_2, FORM_3, FORM_4, ORDINARY};
 pub use graph::Graph;
+pub use hierarchy::{ask_hierarchy, build_hierarchy, from_hierarchy, open_hierarchy, to_hierarchy};
 pub use index::Index;
 pub use matrix::{read_matrix, write_matrix};
 pub use question::Answer;

@@ -19,6 +19,9 @@
 //!   that comes earliest in the visiting order of all groups not yet visited, so the second one chooses it among
 //!   the children too; and if no child is left unvisited, both finish the group. So the two traversals are the
 //!   same, and with them ranks and intervals. Where the other vertices stand in the order plays no part.
+//!
+//! A form of plain hierarchies asks for more: the graph must be one. It then is its own traversal forest, as each group is
+//! gone on to from its one parent, so s and m are the same, and leaving m out loses nothing.
 
 use crate::form::Form;
 use crate::graph::{is_permutation, Graph};
@@ -37,7 +40,7 @@ pub fn sound_index(bytes: &[u8], form: &Form, counts: &Counts) -> Option<Index> 
         .map(|labelling| order_told(&told.groups, labelling))
         .collect::<Option<Vec<_>>>()?;
     let made = Index::of(&graph, &orders);
-    (encode(form, &made) == bytes).then_some(made)
+    (form.kept_out_by(&made.groups).is_none() && encode(form, &made) == bytes).then_some(made)
 }
 
 /// The graph read off from names and children; none if they speak of vertices or places that there are not.

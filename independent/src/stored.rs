@@ -1,6 +1,6 @@
-//! The stored bytes, in either form: an index written to them, their header checked, and they taken apart.
+//! The stored bytes, in each form: an index written to them, their header checked, and they taken apart.
 
-use crate::bounds::{HEADER_BYTES, MOST_LABELLINGS};
+use crate::bounds::HEADER_BYTES;
 use crate::form::Form;
 use crate::graph::Graph;
 use crate::groups::Groups;
@@ -27,17 +27,17 @@ impl Counts {
         }
     }
 
-    /// How many numbers each of the six sections holds.
-    pub fn sections(&self) -> [usize; 6] {
+    /// How many numbers each of the six sections holds in a form.
+    pub fn sections(&self, form: &Form) -> [usize; 6] {
         let Counts { n, k, c, d } = *self;
-        [n, k, k, k + 1, c, 4 * d * k]
+        [n, k, k, k + 1, c, (form.by_place() + 1) * d * k]
     }
 
     /// The twelve numbers of the header that these counts give in a form.
     pub fn header(&self, form: &Form) -> [u32; 12] {
         let mut numbers = vec![form.number as usize, self.n, self.k, self.c, self.d];
         let mut offset = HEADER_BYTES;
-        for section in self.sections() {
+        for section in self.sections(form) {
             numbers.push(offset);
             offset += form.width * section;
         }
@@ -55,8 +55,10 @@ impl Counts {
         let Some(form) = Form::among(taken, header[0]) else {
             return refuse(11, number);
         };
-        let in_bounds =
-            n <= form.most_vertices && k <= n && c <= form.most_child_entries && (1..=MOST_LABELLINGS).contains(&d);
+        let in_bounds = n <= form.most_vertices
+            && k <= n
+            && c <= form.most_child_entries
+            && (1..=form.most_labellings).contains(&d);
         let counts = Counts { n, k, c, d };
         if in_bounds && header == counts.header(&form) && bytes.len() == form.total_length(&counts) {
             Ok((form, counts))
@@ -81,7 +83,10 @@ pub fn encode(form: &Form, index: &Index) -> Vec<u8> {
     numbers.extend(groups.children.iter().flatten());
     for labelling in &index.labellings {
         for place in 0..groups.list.len() {
-            numbers.extend([labelling.s[place], labelling.m[place], labelling.e[place]]);
+            let [s, m, e] = [labelling.s[place], labelling.m[place], labelling.e[place]];
+            numbers.push(s);
+            numbers.extend((!form.hierarchy).then_some(m));
+            numbers.push(e);
         }
         numbers.extend(&labelling.by_rank);
     }
@@ -106,26 +111,28 @@ pub fn little_endian(bytes: &[u8]) -> usize {
     bytes.iter().rev().fold(0, |number, &byte| number << 8 | byte as usize)
 }
 
-/// The bytes taken apart into the six sections, whatever numbers these hold. None if the child starts do not cut
+/// The bytes taken apart into the six sections, whatever numbers these hold. Where the m numbers are left out they are the s
+/// numbers, as in every plain hierarchy. None if the child starts do not cut
 /// the children into one stretch for each group: not rising, or reaching beyond c.
 pub fn decode(bytes: &[u8], form: &Form, counts: &Counts) -> Option<Index> {
     let mut numbers = bytes[HEADER_BYTES..].chunks_exact(form.width).map(little_endian);
     let [names, list, levels, starts, children, labels] = counts
-        .sections()
+        .sections(form)
         .map(|section| numbers.by_ref().take(section).collect::<Vec<usize>>());
 
     let children = starts
         .windows(2)
         .map(|ends| children.get(ends[0]..ends[1]).map(<[usize]>::to_vec))
         .collect::<Option<Vec<_>>>()?;
-    let k = counts.k;
+    let (k, by_place) = (counts.k, form.by_place());
     let labelling = |i: usize| {
-        let (triples, by_rank) = labels[4 * k * i..4 * k * (i + 1)].split_at(3 * k);
-        let nth = |n: usize| triples.iter().skip(n).step_by(3).copied().collect();
+        let all = (by_place + 1) * k;
+        let (each_place, by_rank) = labels[all * i..all * (i + 1)].split_at(by_place * k);
+        let nth = |n: usize| each_place.iter().skip(n).step_by(by_place).copied().collect();
         Labelling {
             s: nth(0),
-            m: nth(1),
-            e: nth(2),
+            m: if form.hierarchy { nth(0) } else { nth(1) },
+            e: nth(by_place - 1),
             by_rank: by_rank.to_vec(),
         }
     };

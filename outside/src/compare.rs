@@ -1,8 +1,8 @@
 //! One call made twice, of the library and of the independent program, on the same input and equal buffers: outcomes and buffers must be equal. Buffers
 //! are lent with a pattern in them and a few elements behind what the call may touch. Calls that the C host has too are made of both faces;
-//! those on a turned index are made where they are asked for.
+//! those on a turned index and on a plain hierarchy are made where they are asked for.
 
-use crate::{Face, Library, Outcome, FACES};
+use crate::{Face, Library, Outcome, Way, FACES};
 use independent::batch::{six, NUMBERS};
 use independent::bounds::work_words;
 use independent::calls::vertices_in_range;
@@ -325,17 +325,13 @@ pub fn write_matrix(library: &mut Library, n: u32, sources: &[u32], targets: &[u
     result
 }
 
-/// An index of this form turned into the other one, into an output of this size: the number of the refusal, 0 where there is none.
-pub fn convert(library: &mut Library, from: &Form, index: &[u8], lent: Lent, out: usize) -> u32 {
+/// An index of one form turned into another, into an output of this size: the number of the refusal, 0 where there is none.
+pub fn convert(library: &mut Library, way: Way, index: &[u8], lent: Lent, out: usize) -> u32 {
     let (mut ours, mut theirs) = (lent.buffers(Face::Ordinary), lent.buffers(Face::Ordinary));
     let (mut got, mut expected) = (vec![PATTERN; out], vec![PATTERN; out]);
-    let result = library.convert(from, index, &mut ours.marks, &mut ours.words, &mut got);
-    let right = if *from == FORM_1 {
-        independent::convert_up(index, &mut theirs.marks, &mut expected)
-    } else {
-        independent::convert_down(index, &mut theirs.marks, &mut theirs.words, &mut expected)
-    };
-    let what = format!("{} bytes of form {} converted with {lent:?} into {out}: {right:?}", index.len(), from.number);
+    let result = library.convert(way, index, &mut ours.marks, &mut ours.words, &mut got);
+    let right = way.convert(index, &mut theirs.marks, &mut theirs.words, &mut expected);
+    let what = format!("{} bytes converted {way:?} with {lent:?} into {out}: {right:?}", index.len());
     assert_eq!(result, right, "{what}");
     assert!(got == expected, "{what}: first difference at {:?}", first_difference(&got, &expected));
     ours.agree(&theirs, &what);

@@ -5,7 +5,7 @@ pub mod compare;
 pub mod texts;
 
 use compare::Input;
-use independent::{host, Added, Answer, Counts, Form, Refusal, Rule, FORM_1};
+use independent::{host, Added, Answer, Counts, Form, Refusal, Rule, FORM_1, FORM_2, FORM_4};
 use std::io::{BufReader, BufWriter, Read, Write};
 use std::os::unix::process::ExitStatusExt;
 use std::process::{Child, ChildStdin, ChildStdout, Command, Stdio};
@@ -22,13 +22,15 @@ pub struct Library {
 /// What a call returned: the numbers of its answer, or its refusal.
 pub type Outcome<T> = Result<T, Refusal>;
 
-/// Who a call is made of: the calls that Rattle code makes, which take forms 1 and 2, the C host's, which take form 1 and are lent no words, or those on a turned index,
-/// which take form 3. The host has no list and no build, and there is no call for all pairs on a turned index.
+/// Who a call is made of: the calls that Rattle code makes, which take forms 1 and 2, the C host's, which take form 1 and are lent no words, those on a turned index,
+/// which take form 3, or those on a plain hierarchy, which take form 4. The host has no list and no build; there is no call for all pairs on the last two, and no list of a
+/// plain hierarchy.
 #[derive(Clone, Copy, Debug, PartialEq, Eq)]
 pub enum Face {
     Ordinary,
     Host,
     Turned,
+    Hierarchy,
 }
 
 /// Those that take ordinary indexes.
@@ -41,6 +43,7 @@ impl Face {
             Face::Ordinary => independent::open(index, marks, words),
             Face::Host => host::open(index, marks),
             Face::Turned => independent::open_turned(index, marks, words),
+            Face::Hierarchy => independent::open_hierarchy(index, marks, words),
         }
     }
 
@@ -49,6 +52,7 @@ impl Face {
             Face::Ordinary => independent::ask(index, source, target, marks, words),
             Face::Host => host::ask(index, source, target, marks),
             Face::Turned => independent::ask_turned(index, source, target, marks, words),
+            Face::Hierarchy => independent::ask_hierarchy(index, source, target, marks, words),
         }
     }
 
@@ -56,25 +60,77 @@ impl Face {
         match self {
             Face::Ordinary => independent::ask_all(index, sources, targets, marks, words, answers),
             Face::Host => host::ask_all(index, sources, targets, marks, answers),
-            Face::Turned => unreachable!("it has no call for all pairs"),
+            Face::Turned | Face::Hierarchy => unreachable!("it has no call for all pairs"),
         }
     }
 
     pub fn list(self, index: &[u8], vertex: u32, marks: &mut [u8], words: &mut [u32], out: &mut [u32]) -> Outcome<u32> {
         match self {
             Face::Ordinary => independent::list(index, vertex, marks, words, out),
-            Face::Host => unreachable!("it has no list"),
+            Face::Host | Face::Hierarchy => unreachable!("it has no list"),
             Face::Turned => independent::list_turned(index, vertex, marks, words, out),
         }
     }
 
-    /// A turned build is told no form.
+    /// The builds of a turned index and of a plain hierarchy are told no form.
     pub fn build(self, input: &Input, work: &mut [u32], out: &mut [u8]) -> Outcome<u32> {
         let Input { form, n, sources, targets, orders, d } = input;
         match self {
             Face::Ordinary => independent::build(*form, *n, sources, targets, orders, *d, work, out),
             Face::Host => unreachable!("it has no build"),
             Face::Turned => independent::build_turned(*n, sources, targets, orders, *d, work, out),
+            Face::Hierarchy => independent::build_hierarchy(*n, sources, targets, orders, *d, work, out),
+        }
+    }
+}
+
+/// The conversions that there are, each a form and the one that it is turned into.
+#[derive(Clone, Copy, Debug, PartialEq, Eq)]
+pub enum Way {
+    Up,
+    Down,
+    ToHierarchy,
+    FromHierarchy,
+}
+
+impl Way {
+    pub fn from(self) -> Form {
+        match self {
+            Way::Up => FORM_1,
+            Way::Down | Way::ToHierarchy => FORM_2,
+            Way::FromHierarchy => FORM_4,
+        }
+    }
+
+    pub fn to(self) -> Form {
+        self.back().from()
+    }
+
+    pub fn back(self) -> Way {
+        match self {
+            Way::Up => Way::Down,
+            Way::Down => Way::Up,
+            Way::ToHierarchy => Way::FromHierarchy,
+            Way::FromHierarchy => Way::ToHierarchy,
+        }
+    }
+
+    fn call(self) -> u32 {
+        match self {
+            Way::Up => CONVERT_UP,
+            Way::Down => CONVERT_DOWN,
+            Way::ToHierarchy => TO_HIERARCHY,
+            Way::FromHierarchy => FROM_HIERARCHY,
+        }
+    }
+
+    /// What the independent program does in its place.
+    pub fn convert(self, index: &[u8], marks: &mut [u8], words: &mut [u32], out: &mut [u8]) -> Outcome<u32> {
+        match self {
+            Way::Up => independent::convert_up(index, marks, out),
+            Way::Down => independent::convert_down(index, marks, words, out),
+            Way::ToHierarchy => independent::to_hierarchy(index, marks, words, out),
+            Way::FromHierarchy => independent::from_hierarchy(index, marks, words, out),
         }
     }
 }
@@ -107,6 +163,8 @@ const BUILD_LISTS: u32 = 14;
 const OPEN_LISTS: u32 = 15;
 const ASK_LISTS: u32 = 16;
 const ASK_ALL_LISTS: u32 = 17;
+const TO_HIERARCHY: u32 = 20;
+const FROM_HIERARCHY: u32 = 21;
 
 /// The signal of a touch that is forbidden.
 const SIGSEGV: i32 = 11;
@@ -347,9 +405,9 @@ impl Library {
         outcome(refusal, extra, true, ())
     }
 
-    /// An index of this form turned into the other one. Form 1 is lent no words.
-    pub fn convert(&mut self, from: &Form, index: &[u8], marks: &mut [u8], words: &mut [u32], out: &mut [u8]) -> Outcome<u32> {
-        self.call(if *from == FORM_1 { CONVERT_UP } else { CONVERT_DOWN }, Face::Ordinary);
+    /// An index of one form turned into another. Form 1 is lent no words.
+    pub fn convert(&mut self, way: Way, index: &[u8], marks: &mut [u8], words: &mut [u32], out: &mut [u8]) -> Outcome<u32> {
+        self.call(way.call(), Face::Ordinary);
         self.index(index, marks, words);
         self.bytes(out);
         let [refusal, extra, total] = self.reply();

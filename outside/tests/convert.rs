@@ -2,18 +2,18 @@
 
 use independent::chance::{Chance, Kind};
 use independent::stored::{encode, image};
-use independent::{Counts, Form, Graph, Index, FORM_1, FORM_2, ORDINARY};
+use independent::{Counts, Graph, Index, FORM_1, FORM_2, ORDINARY};
 use outside::compare::{self, Lent};
-use outside::{Face, Library};
+use outside::{Face, Library, Way};
 
-/// Each form with the one that it is turned into.
-const WAYS: [(Form, Form); 2] = [(FORM_1, FORM_2), (FORM_2, FORM_1)];
+/// Form 1 turned into form 2, and back.
+const WAYS: [Way; 2] = [Way::Up, Way::Down];
 
 /// The other form of an index, as the library writes it.
-fn converted(library: &mut Library, from: &Form, index: &[u8]) -> Vec<u8> {
+fn converted(library: &mut Library, way: Way, index: &[u8]) -> Vec<u8> {
     let Lent { marks, words } = Lent::needed(index);
     let mut out = vec![0; 2 * index.len()];
-    let total = library.convert(from, index, &mut vec![7; marks], &mut vec![7; words], &mut out).expect("it fits");
+    let total = library.convert(way, index, &mut vec![7; marks], &mut vec![7; words], &mut out).expect("it fits");
     out.truncate(total as usize);
     out
 }
@@ -26,13 +26,13 @@ fn there_and_back_gives_the_same_bytes() {
         let graph = chance.graph(Kind::ALL[round % Kind::ALL.len()], n);
         let d = chance.between(1, 5);
         let index = Index::of(&graph, &chance.orders(graph.n, d));
-        for (from, to) in WAYS {
-            let bytes = encode(&from, &index);
-            let turned = converted(&mut library, &from, &bytes);
-            assert!(turned == encode(&to, &index), "the bytes are those of a build");
-            assert!(converted(&mut library, &to, &turned) == bytes, "there and back");
+        for way in WAYS {
+            let bytes = encode(&way.from(), &index);
+            let turned = converted(&mut library, way, &bytes);
+            assert!(turned == encode(&way.to(), &index), "the bytes are those of a build");
+            assert!(converted(&mut library, way.back(), &turned) == bytes, "there and back");
             for (lent, room) in [(Lent::needed(&bytes), turned.len()), (Lent::needed(&bytes).more(3, 2), turned.len() + 5), (Lent::needed(&bytes), turned.len() - 1)] {
-                compare::convert(&mut library, &from, &bytes, lent, room);
+                compare::convert(&mut library, way, &bytes, lent, room);
             }
         }
     }
@@ -49,7 +49,7 @@ fn every_question_keeps_its_answer() {
         let index = Index::of(&graph, &chance.orders(n, d));
         let pairs = compare::pairs(&mut chance, n, 400);
         let before = encode(&FORM_1, &index);
-        let after = converted(&mut library, &FORM_1, &before);
+        let after = converted(&mut library, Way::Up, &before);
         let [of_1, of_2] = [&before, &after].map(|bytes| {
             let Lent { marks, words } = Lent::needed(bytes);
             library.ask_many(Face::Ordinary, bytes, &vec![7; marks], &vec![7; words], &pairs)
@@ -68,15 +68,15 @@ fn damaged_images_and_the_wrong_form_are_refused() {
         let graph = chance.any_graph(n);
         let d = chance.between(1, 3);
         let index = Index::of(&graph, &chance.orders(n, d));
-        for (from, to) in WAYS {
-            let (bytes, room) = (encode(&from, &index), encode(&to, &index).len());
-            let number = chance.one_of(&[0, 3, 4, u32::MAX, to.number]);
+        for way in WAYS {
+            let (bytes, room) = (encode(&way.from(), &index), encode(&way.to(), &index).len());
+            let number = chance.one_of(&[0, 3, 4, u32::MAX, way.to().number]);
             let other_form = [&number.to_le_bytes()[..], &bytes[4..]].concat();
-            assert_eq!(compare::convert(&mut library, &from, &other_form, Lent::needed(&bytes), room), 11);
-            for image in [chance.any_damage(&bytes), chance.any_damage(&bytes), encode(&to, &index), bytes] {
+            assert_eq!(compare::convert(&mut library, way, &other_form, Lent::needed(&bytes), room), 11);
+            for image in [chance.any_damage(&bytes), chance.any_damage(&bytes), encode(&way.to(), &index), bytes] {
                 for lent in Lent::around(&image) {
                     for room in [room, room + 3, room - 1, 0] {
-                        compare::convert(&mut library, &from, &image, lent, room);
+                        compare::convert(&mut library, way, &image, lent, room);
                     }
                 }
             }
@@ -109,10 +109,10 @@ fn what_is_beyond_form_1_is_refused_with_19() {
         let total = encode(&FORM_1, &index).len();
         for (room, refusal) in [(total, 0), (total - 1, 9), (0, 9)] {
             let refusal = if fits { refusal } else { 19 };
-            assert_eq!(compare::convert(&mut library, &FORM_2, &bytes, Lent::needed(&bytes).more(1, 1), room), refusal, "n {n}, k {k}, c {c} into {room}");
+            assert_eq!(compare::convert(&mut library, Way::Down, &bytes, Lent::needed(&bytes).more(1, 1), room), refusal, "n {n}, k {k}, c {c} into {room}");
         }
         if fits {
-            assert!(converted(&mut library, &FORM_1, &encode(&FORM_1, &index)) == bytes, "form 1 at its bounds is turned into form 2");
+            assert!(converted(&mut library, Way::Up, &encode(&FORM_1, &index)) == bytes, "form 1 at its bounds is turned into form 2");
         }
     }
 }
@@ -125,8 +125,8 @@ fn the_largest_indexes_of_form_1() {
         let graph = chance.graph(kind, 4_096);
         let index = Index::of(&graph, &chance.orders(graph.n, 5));
         let stored = ORDINARY.map(|form| encode(&form, &index));
-        for (i, (from, _)) in WAYS.iter().enumerate() {
-            assert!(converted(&mut library, from, &stored[i]) == stored[1 - i]);
+        for (i, way) in WAYS.into_iter().enumerate() {
+            assert!(converted(&mut library, way, &stored[i]) == stored[1 - i]);
         }
     }
 }
@@ -137,6 +137,6 @@ fn a_region_does_not_fit_form_1() {
     let (mut library, n) = (Library::start(), FORM_2.most_vertices);
     library.stack = 65_536;
     let bytes = image(&FORM_2, &line(n), &[(0..n).collect()]);
-    assert_eq!(compare::convert(&mut library, &FORM_2, &bytes, Lent::needed(&bytes).more(1, 1), bytes.len()), 19);
-    assert_eq!(compare::convert(&mut library, &FORM_1, &bytes, Lent::needed(&bytes).more(1, 1), bytes.len()), 11);
+    assert_eq!(compare::convert(&mut library, Way::Down, &bytes, Lent::needed(&bytes).more(1, 1), bytes.len()), 19);
+    assert_eq!(compare::convert(&mut library, Way::Up, &bytes, Lent::needed(&bytes).more(1, 1), bytes.len()), 11);
 }

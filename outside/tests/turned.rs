@@ -4,7 +4,7 @@
 use independent::chance::{Chance, Kind};
 use independent::closure::Closure;
 use independent::stored::{encode, image};
-use independent::{Form, Graph, Index, FORMS, FORM_1, FORM_2, FORM_3, ORDINARY};
+use independent::{Form, Graph, Index, FORM_1, FORM_2, FORM_3, ORDINARY};
 use outside::compare::{self, Input, Lent};
 use outside::{Face, Library};
 
@@ -125,7 +125,7 @@ fn each_call_takes_its_own_forms() {
         let n = chance.between(1, 12);
         let graph = chance.graph(Kind::ALL[round % Kind::ALL.len()], n);
         let index = Index::of(&graph, &chance.orders(n, 2));
-        for form in FORMS {
+        for form in [FORM_1, FORM_2, FORM_3] {
             let good = encode(&form, &index);
             for number in [0, 1, 2, 3, 4, 5, 257, 258, 259, 0x1_0003, 0x8000_0003, u32::MAX] {
                 let bytes = [&number.to_le_bytes()[..], &good[4..]].concat();

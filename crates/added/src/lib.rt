@@ -18,6 +18,7 @@ use open::contents_sound;
 use reach_rounds::reach_over;
 use refusals::BAD_EDGE;
 use refusals::BAD_VERTEX;
+use refusals::MANY_ADDED;
 use refusals::NOT_SOUND;
 use stored_header::Header;
 use stored_header::Layout;
@@ -26,10 +27,8 @@ use stored_header::words_needed;
 // The most edges that may be added.
 const MOST_ADDED: u32 = 256;
 
-// There are more.
-const MANY_ADDED: u32 = 21;
-
 // The added edges: the first `count` pairs. What stands behind them may be anything.
+#[repr(C)]
 pub struct Added {
     pub sources: [u32; 256],
     pub targets: [u32; 256],

@@ -50,6 +50,6 @@ module _ (T : FormsTaken) (b : List ℕ) (u v m w : ℕ) (s : Said) (e : askAnsw
         source-low = leb-false (countsIn b .n) u (behind .0);
         target-low = leb-false (countsIn b .n) v (behind .1 .0);
         some = header-laid b T (header-pass T b m w (pass-front (formChecks T b m w) own passes)) .least;
-        sound = contents-sound (formOf (headerAt b 0) .width) b (not-false (contentsSound (formOf (headerAt b 0) .width) b) (behind .1 .1 .0));
+        sound = contents-sound (formOf (headerAt b 0)) b (not-false (contentsSound (formOf (headerAt b 0)) b) (behind .1 .1 .0));
         said = sym (answered-is (saidOf (answer (indexIn b) u v)) checks s e);
       }

@@ -38,16 +38,16 @@ first-from p n (l ∷ ls) = at (p l) (first-from p (suc n) ls)
     at true ih = omega arith
     at false ih = omega arith
 
-first-low : (p : Labelling → Bool) (w k d : ℕ) (labels : List ℕ) → firstLabelling p (labelsIn w labels k d) ≤ d
-first-low p w k d labels = omega (arith, first-from p 0 (labelsIn w labels k d), labels-long w labels k d)
+first-low : (p : Labelling → Bool) (w k d : ℕ) (labels : List ℕ) → firstLabelling p (labelsIn w 3 labels k d) ≤ d
+first-low p w k d labels = omega (arith, first-from p 0 (labelsIn w 3 labels k d), labels-long w 3 labels k d)
 
 -- and so is the number of one that decides
-module _ (w k d : ℕ) (labels : List ℕ) (x t : ℕ) {j : Judged} (told : j ≡ judged x t (labelsIn w labels k d)) where
+module _ (w k d : ℕ) (labels : List ℕ) (x t : ℕ) {j : Judged} (told : j ≡ judged x t (labelsIn w 3 labels k d)) where
   pub inside-low : 0 < j .inside → j .inside ≤ d
-  inside-low h = omega (arith, judged-inside x t (labelsIn w labels k d) told h, first-low (inside x t) w k d labels)
+  inside-low h = omega (arith, judged-inside x t (labelsIn w 3 labels k d) told h, first-low (inside x t) w k d labels)
 
   pub outside-low : 0 < j .outside → j .outside ≤ d
-  outside-low h = omega (arith, judged-outside x t (labelsIn w labels k d) told h, first-low (outside x t) w k d labels)
+  outside-low h = omega (arith, judged-outside x t (labelsIn w 3 labels k d) told h, first-low (outside x t) w k d labels)
 
 module _ {w k d t : ℕ} {groups levels starts children labels : List ℕ} {marks : ℕ} (F : Fit w k d t groups levels starts children labels marks)
     (x : ℕ) (m : List ℕ) (r : Reply) where
@@ -73,30 +73,30 @@ module _ {w k d t : ℕ} {groups levels starts children labels : List ℕ} {mark
         ap (λ (q : Reply). answerBy q m) s ∙ rw (ne-eqb x t apart, not-two, holds) refl
 
     -- the labellings judge
-    module _ (lower : b < a) {j : Judged} (told : j ≡ judged x t (labelsIn w labels k d)) where
+    module _ (lower : b < a) {j : Judged} (told : j ≡ judged x t (labelsIn w 3 labels k d)) where
       pub rule-2 : Says true 2 (j .inside) → 0 < j .inside → answerBy r m ≡ between I x t m
       rule-2 s h =
-          let first : j .inside ≡ firstLabelling (inside x t) (labelsIn w labels k d) = judged-inside x t (labelsIn w labels k d) told h in
-          let holds : rule2 I x t ≡ true = first-given (inside x t) (labelsIn w labels k d) ∙ rw (← first) (lt-ltb 0 (j .inside) h) in
+          let first : j .inside ≡ firstLabelling (inside x t) (labelsIn w 3 labels k d) = judged-inside x t (labelsIn w 3 labels k d) told h in
+          let holds : rule2 I x t ≡ true = first-given (inside x t) (labelsIn w 3 labels k d) ∙ rw (← first) (lt-ltb 0 (j .inside) h) in
           ap (λ (q : Reply). answerBy q m) s ∙ rw (ne-eqb x t apart, holds, ← first) refl
 
       -- what 4 rules out, 2 does not say yes of
       pub rule-4 : Says false 4 (j .outside) → 0 < j .outside → answerBy r m ≡ between I x t m
       rule-4 s h =
-          let first : j .outside ≡ firstLabelling (outside x t) (labelsIn w labels k d) = judged-outside x t (labelsIn w labels k d) told h in
-          let holds : rule4 I x t ≡ true = first-given (outside x t) (labelsIn w labels k d) ∙ rw (← first) (lt-ltb 0 (j .outside) h) in
+          let first : j .outside ≡ firstLabelling (outside x t) (labelsIn w 3 labels k d) = judged-outside x t (labelsIn w 3 labels k d) told h in
+          let holds : rule4 I x t ≡ true = first-given (outside x t) (labelsIn w 3 labels k d) ∙ rw (← first) (lt-ltb 0 (j .outside) h) in
           let not-two : rule2 I x t ≡ false = is-false (rule2 I x t) (λ y. clash holds (F .sure .not-4 x x-low y)) in
           ap (λ (q : Reply). answerBy q m) s ∙ rw (ne-eqb x t apart, not-two, three, lt-leb a b lower, holds, ← first) refl
 
       module _ (none : j .inside ≤ 0) (uncut : j .outside ≤ 0) where
-        neither : (firstLabelling (inside x t) (labelsIn w labels k d) ≡ 0) × (firstLabelling (outside x t) (labelsIn w labels k d) ≡ 0)
-        neither = judged-neither x t (labelsIn w labels k d) told none uncut
+        neither : (firstLabelling (inside x t) (labelsIn w 3 labels k d) ≡ 0) × (firstLabelling (outside x t) (labelsIn w 3 labels k d) ≡ 0)
+        neither = judged-neither x t (labelsIn w 3 labels k d) told none uncut
 
         not-two : rule2 I x t ≡ false
-        not-two = first-given (inside x t) (labelsIn w labels k d) ∙ ap (ltb 0) (neither .0)
+        not-two = first-given (inside x t) (labelsIn w 3 labels k d) ∙ ap (ltb 0) (neither .0)
 
         not-four : rule4 I x t ≡ false
-        not-four = first-given (outside x t) (labelsIn w labels k d) ∙ ap (ltb 0) (neither .1)
+        not-four = first-given (outside x t) (labelsIn w 3 labels k d) ∙ ap (ltb 0) (neither .1)
 
         module _ (f : Bool) (l n : ℕ) (m' : List ℕ) (e : walked f l n m' ≡ openAt (netIn w k d t groups levels starts children labels) (a + 1) x m) where
           walked-is : walked f l n m' ≡ walk I t x m

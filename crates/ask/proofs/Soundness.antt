@@ -1,15 +1,15 @@
 -- What sound contents give a question: the sections are fit for the walk, and the answer between two places is the answer to the question.
 use mathlib.Core.Bool.{true, false, _||_}
 use mathlib.Core.Logic.{_≢_}
-use mathlib.Core.Path.{_≡_, refl, sym, ap, _∙_}
+use mathlib.Core.Path.{_≡_, refl, sym, ap, subst, _∙_}
 use mathlib.Core.List.{List, []}
-use Prim.Native.Nat.{ℕ, _+_, _-_, _≤_, _<_}
+use Prim.Native.Nat.{ℕ, _+_, _-_, _*_, _≤_, _<_}
 use native.Mathlib.Decide.{ℕ-discrete}
 use native.Mathlib.Omega.{arith}
 use lib.ListN.{length, getD, replicate}
 use borrow.Author.Tests.{le-leb}
 use Rattle.lineage.specs.Numbers.{numAt, numbers}
-use Rattle.lineage.specs.Sound.{childOf}
+use Rattle.lineage.specs.Sound.{childOf, sound as soundIndex}
 use Rattle.lineage.specs.Labels.{Labelling}
 use Rattle.lineage.specs.Index.{Index}
 use Rattle.lineage.specs.Question.{outside, rule2, rule3, rule4, netOf, between, placeIn, walk, answer}
@@ -27,11 +27,14 @@ use Rattle.stored_header.specs.declared.Layout.{Layout}
 use Rattle.stored.specs.Sections.{childrenIn, labelsIn, indexFrom, indexAt}
 use Rattle.stored.proofs.Sections.{children-long, labels-long, starts-rise, starts-within, row-long, row-at}
 use Rattle.ask_walk.specs.Fit.{count, groupsIn, Fit, Sure}
-use Rattle.sound_places.specs.Lent.{Lent}
+use Rattle.sound_places.specs.Lent.{Lent, InTriples}
 use Rattle.sound_places.proofs.Vertices.{lent-sound}
 use Rattle.ask_walk.proofs.Rows.{count-is}
 
-module _ {l : Layout} {names groups levels starts children labels : List ℕ} (S : Lent l names groups levels starts children labels) where
+module _ {l : Layout} {names groups levels starts children labels : List ℕ} (Q : InTriples l names groups levels starts children labels) where
+  abbrev S : Lent l names groups levels starts children labels
+  S = Q .lent
+
   abbrev w : ℕ
   w = l .width
 
@@ -43,6 +46,19 @@ module _ {l : Layout} {names groups levels starts children labels : List ℕ} (S
 
   abbrev c : ℕ
   c = l .c
+
+  -- the index, by its triples
+  abbrev J : Index
+  J = indexFrom w 3 n k c (l .d) names groups levels starts children labels
+
+  in-triples : indexAt l names groups levels starts children labels ≡ J
+  in-triples = ap (λ (z : ℕ). indexFrom w z n k c (l .d) names groups levels starts children labels) (Q .triples)
+
+  index-passes : soundIndex J ≡ true
+  index-passes = ap soundIndex (sym in-triples) ∙ S .index-sound
+
+  labels-fill : length labels ≡ w * (l .d * (4 * k))
+  labels-fill = subst (λ (z : ℕ). length labels ≡ w * (l .d * ((z + 1) * k))) (Q .triples) (S .labels-long)
 
   rows : List (List ℕ)
   rows = childrenIn w starts children k c
@@ -94,16 +110,13 @@ module _ {l : Layout} {names groups levels starts children labels : List ℕ} (S
 
   -- the rules agree
   module _ (t : ℕ) (t-low : t < k) where
-    abbrev J : Index
-    J = indexAt l names groups levels starts children labels
-
     J-long : length (J .children) ≡ k
     unfolding indexFrom
     J-long = children-long w starts children k c
 
     right : Judges (netOf J t) (length (J .children)) t
     unfolding indexFrom
-    right = judged J (sound-decides J .0 (S .index-sound)) (omega (arith, labels-long w labels k (l .d), S .labellings-some)) t (omega (arith, J-long))
+    right = judged J (sound-decides J .0 index-passes) (omega (arith, labels-long w 3 labels k (l .d), S .labellings-some)) t (omega (arith, J-long))
 
     passes : (h : ℕ) → h < k → rule2 J h t ≡ true → h ≢ t → (rule3 J h t || rule4 J h t) ≡ false
     passes h b y n = right .lets h (omega (arith, J-long)) (right .hits h (omega (arith, J-long)) y) n
@@ -114,7 +127,7 @@ module _ {l : Layout} {names groups levels starts children labels : List ℕ} (S
       home = right .home;
       not-3 = λ h b y n. or-false-left (rule3 J h t) (rule4 J h t) (passes h b y n);
       not-4 = λ h b y. elim (ℕ-discrete h t) [
-        | yes e ↦ rw e (none-is (outside t t) (labelsIn w labels k (l .d)) (λ z i. own-outer z))
+        | yes e ↦ rw e (none-is (outside t t) (labelsIn w 3 labels k (l .d)) (λ z i. own-outer z))
         | no n ↦ or-false-right (rule3 J h t) (rule4 J h t) (passes h b y n)
       ];
     }
@@ -129,9 +142,10 @@ module _ {l : Layout} {names groups levels starts children labels : List ℕ} (S
       record {
         labelled = record {
           width = S .width;
+          stride = record { low = omega arith; high = omega arith };
           groups-few = omega (arith, S .vertices-few, S .groups-few);
           labellings-few = S .labellings-few;
-          long = omega (arith, S .labels-long);
+          long = omega (arith, labels-fill);
         };
         target-low = h;
         groups-long = omega (arith, S .groups-long);
@@ -156,12 +170,18 @@ module _ {l : Layout} {names groups levels starts children labels : List ℕ} (S
     fit-marks t h = rw long (fit t h)
 
   -- the answer between the places of u and v is the answer to the question
+  between-is : (u v x t : ℕ) (m : List ℕ) → x ≡ placeIn J u → t ≡ placeIn J v → m ≡ replicate n 0
+      → between (groupsIn w k (l .d) groups levels starts children labels) x t m ≡ answer J u v
+  unfolding answer walk indexFrom
+  between-is u v x t m ex et em =
+      let all : count w children ≡ c = count-is w c children (S .width) (S .children-long) in
+      rw (all, ex, et, em, numbers-long w names n) refl
+
   pub question-is : (u v x t : ℕ) (m : List ℕ)
       → x ≡ placeIn (indexAt l names groups levels starts children labels) u
       → t ≡ placeIn (indexAt l names groups levels starts children labels) v
       → m ≡ replicate n 0
       → between (groupsIn w k (l .d) groups levels starts children labels) x t m ≡ answer (indexAt l names groups levels starts children labels) u v
-  unfolding answer walk indexFrom
   question-is u v x t m ex et em =
-      let all : count w children ≡ c = count-is w c children (S .width) (S .children-long) in
-      rw (all, ex, et, em, numbers-long w names n) refl
+      between-is u v x t m (ex ∙ ap (λ (I : Index). placeIn I u) in-triples) (et ∙ ap (λ (I : Index). placeIn I v) in-triples) em
+      ∙ ap (λ (I : Index). answer I u v) (sym in-triples)

@@ -46,6 +46,7 @@ fn ask_laid(
 ) -> Asked
     requires { ⌜ Laid (now index) l ⌝ }
     requires { ⌜ (u < l .n) × ((v < l .n) × ((l .n ≤ length (now marks)) × (stackWords (l .width) (l .n) ≤ length (now work)))) ⌝ }
+    requires { ⌜ l .stride ≡ 3 ⌝ }
     ensures { λ r. ⌜ askedOf r ≡ outcome (contentsCheck (now (index .entry)) ∷ []) (saidOf (answer (indexIn (now (index .entry))) u v)) ⌝ }
     ensures { λ _. ⌜ now (marks .exit) ≡ marksLaid (now (index .entry)) u v (now (marks .entry)) ⌝ }
     ensures { λ _. ⌜ Kept (now (work .entry)) (now (work .exit)) 0 (stackWords (l .width) (l .n)) ⌝ }
@@ -79,7 +80,7 @@ fn ask_laid(
     }
 }
 
-// Whether the source reaches the target, by the index that the bytes hold, in a form from `least` to `most`: refusals 10 to 13, 6, 14 and 15 in order, or the answer.
+// Whether the source reaches the target, by the index that the bytes hold, in a form from `least` to `most`, none of pairs: refusals 10 to 13, 6, 14 and 15 in order, or the answer.
 // The marks below n then tell the groups opened, by name, and the needed words are 0. The refusals 10 to 14 and 6 leave both as they were; 15 leaves both 0.
 pub fn ask_taking(
     least: usize,
@@ -90,6 +91,7 @@ pub fn ask_taking(
     marks: &mut [u8],
     work: &mut [u32],
 ) -> Asked
+    requires { ⌜ most ≤ 3 ⌝ }
     ensures { λ r. ⌜ askedOf r ≡ askAnswer (formsTaken least most) (now (index .entry)) source target (length (now (marks .entry))) (length (now (work .entry))) ⌝ }
     ensures { λ _. ⌜ now (marks .exit) ≡ askMarks (formsTaken least most) (now (index .entry)) source target (now (marks .entry)) (length (now (work .entry))) ⌝ }
     ensures { λ _. ⌜ now (work .exit) ≡ askWork (formsTaken least most) (now (index .entry)) source target (length (now (marks .entry))) (now (work .entry)) ⌝ }

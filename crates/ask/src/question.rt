@@ -8,7 +8,7 @@ ghost use Rattle.lineage.specs.Stored.{mostLabellings};
 ghost use Rattle.numbers.specs.Bounds.{vertexBound};
 ghost use Rattle.numbers.specs.Regions.{Kept};
 ghost use Rattle.stored.specs.Sections.{indexAt};
-ghost use Rattle.sound_places.specs.Lent.{Lent};
+ghost use Rattle.sound_places.specs.Lent.{InTriples};
 ghost use Rattle.ask_walk.specs.Fit.{groupsIn, Fit};
 ghost use Rattle.ask_walk.specs.Stamps.{seenAs, Under};
 ghost use Rattle.ask_stacked.specs.Words.{stackWords};
@@ -132,7 +132,7 @@ pub fn question(
     work: &mut [u32],
     stamp: u8,
 ) -> Reply
-    requires { ⌜ Lent l (now names) (now groups) (now levels) (now starts) (now children) (now labels) ⌝ }
+    requires { ⌜ InTriples l (now names) (now groups) (now levels) (now starts) (now children) (now labels) ⌝ }
     requires { ⌜ (u < l .n) × ((v < l .n) × ((length (now marks) ≡ l .n) × (Under stamp (now marks) × (stackWords (l .width) (l .n) ≤ length (now work))))) ⌝ }
     ensures { λ r. ⌜ answerBy r (seenAs stamp (now (marks .exit))) ≡ answer (indexAt l (now (names .entry)) (now (groups .entry)) (now (levels .entry)) (now (starts .entry)) (now (children .entry)) (now (labels .entry))) u v ⌝ }
     ensures { λ _. ⌜ Under (stamp + 1) (now (marks .exit)) ⌝ }

@@ -108,7 +108,7 @@ abbrev Small : Form → Type 0
 Small F = F .width ≡ 2 → F .vertices ≤ 4096
 
 forms-small : Every Small forms
-forms-small = ((λ e. omega arith), ((λ e. absurd (omega (arith, e))), ((λ e. absurd (omega (arith, e))), tt)))
+forms-small = ((λ e. omega arith), ((λ e. absurd (omega (arith, e))), ((λ e. absurd (omega (arith, e))), ((λ e. absurd (omega (arith, e))), tt))))
 
 pub small : {T : FormsTaken} {b : List ℕ} {marks words : ℕ} {l : Layout} → Admits T b marks words l → l .width ≡ 2 → l .n ≤ 4096
 small {b = b} A e =

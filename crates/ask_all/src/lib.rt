@@ -102,6 +102,7 @@ fn ask_laid(
 ) -> Batched
     requires { ⌜ Laid (now index) l × (l .n ≤ length (now marks)) ⌝ }
     requires { ⌜ (l .width ≡ 2 → l .n ≤ 4096) × (wordsOf l ≤ length (now work)) ⌝ }
+    requires { ⌜ l .stride ≡ 3 ⌝ }
     ensures { λ r. ⌜ batchedOf r ≡ outcome (batchLate (now (index .entry)) (now (sources .entry)) (now (targets .entry)) (length (now (answers .entry)))) (length (now (sources .entry))) ⌝ }
     ensures { λ _. ⌜ now (marks .exit) ≡ marksLaid (now (index .entry)) (now (sources .entry)) (now (targets .entry)) (now (marks .entry)) (length (now (answers .entry))) ⌝ }
     ensures { λ _. ⌜ now (answers .exit) ≡ answersLaid (now (index .entry)) (now (sources .entry)) (now (targets .entry)) (now (answers .entry)) ⌝ }
@@ -130,7 +131,7 @@ fn ask_laid(
     Batched::Count(pairs)
 }
 
-// Answers all pairs by six numbers each, over an index in a form from `least` to `most`: refusals 10 to 13, 6, 15, 2 and 16 in order, or the number of pairs. A refusal
+// Answers all pairs by six numbers each, over an index in a form from `least` to `most`, none of pairs: refusals 10 to 13, 6, 15, 2 and 16 in order, or the number of pairs. A refusal
 // leaves the answer list as it was; 10 to 13 and 6 leave marks and words too, and behind them the marks below n and the needed words are 0. Without a refusal the marks
 // are those of the last pair that was not refused, and the needed words are 0.
 pub fn ask_all_taking(
@@ -143,6 +144,7 @@ pub fn ask_all_taking(
     work: &mut [u32],
     answers: &mut [u32],
 ) -> Batched
+    requires { ⌜ most ≤ 3 ⌝ }
     ensures { λ r. ⌜ batchedOf r ≡ batchAnswer (formsTaken least most) (now (index .entry)) (now (sources .entry)) (now (targets .entry)) (length (now (marks .entry))) (length (now (work .entry))) (length (now (answers .entry))) ⌝ }
     ensures { λ _. ⌜ now (marks .exit) ≡ batchMarks (formsTaken least most) (now (index .entry)) (now (sources .entry)) (now (targets .entry)) (now (marks .entry)) (length (now (work .entry))) (length (now (answers .entry))) ⌝ }
     ensures { λ _. ⌜ now (work .exit) ≡ batchWork (formsTaken least most) (now (index .entry)) (length (now (marks .entry))) (now (work .entry)) ⌝ }

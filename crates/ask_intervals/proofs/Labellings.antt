@@ -19,7 +19,7 @@ use Rattle.lineage.specs.Question.{inside, outside}
 use Rattle.laws.proofs.Tests.{and-both}
 use Rattle.laws.proofs.Lists.{table-at}
 use Rattle.numbers.specs.Regions.{Part}
-use Rattle.stored.specs.Sections.{labellingIn, triplesOf, placesOf, labelsIn}
+use Rattle.stored.specs.Sections.{labellingIn, tuplesOf, placesOf, labelsIn}
 use Rattle.stored.proofs.Sections.{s-at, m-at, e-at, labels-long}
 use Rattle.ask_intervals.specs.Intervals.{judgedBy, judgedFrom, judged, undecidedBy}
 
@@ -57,11 +57,11 @@ module _ (a c s : Bool) where
 module _ (w k : ℕ) (labels : List ℕ) where
   -- labelling l of the labels
   abbrev own : ℕ → Labelling
-  own l = labellingIn w (triplesOf w labels k l) (placesOf w labels k l) k
+  own l = labellingIn w 3 (tuplesOf w 3 labels k l) (placesOf w 3 labels k l) k
 
   module _ (l x t : ℕ) (triples : List ℕ) (x-low : x < k) (t-low : t < k) (P : Part labels (w * (l * (4 * k))) (w * (3 * k)) triples) where
-    read : triples ≡ triplesOf w labels k l
-    unfolding triplesOf
+    read : triples ≡ tuplesOf w 3 labels k l
+    unfolding tuplesOf
     read = P .is
 
     -- its three bounds
@@ -75,10 +75,10 @@ module _ (w k : ℕ) (labels : List ℕ) where
     outer = leb (numAt w triples (3 * x)) (numAt w triples (3 * t))
 
     inside-is : inside x t (own l) ≡ (inner && upper)
-    inside-is = rw (read, m-at _ _ _ _ x x-low, e-at _ _ _ _ t t-low, e-at _ _ _ _ x x-low) refl
+    inside-is = rw (read, m-at _ _ _ _ _ x x-low, e-at _ _ _ _ _ t t-low, e-at _ _ _ _ _ x x-low) refl
 
     outside-is : outside x t (own l) ≡ not (outer && upper)
-    outside-is = rw (read, s-at _ _ _ _ x x-low, s-at _ _ _ _ t t-low, e-at _ _ _ _ t t-low, e-at _ _ _ _ x x-low) refl
+    outside-is = rw (read, s-at _ _ _ _ _ x x-low, s-at _ _ _ _ _ t t-low, e-at _ _ _ _ _ t t-low, e-at _ _ _ _ _ x x-low) refl
 
     -- bound b is the first that decides, as was read
     module _ (b : ℕ) (r : Bool) (below : (j : ℕ) → j < b → undecidedBy w triples x t j ≡ true) (is : r ≡ undecidedBy w triples x t b) (f : r ≡ false) where
@@ -95,37 +95,37 @@ module _ (w k : ℕ) (labels : List ℕ) where
   -- none of the first l labellings of d decides
   pub record Judging (x t d l : ℕ) : Type 0 where
     pub low : l ≤ d
-    pub left : judgedFrom (l + 1) x t (drop l (labelsIn w labels k d)) ≡ judged x t (labelsIn w labels k d)
+    pub left : judgedFrom (l + 1) x t (drop l (labelsIn w 3 labels k d)) ≡ judged x t (labelsIn w 3 labels k d)
 
   module _ (x t d : ℕ) where
     pub judging-none : Judging x t d 0
     judging-none = record { low = omega arith; left = refl }
 
     module _ (l : ℕ) (J : Judging x t d l) where
-      ahead : l < d → drop l (labelsIn w labels k d) ≡ own l ∷ drop (l + 1) (labelsIn w labels k d)
+      ahead : l < d → drop l (labelsIn w 3 labels k d) ≡ own l ∷ drop (l + 1) (labelsIn w 3 labels k d)
       unfolding labelsIn
       ahead h =
-          rw add-one
-          (drop-cons (labelsIn w labels k d) l (own l) (omega (arith, labels-long w labels k d))
-          ∙ ap (_∷ drop (suc l) (labelsIn w labels k d)) (table-at own d l (own l) h))
+          rw (add-one l)
+          (drop-cons (labelsIn w 3 labels k d) l (own l) (omega (arith, labels-long w 3 labels k d))
+          ∙ ap (_∷ drop (suc l) (labelsIn w 3 labels k d)) (table-at own d l (own l) h))
 
       turned :
           l < d
-          → judgedBy (inside x t (own l)) (outside x t (own l)) (l + 1) (judgedFrom (l + 1 + 1) x t (drop (l + 1) (labelsIn w labels k d)))
-          ≡ judged x t (labelsIn w labels k d)
+          → judgedBy (inside x t (own l)) (outside x t (own l)) (l + 1) (judgedFrom (l + 1 + 1) x t (drop (l + 1) (labelsIn w 3 labels k d)))
+          ≡ judged x t (labelsIn w 3 labels k d)
       turned h = simp add-one (simp add-one at (rw (ahead h) at (J .left)))
 
       pub judging-more : l < d → (inside x t (own l) ≡ false) × (outside x t (own l) ≡ false) → Judging x t d (l + 1)
       judging-more h e = record { low = omega arith; left = rw (e .0, e .1) at (turned h) }
 
-      pub judging-inside : l < d → inside x t (own l) ≡ true → record { inside = l + 1; outside = 0 } ≡ judged x t (labelsIn w labels k d)
+      pub judging-inside : l < d → inside x t (own l) ≡ true → record { inside = l + 1; outside = 0 } ≡ judged x t (labelsIn w 3 labels k d)
       judging-inside h e = rw e at (turned h)
 
       pub judging-outside :
-          l < d → (inside x t (own l) ≡ false) × (outside x t (own l) ≡ true) → record { inside = 0; outside = l + 1 } ≡ judged x t (labelsIn w labels k d)
+          l < d → (inside x t (own l) ≡ false) × (outside x t (own l) ≡ true) → record { inside = 0; outside = l + 1 } ≡ judged x t (labelsIn w 3 labels k d)
       judging-outside h e = rw (e .0, e .1) at (turned h)
 
-      pub judging-all : d ≤ l → record { inside = 0; outside = 0 } ≡ judged x t (labelsIn w labels k d)
+      pub judging-all : d ≤ l → record { inside = 0; outside = 0 } ≡ judged x t (labelsIn w 3 labels k d)
       judging-all h =
-          let high : length (labelsIn w labels k d) ≤ l = omega (arith, labels-long w labels k d) in
-          ap (judgedFrom (l + 1) x t) (sym (drop-of-length-le (labelsIn w labels k d) high)) ∙ J .left
+          let high : length (labelsIn w 3 labels k d) ≤ l = omega (arith, labels-long w 3 labels k d) in
+          ap (judgedFrom (l + 1) x t) (sym (drop-of-length-le (labelsIn w 3 labels k d) high)) ∙ J .left

@@ -46,15 +46,15 @@ fn undecided_by(triples: &[u8], w: usize, x: usize, t: usize, b: usize) -> bool
 
 // Both interval tests at once: a loop over labellings and bounds, left when one labelling decides.
 pub fn judge(labels: &[u8], w: usize, k: usize, d: usize, x: usize, t: usize) -> Judged
-    requires { ⌜ Labellings w (now labels) k d ⌝ }
+    requires { ⌜ Labellings w 3 (now labels) k d ⌝ }
     requires { ⌜ (x < k) × (t < k) ⌝ }
-    ensures { λ r. ⌜ r ≡ judged x t (labelsIn w (now (labels .entry)) k d) ⌝ }
+    ensures { λ r. ⌜ r ≡ judged x t (labelsIn w 3 (now (labels .entry)) k d) ⌝ }
 {
     let mut l = 0;
     let mut inside = 0;
     let mut outside = 0;
     'labellings: while l < d {
-        let triples = stored::parts::triples(labels, w, k, d, l);
+        let triples = stored::parts::tuples(labels, w, 3, k, d, l);
         let mut b = 0;
         while b < 3 {
             if !undecided_by(triples, w, x, t, b) {

@@ -13,7 +13,7 @@ use Rattle.numbers.proofs.Numbers.{numbers-long, numbers-at}
 use Rattle.stored_header.specs.declared.Layout.{Layout}
 use Rattle.stored.specs.Sections.{childrenIn, indexFrom, indexAt}
 use Rattle.stored.proofs.Sections.{children-long}
-use Rattle.sound_places.specs.Lent.{Lent}
+use Rattle.sound_places.specs.Lent.{Lent, InTriples}
 use Rattle.sound_places.proofs.Vertices.{lent-sound}
 use Rattle.ask.proofs.Soundness.{fit, question-is}
 use Rattle.ask_pairs.specs.Places.{Listed, Named, Placed, Ready, byPlace}
@@ -58,7 +58,7 @@ module _ {l : Layout} {names groups levels starts children labels : List ℕ} (S
         ∙ numbers-at w names n v b;
   }
 
-  -- the table holds the place of every vertex's group, so it answers as the index does
+  -- the table holds the place of every vertex's group
   module _ {places : List ℕ} (P : Placed w n k names groups places) where
     placed : (v : ℕ) → v < n → getD places v 0 ≡ placeIn (indexAt l names groups levels starts children labels) v
     unfolding indexFrom
@@ -71,10 +71,16 @@ module _ {l : Layout} {names groups levels starts children labels : List ℕ} (S
     unfolding indexFrom
     placed-low v h = omega (arith, placed v h, children-long w starts children k (l .c), place-low (lent-sound S) v (in-names v h))
 
-    pub ready : Ready w n k (l .d) groups levels starts children labels places
-    ready = record { few = S .vertices-few; low = placed-low; fit = fit S }
+-- so it answers as the index does
+module _
+    {l : Layout} {names groups levels starts children labels : List ℕ} (Q : InTriples l names groups levels starts children labels)
+    {places : List ℕ} (P : Placed (l .width) (l .n) (l .k) names groups places)
+  where
+    pub ready : Ready (l .width) (l .n) (l .k) (l .d) groups levels starts children labels places
+    ready = record { few = Q .lent .vertices-few; low = placed-low (Q .lent) P; fit = fit Q }
 
     pub answers-same :
-        (u v : ℕ) → u < n → v < n
-        → byPlace w n k (l .d) groups levels starts children labels places u v ≡ answer (indexAt l names groups levels starts children labels) u v
-    answers-same u v a b = question-is S u v (getD places u 0) (getD places v 0) (replicate n 0) (placed u a) (placed v b) refl
+        (u v : ℕ) → u < l .n → v < l .n
+        → byPlace (l .width) (l .n) (l .k) (l .d) groups levels starts children labels places u v ≡ answer (indexAt l names groups levels starts children labels) u v
+    answers-same u v a b =
+        question-is Q u v (getD places u 0) (getD places v 0) (replicate (l .n) 0) (placed (Q .lent) P u a) (placed (Q .lent) P v b) refl

@@ -11,7 +11,7 @@ ghost use Rattle.numbers.specs.Bounds.{vertexBound};
 ghost use Rattle.numbers.specs.Put.{put};
 ghost use Rattle.numbers.specs.Regions.{Kept};
 ghost use Rattle.stored.specs.Sections.{indexAt};
-ghost use Rattle.sound_places.specs.Lent.{Lent};
+ghost use Rattle.sound_places.specs.Lent.{InTriples};
 ghost use Rattle.ask_walk.specs.Fit.{groupsIn, Fit};
 ghost use Rattle.ask_walk.specs.Stamps.{seenAs, Under};
 ghost use Rattle.ask_stacked.specs.Words.{stackWords};
@@ -238,7 +238,7 @@ pub fn ask_pairs(
     work: &mut [u32],
     answers: &mut [u32],
 )
-    requires { ⌜ Lent l (now names) (now groups) (now levels) (now starts) (now children) (now labels) ⌝ }
+    requires { ⌜ InTriples l (now names) (now groups) (now levels) (now starts) (now children) (now labels) ⌝ }
     requires { ⌜ stackWords (l .width) (l .n) + l .n ≤ length (now work) ⌝ }
     requires { ⌜ (now marks ≡ replicate (l .n) 0) × ((length (now sources) ≡ length (now targets)) × (6 * length (now sources) ≤ length (now answers))) ⌝ }
     ensures { λ _. ⌜ now (answers .exit) ≡ put (now (answers .entry)) 0 (sixes (l .n) (answer (indexAt l (now (names .entry)) (now (groups .entry)) (now (levels .entry)) (now (starts .entry)) (now (children .entry)) (now (labels .entry)))) (now (sources .entry)) (now (targets .entry)) (length (now (sources .entry)))) ⌝ }

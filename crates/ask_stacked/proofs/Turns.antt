@@ -97,7 +97,7 @@ module _ {w k d t : ℕ} {groups levels starts children labels : List ℕ} {n L 
   pub turn-skip : {r : Bool} → r ≡ skips w t groups levels m h → r ≡ true → Walking w k d t groups levels starts children labels n L a work₀ m work behind depth opened
   turn-skip is e = over (skip-over (C .fit) (C .walking .safe) turn-low is e)
 
-  module _ {j : Judged} (told : j ≡ judged h t (labelsIn w labels k d)) where
+  module _ {j : Judged} (told : j ≡ judged h t (labelsIn w 3 labels k d)) where
     pub turn-cut : 0 < j .outside → Walking w k d t groups levels starts children labels n L a work₀ m work behind depth opened
     turn-cut b = over (judged-cut (C .fit) (C .walking .safe) turn-low told b)
 

@@ -31,18 +31,18 @@ module _ {w k d t : ℕ} {groups levels starts children labels : List ℕ} {mark
   N = netIn w k d t groups levels starts children labels
 
   -- rule 2 of h, from what the inner test gives
-  module _ (h l : ℕ) (e : l ≡ firstLabelling (inside h t) (labelsIn w labels k d)) where
+  module _ (h l : ℕ) (e : l ≡ firstLabelling (inside h t) (labelsIn w 3 labels k d)) where
     pub net-deciding : l ≡ N .deciding h
     unfolding netIn
     net-deciding = e
 
     pub net-yes : 0 < l → N .yes h ≡ true
     unfolding netIn
-    net-yes b = first-given (inside h t) (labelsIn w labels k d) ∙ rw (← e) (lt-ltb 0 l b)
+    net-yes b = first-given (inside h t) (labelsIn w 3 labels k d) ∙ rw (← e) (lt-ltb 0 l b)
 
     pub net-not-yes : l ≤ 0 → N .yes h ≡ false
     unfolding netIn
-    net-not-yes b = first-given (inside h t) (labelsIn w labels k d) ∙ rw (← e) (le-ltb 0 l b)
+    net-not-yes b = first-given (inside h t) (labelsIn w 3 labels k d) ∙ rw (← e) (le-ltb 0 l b)
 
   -- a group's mark stands at its name
   pub net-spot : (g : ℕ) → g < k → numAt w groups g ≡ N .spot g

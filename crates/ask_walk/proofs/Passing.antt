@@ -82,26 +82,26 @@ module _ {w k d t : ℕ} {groups levels starts children labels : List ℕ} {mark
           | inr c ↦ (sym mark ∙ c .1, sym three ∙ c .0)
         ]
 
-  four : rule4 I h t ≡ ltb 0 (firstLabelling (outside h t) (labelsIn w labels k d))
-  four = first-given (outside h t) (labelsIn w labels k d)
+  four : rule4 I h t ≡ ltb 0 (firstLabelling (outside h t) (labelsIn w 3 labels k d))
+  four = first-given (outside h t) (labelsIn w 3 labels k d)
 
   -- the labellings
-  module _ {j : Judged} (told : j ≡ judged h t (labelsIn w labels k d)) where
+  module _ {j : Judged} (told : j ≡ judged h t (labelsIn w 3 labels k d)) where
     pub judged-hit : 0 < j .inside → (N .yes h ≡ true) × (j .inside ≡ N .deciding h)
     judged-hit b =
-        let first = judged-inside h t (labelsIn w labels k d) told b in
+        let first = judged-inside h t (labelsIn w 3 labels k d) told b in
         (net-yes F h (j .inside) first b, net-deciding F h (j .inside) first)
 
     pub judged-cut : 0 < j .outside → Over
     judged-cut b =
-        let cut : rule4 I h t ≡ true = four ∙ rw (← judged-outside h t (labelsIn w labels k d) told b) (lt-ltb 0 (j .outside) b) in (
+        let cut : rule4 I h t ≡ true = four ∙ rw (← judged-outside h t (labelsIn w 3 labels k d) told b) (lt-ltb 0 (j .outside) b) in (
           net-two ∙ is-false (rule2 I h t) (λ y. clash cut (F .sure .not-4 h low y)),
           or-right (marked N m h) (net-no ∙ or-right (rule3 I h t) cut),
         )
 
     module _ (none : j .inside ≤ 0) (uncut : j .outside ≤ 0) where
-      neither : (firstLabelling (inside h t) (labelsIn w labels k d) ≡ 0) × (firstLabelling (outside h t) (labelsIn w labels k d) ≡ 0)
-      neither = judged-neither h t (labelsIn w labels k d) told none uncut
+      neither : (firstLabelling (inside h t) (labelsIn w 3 labels k d) ≡ 0) × (firstLabelling (outside h t) (labelsIn w 3 labels k d) ≡ 0)
+      neither = judged-neither h t (labelsIn w 3 labels k d) told none uncut
 
       pub judged-missed : N .yes h ≡ false
       judged-missed = net-not-yes F h 0 (sym (neither .0)) (omega arith)

@@ -60,7 +60,7 @@ pub record Turn (w k d t : ℕ) (groups levels starts children labels : List ℕ
 -- No test decides h: it is not passed over, and no labelling tells of it.
 pub record Untold (w k d t : ℕ) (groups levels labels m : List ℕ) (h : ℕ) : Type 0 where
   pub j : Judged
-  pub told : j ≡ judged h t (labelsIn w labels k d)
+  pub told : j ≡ judged h t (labelsIn w 3 labels k d)
   pub none : j .inside ≤ 0
   pub uncut : j .outside ≤ 0
   pub r : Bool
@@ -99,7 +99,7 @@ module _ {w k d t : ℕ} {groups levels starts children labels : List ℕ} {mark
     turn-skip e = over (skip-over (C .fit) (C .safe) turn-low is e)
 
   -- otherwise the labellings tell of h
-  module _ {j : Judged} (told : j ≡ judged h t (labelsIn w labels k d)) where
+  module _ {j : Judged} (told : j ≡ judged h t (labelsIn w 3 labels k d)) where
     -- rule 2 ends the walk
     pub turn-hit : 0 < j .inside → walked true (j .inside) n m ≡ tryAt N L (all w row) m₀
     turn-hit b =

@@ -26,7 +26,7 @@ groupsIn w k d groups levels starts children labels = record {
   groups = numbers w groups k;
   levels = numbers w levels k;
   children = childrenIn w starts children k (count w children);
-  labels = labelsIn w labels k d;
+  labels = labelsIn w 3 labels k d;
 }
 
 -- what the walk towards t goes by
@@ -63,7 +63,7 @@ pub record Fresh (N : Net) (w k L stamp : ℕ) (groups levels m : List ℕ) (g :
 -- each section holds its numbers, child starts rise within the children, children are places of lower levels, and each group's mark is one of its own among
 -- so many; t is a place, and the rules agree about it
 pub record Fit (w k d t : ℕ) (groups levels starts children labels : List ℕ) (marks : ℕ) : Type 0 where
-  pub labelled : Labellings w labels k d
+  pub labelled : Labellings w 3 labels k d
   pub target-low : t < k
   pub groups-long : w * k ≤ length groups
   pub levels-long : w * k ≤ length levels

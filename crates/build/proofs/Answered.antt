@@ -1,5 +1,5 @@
--- A build at a form's row, from its two halves. Where a check of 1 to 7 refuses, it refuses for all, and nothing is altered; where all pass, 8 and 9 and the build behind
--- them decide, and the needed words are set to 0.
+-- A build at a form's row, from its two halves. Where a check of 1 to 7 refuses, it refuses for all, and nothing is altered; where all pass, 8, 22 and 9 and the build
+-- behind them decide, and the needed words are set to 0.
 use mathlib.Core.Bool.{Bool, cond}
 use mathlib.Core.Path.{_≡_, sym, ap, _∙_}
 use mathlib.Core.List.{List, [], _++_}
@@ -9,13 +9,11 @@ use lib.ListN.{length, drop}
 use Rattle.lineage.specs.Lists.{cleared}
 use Rattle.lineage.specs.Stored.{Form, encode}
 use Rattle.lineage.specs.Calls.{Check, Outcome, refused, answered, outcome, Input, workNeeded, built, lengthOf, buildEarly, buildLate, buildAnswer, buildOutput, buildWork}
-use Rattle.numbers.specs.Bounds.{vertexBound, entryBound}
 use Rattle.numbers.proofs.Cleared.{cleared-kept}
 use Rattle.stored_header.specs.declared.Row.{Row}
 use Rattle.laws.specs.Checks.{Pass, Comes}
 use Rattle.laws.proofs.Checks.{answered-pass, answered-is, refused-comes, rest-comes}
-use Rattle.build_indexed.specs.Written.{writtenAs}
-use Rattle.build.specs.Input.{boundsOf, formBy, RowFit}
+use Rattle.build.specs.Input.{formBy}
 use Rattle.build.specs.Admitted.{Admitted}
 use Rattle.build.specs.Answers.{LateBuilt}
 use Rattle.build.proofs.Checks.{admitted}
@@ -51,25 +49,15 @@ module _ (form : ℕ) (row : Row) (B : Input) (work out : List ℕ) where
     pass : Pass early
     pass = answered-pass (workNeeded (B .graph)) early needed (sym passed)
 
-    pub admitted-within : RowFit form row → Admitted (boundsOf vertexBound entryBound) B (length work)
-    admitted-within fit =
-        let A = admitted F B (length work) pass in
-        record {
-          vertices = omega (arith, A .vertices, fit .vertices);
-          edges = omega (arith, A .edges, fit .edges);
-          ends = A .ends;
-          least = A .least;
-          most = A .most;
-          whole = A .whole;
-          room = A .room;
-        }
+    pub admitted-row : Admitted F B (length work)
+    admitted-row = admitted F B (length work) pass
 
-    module _ {said : Outcome ℕ} {w₁ out₁ : List ℕ} (L : LateBuilt (writtenAs form (row .width)) B work out said w₁ out₁) where
-      pub needed-there : RowFit form row → needed ≤ length w₁
-      needed-there fit = omega (arith, needed-is, L .kept .long, admitted-within fit .room)
+    module _ {said : Outcome ℕ} {w₁ out₁ : List ℕ} (L : LateBuilt F B work out said w₁ out₁) where
+      pub needed-there : needed ≤ length w₁
+      needed-there = omega (arith, needed-is, L .kept .long, admitted-row .room)
 
       pub late-answered : {w₂ : List ℕ} → w₂ ≡ cleared needed w₁ → Answers F B work out said w₂ out₁
-      unfolding encode buildOutput
+      unfolding buildOutput
       late-answered e =
           let (o, (w, p)) = answers-by (rest-comes (lengthOf F (built B)) early [] late pass (sym (L .answer))) in
           (o, (e ∙ ap (λ (n : ℕ). cleared n w₁) needed-is ∙ cleared-kept (workNeeded (B .graph)) (L .kept) ∙ w, L .output ∙ p))

@@ -2,10 +2,11 @@
 use mathlib.Core.Bool.{Bool, true, false, not, _&&_, cond}
 use mathlib.Core.Path.{_≡_, refl, subst, subst⁻¹}
 use mathlib.Core.List.{List}
-use Prim.Native.Nat.{ℕ}
+use Prim.Native.Nat.{ℕ, zero, suc}
 use native.Mathlib.Omega.{arith}
 use lib.Dec.{leb}
 use lib.ListN.{length}
+use borrow.Author.Tests.{leb-true}
 use Rattle.lineage.specs.Stored.{formOf, isForm}
 use Rattle.lineage.specs.Calls.{Outcome, refused, answered, refuse, takes, ordinary, Input, buildAnswer, buildOutput, buildWork, buildCall, buildCallOutput, buildCallWork}
 use Rattle.laws.proofs.Tests.{both}
@@ -14,6 +15,16 @@ use Rattle.build.proofs.Answered.{Answers}
 -- a form that is taken is one of the table
 pub taken-known : (form : ℕ) → takes ordinary form ≡ true → isForm form ≡ true
 taken-known form taken = both (leb 1 form && leb form 2) (isForm form) taken .1
+
+-- none of those that the call takes is one of plain hierarchies
+pub ordinary-plain : (form : ℕ) → takes ordinary form ≡ true → formOf form .tree ≡ false
+ordinary-plain zero taken = refl
+ordinary-plain (suc zero) taken = refl
+ordinary-plain (suc (suc zero)) taken = refl
+ordinary-plain (suc (suc (suc form))) taken =
+    let number : ℕ = suc (suc (suc form)) in
+    let within = both (leb 1 number && leb number 2) (isForm number) taken .0 in
+    absurd (omega (arith, leb-true number 2 (both (leb 1 number) (leb number 2) within .1)))
 
 -- what the call answers and leaves
 abbrev pub CallAnswers : ℕ → Input → (work out : List ℕ) → Outcome ℕ → (work' out' : List ℕ) → Type 0

@@ -9,7 +9,7 @@ use lib.ListN.{length}
 use borrow.Author.Tests.{ltb-false, eqb-true, eqb-false, not-false, lt-ltb, le-ltb}
 use Rattle.lineage.specs.Lists.{upto, any, firstOf}
 use Rattle.lineage.specs.Graph.{Graph}
-use Rattle.lineage.specs.Stored.{Form, mostLabellings}
+use Rattle.lineage.specs.Stored.{Form}
 use Rattle.lineage.specs.Calls.{Input, workNeeded, buildEarly}
 use Rattle.laws.proofs.Tests.{or-false-left, or-false-right}
 use Rattle.laws.specs.Checks.{Pass}
@@ -32,7 +32,7 @@ module _ (p : ℕ → Bool) (n first : ℕ) (found : first ≡ firstOf p (upto n
 pub admitted : (F : Form) (B : Input) (work : ℕ) → Pass (buildEarly F B work) → Admitted F B work
 admitted F B work p =
     let G : Graph = B .graph in
-    let some : B .d ≡ 0 → ⊥ = eqb-false (B .d) 0 (or-false-left (eqb (B .d) 0) (ltb mostLabellings (B .d)) (p .1 .1 .1 .0)) in
+    let some : B .d ≡ 0 → ⊥ = eqb-false (B .d) 0 (or-false-left (eqb (B .d) 0) (ltb (F .labellings) (B .d)) (p .1 .1 .1 .0)) in
     let paired : length (G .sources) ≡ length (G .targets) =
     eqb-true (length (G .sources)) (length (G .targets)) (not-false (eqb (length (G .sources)) (length (G .targets))) (p .1 .0)) in
     record {
@@ -40,7 +40,7 @@ admitted F B work p =
       edges = ltb-false (F .edges) (length (G .sources)) (p .1 .1 .0);
       ends = ends-of G paired (p .1 .1 .1 .1 .1 .1 .0);
       least = pos-of-ne-zero some;
-      most = ltb-false mostLabellings (B .d) (or-false-right (eqb (B .d) 0) (ltb mostLabellings (B .d)) (p .1 .1 .1 .0));
+      most = ltb-false (F .labellings) (B .d) (or-false-right (eqb (B .d) 0) (ltb (F .labellings) (B .d)) (p .1 .1 .1 .0));
       whole = eqb-true (length (B .orders)) (B .d * G .n) (not-false (eqb (length (B .orders)) (B .d * G .n)) (p .1 .1 .1 .1 .0));
       room = ltb-false work (workNeeded G) (p .1 .1 .1 .1 .1 .0);
     }

@@ -1,5 +1,6 @@
 -- The laws of build.
 pub mod Checks
+pub mod Tree
 pub mod Outcomes
 pub mod Answered
 pub mod Row
@@ -7,3 +8,5 @@ pub mod Call
 pub mod Accepted
 pub mod Theorems
 pub mod Same
+pub mod Hierarchy
+pub mod Yielded

@@ -2,12 +2,11 @@
 use mathlib.Core.Bool.{true}
 use mathlib.Core.Path.{_≡_, sym, ap, subst, subst⁻¹, _∙_}
 use mathlib.Core.List.{List}
-use Prim.Native.Nat.{ℕ, _≤_}
+use Prim.Native.Nat.{ℕ, _^_, _<_}
 use native.Mathlib.Omega.{arith}
 use borrow.Author.Tests.{eqb-true}
 use Rattle.lineage.specs.Stored.{Form, formOf, isForm}
 use Rattle.lineage.specs.Calls.{Outcome, Input}
-use Rattle.numbers.specs.Bounds.{entryBound}
 use Rattle.stored_header.specs.declared.Row.{Row}
 use Rattle.stored_header.specs.Header.{rowOf}
 use Rattle.stored_header.proofs.Forms.{form-within}
@@ -18,10 +17,13 @@ module _ (form : ℕ) (row : Row) (known : isForm form ≡ true) (is : row ≡ r
   number-is : form ≡ formOf form .number
   number-is = sym (eqb-true (formOf form .number) form known)
 
-  pub row-fit : RowFit form row
+  pub number-small : form < 2 ^ 32
+  number-small = omega (arith, number-is, form-within form .number)
+
+  pub row-fit : RowFit row
   row-fit =
-      subst⁻¹ (RowFit form) is
-      (record { number-small = omega (arith, number-is, form-within form .number); width = form-within form .width; vertices = form-within form .vertices; edges = form-within form .edges })
+      let W = form-within form in
+      subst⁻¹ RowFit is (record { width = W .width; stride = W .stride; labellings = W .labellings; vertices = W .vertices; edges = W .edges })
 
   row-form : formBy form row ≡ formOf form
   row-form = ap (formBy form) is ∙ ap (λ (number : ℕ). formBy number (rowOf form)) number-is

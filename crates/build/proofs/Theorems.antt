@@ -14,10 +14,12 @@ use borrow.Author.Tests.{lt-leb}
 use Rattle.lineage.specs.Lists.{upto, Every}
 use Rattle.lineage.specs.Graph.{Graph, Reaches, condense}
 use Rattle.lineage.specs.Labels.{Order, labelling}
-use Rattle.lineage.specs.Index.{Index, indexBy, indexOf}
+use Rattle.lineage.specs.Index.{Index, indexBy, indexOf, Made}
 use Rattle.lineage.specs.Question.{answer}
 use Rattle.lineage.specs.Stored.{Form, Counts, countsOf, encode, headerAt, countsIn, formOf}
-use Rattle.lineage.specs.Calls.{Check, check, refused, answered, outcome, FormsTaken, takes, ordinary, Input, orderAt, ordersOf, built, lengthOf, buildEarly, buildLate, buildAnswer, buildOutput, buildCall, buildCallOutput, buildCallWork, wordsFor, indexIn, formChecks, contentsCheck, openAnswer, askEarly, saidOf, askAnswer}
+use Rattle.lineage.specs.Sound.{isTree}
+use Rattle.lineage.specs.Calls.{Check, check, Outcome, refused, answered, outcome, FormsTaken, takes, ordinary, Input, orderAt, ordersOf, built, lengthOf, buildEarly, buildLate, buildAnswer, buildOutput, buildCall, buildCallOutput, buildCallWork, wordsFor, indexIn, formChecks, contentsCheck, openAnswer, askEarly, saidOf, askAnswer}
+use Rattle.laws.proofs.Tests.{clash}
 use Rattle.laws.proofs.Sound.{made-sound, made-long}
 use Rattle.laws.proofs.Decides.{sound-decides}
 use Rattle.laws.proofs.Lists.{table-long}
@@ -34,8 +36,9 @@ use Rattle.build.specs.Admitted.{Admitted}
 use Rattle.build.specs.Answers.{builtOf}
 use Rattle.build.proofs.Checks.{admitted}
 use Rattle.build.proofs.Answered.{Answers}
+use Rattle.build.proofs.Tree.{plain-passed}
 use Rattle.build.proofs.Accepted.{accepted}
-use Rattle.build.proofs.Call.{call-refused, call-at, call-taken}
+use Rattle.build.proofs.Call.{ordinary-plain, call-refused, call-at, call-taken}
 
 -- a finished build at a form of the table: the work memory and the output that it was lent, the total length that it answered, and what it left
 pub record Finished (F : Form) (B : Input) : Type 0 where
@@ -46,6 +49,19 @@ pub record Finished (F : Form) (B : Input) : Type 0 where
   pub work' : List ℕ
   pub out' : List ℕ
   pub allowed : Answers F B work out (answered total) work' out'
+
+-- at any form: input that is right, with an output that is long enough, is built; at a form of plain hierarchies the graph has to be one
+pub answers-finish : (F : Form) (B : Input) (work out : List ℕ) {said : Outcome ℕ} {work' out' : List ℕ}
+    → Answers F B work out said work' out'
+    → Admitted F B (length work)
+    → Every (Order (B .graph .n)) (ordersOf B)
+    → (F .tree ≡ true → isTree (built B .children) ≡ true)
+    → lengthOf F (built B) ≤ length out
+    → said ≡ answered (lengthOf F (built B))
+unfolding buildAnswer
+answers-finish F B work out X A permuted plain room =
+    X .0
+    ∙ stops-outcome (lengthOf F (built B)) (buildEarly F B (length work) ++ buildLate F B (length out)) 10 (accepted F B (length work) (length out) A permuted plain room)
 
 -- What `build` may answer and leave, by its contract.
 pub record Allowed (form : ℕ) (B : Input) (work out : List ℕ) (r : Built) (work' out' : List ℕ) : Type 0 where
@@ -77,10 +93,8 @@ module _ {form : ℕ} {B : Input} {work out : List ℕ} {r : Built} {work' out' 
       → Every (Order (B .graph .n)) (ordersOf B)
       → lengthOf own (built B) ≤ length out
       → builtOf r ≡ answered (lengthOf own (built B))
-  unfolding buildAnswer
   build-finishes taken A permuted room =
-      call-at form B work out taken (X .answers, (X .leaves, X .writes)) .0
-      ∙ stops-outcome (lengthOf own (built B)) (buildEarly own B (length work) ++ buildLate own B (length out)) 9 (accepted own B (length work) (length out) A permuted room)
+      answers-finish own B work out (call-at form B work out taken (X .answers, (X .leaves, X .writes))) A permuted (λ t. clash t (ordinary-plain form taken)) room
 
   -- a build that finishes was told a form that is taken, and is a finished build at that form
   module _ {total : ℕ} (done : builtOf r ≡ answered total) where
@@ -132,9 +146,13 @@ module _ {F : Form} {B : Input} (D : Finished F B) where
   orders-many : length (ordersOf B) ≡ B .d
   orders-many = table-long (orderAt (G .n) (B .orders)) (B .d)
 
+  -- at a form of plain hierarchies the graph is one
+  pub graph-plain : F .tree ≡ true → isTree (built B .children) ≡ true
+  graph-plain = plain-passed (F .tree) (isTree (built B .children)) (pass-behind early late passes .1 .0)
+
   fits : Fits F (built B)
   fits =
-      yielded-fits (D .wide) G (input-right .ends) (ordersOf B) orders-right
+      yielded-fits (D .wide) G (input-right .ends) (ordersOf B) orders-right graph-plain
       (bounds-kept (D .wide) G (input-right .ends) (ordersOf B) orders-right (input-right .vertices) (input-right .edges)
       (omega (arith, orders-many, input-right .least))
       (omega (arith, orders-many, input-right .most)))
@@ -147,7 +165,7 @@ module _ {F : Form} {B : Input} (D : Finished F B) where
   unfolding buildOutput
   output-is =
       D .allowed .1 .1
-      ∙ rw (stops-early (early ++ late) [] 9 passes)
+      ∙ rw (stops-early (early ++ late) [] 10 passes)
       (ap (λ (n : ℕ). encode F (built B) ++ drop n (D .out)) (sym total-is))
 
   -- the output begins with it, and goes on as it was
@@ -157,7 +175,7 @@ module _ {F : Form} {B : Input} (D : Finished F B) where
   pub build-keeps : drop total (D .out') ≡ drop total (D .out)
   build-keeps = ap (λ (o : List ℕ). drop total o) output-is ∙ drop-at (encode F (built B)) (drop total (D .out)) total total-right
 
-  names-many : length (built B .names) ≡ G .n
+  pub names-many : length (built B .names) ≡ G .n
   names-many = made-long (record { graph = G; ends = input-right .ends; orders = ordersOf B; permuted = orders-right; yields = refl })
 
   -- that names the form,
@@ -168,8 +186,15 @@ module _ {F : Form} {B : Input} (D : Finished F B) where
   pub stored-index : indexIn (take total (D .out')) ≡ built B
   stored-index = ap indexIn build-stores ∙ index-encode fits
 
-  stored-counts : countsIn (take total (D .out')) .n ≡ G .n
-  stored-counts = ap (λ (b : List ℕ). countsIn b .n) build-stores ∙ ap (λ (a : Counts). a .n) (counts-read fits) ∙ names-many
+  -- of this edge list
+  abbrev pub build-made : Made (indexIn (take total (D .out')))
+  build-made = record { graph = G; ends = input-right .ends; orders = ordersOf B; permuted = orders-right; yields = sym stored-index }
+
+  pub stored-counts : countsIn (take total (D .out')) ≡ countsOf (built B)
+  stored-counts = ap countsIn build-stores ∙ counts-read fits
+
+  vertices-many : countsIn (take total (D .out')) .n ≡ G .n
+  vertices-many = ap (λ (a : Counts). a .n) stored-counts ∙ names-many
 
   -- Calls that take the form, with marks and words that suffice.
   module _ (T : FormsTaken) (marks work : ℕ) (taken : takes T (F .number) ≡ true) (room : G .n ≤ marks) (words : wordsFor (F .width) (countsOf (built B)) ≤ work) where
@@ -178,7 +203,7 @@ module _ {F : Form} {B : Input} (D : Finished F B) where
     build-opens =
         ap (λ (b : List ℕ). openAnswer T b marks work) build-stores
         ∙ sym
-        (fits-opens fits (sound-decides (built B) .1 (made-sound G (input-right .ends) (ordersOf B) orders-right)) T marks work taken (omega (arith, names-many)) words)
+        (fits-opens fits (sound-decides (built B) .1 (made-sound G (input-right .ends) (ordersOf B) orders-right)) graph-plain T marks work taken (omega (arith, names-many)) words)
 
     -- and every question on it is answered
     pub build-asks : (u v : ℕ) → u < G .n → v < G .n → askAnswer T (take total (D .out')) u v marks work ≡ answered (saidOf (answer (built B) u v))
@@ -187,8 +212,8 @@ module _ {F : Form} {B : Input} (D : Finished F B) where
         let b : List ℕ = take total (D .out') in
         let form : List Check = formChecks T b marks work in
         let p = answered-pass (countsIn b) (form ++ (contentsCheck b ∷ [])) (countsOf (built B)) build-opens in
-        let low-source = lt-leb (countsIn b .n) u (omega (arith, stored-counts)) in
-        let low-target = lt-leb (countsIn b .n) v (omega (arith, stored-counts)) in
+        let low-source = lt-leb (countsIn b .n) u (omega (arith, vertices-many)) in
+        let low-target = lt-leb (countsIn b .n) v (omega (arith, vertices-many)) in
         stops-outcome (saidOf (answer (indexIn b) u v)) (askEarly T b u v marks work ++ (contentsCheck b ∷ [])) 8
         (pass-both form (check (leb (countsIn b .n) u) 14 0 ∷ check (leb (countsIn b .n) v) 14 1 ∷ contentsCheck b ∷ [])
         (pass-front form (contentsCheck b ∷ []) p) (low-source, (low-target, pass-behind form (contentsCheck b ∷ []) p)))

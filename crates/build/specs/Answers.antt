@@ -22,7 +22,7 @@ abbrev pub builtOf : Built → Outcome ℕ
 builtOf (ended.Total total) = answered total
 builtOf (ended.Refused number extra) = refused number extra
 
--- checks 8 and 9 and the build behind them: the answer; the output, unchanged by a refusal; and words past those needed are kept
+-- checks 8, 22 and 9 and the build behind them: the answer; the output, unchanged by a refusal; and words past those needed are kept
 pub record LateBuilt (F : Form) (B : Input) (work out : List ℕ) (said : Outcome ℕ) (work' out' : List ℕ) : Type 0 where
   pub answer : said ≡ outcome (buildLate F B (length out)) (lengthOf F (built B))
   pub output :

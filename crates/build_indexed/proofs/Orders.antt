@@ -43,13 +43,14 @@ module _ {l : Layout} {e : ℕ} {orders work : List ℕ} (fit : Ready l e orders
           order-labelled = rw (children-is, base-is) at made
 
           pub labelling-fits : (out' : List ℕ) (at : ℕ)
-              → at + l .width * (4 * l .k) ≤ length out'
-              → LabellingFit out' at (l .width) work' walk (walk + 5 * l .k) (walk + 6 * l .k) (walk + 4 * l .k) (l .k)
+              → at + l .width * ((l .stride + 1) * l .k) ≤ length out'
+              → LabellingFit out' at (l .width) (l .stride) work' walk (walk + 5 * l .k) (walk + 6 * l .k) (walk + 4 * l .k) (l .k)
           labelling-fits out' at h =
               let room = fit .stored .fit .vertices .room in
               let long = order-labelled .kept .long in
               record {
                 width = fit .width;
+                stride = fit .stride;
                 room = h;
                 s-in = omega arith;
                 m-in = omega arith;
@@ -62,7 +63,7 @@ module _ {l : Layout} {e : ℕ} {orders work : List ℕ} (fit : Ready l e orders
           labelling-there = rw walk-is
 
           pub order-written : (out' r : List ℕ) (at : ℕ)
-              → r ≡ put out' at (written (l .width) (labelNumbers (l .k) (labellingInWords work' walk (walk + 5 * l .k) (walk + 6 * l .k) (walk + 4 * l .k) (l .k))))
+              → r ≡ put out' at (written (l .width) (labelNumbers (l .stride) (l .k) (labellingInWords work' walk (walk + 5 * l .k) (walk + 6 * l .k) (walk + 4 * l .k) (l .k))))
               → r ≡ put out' at (written (l .width) (labellingBlock l e orders work j))
           order-written out' r at h =
-              h ∙ ap (λ (z : Labelling). put out' at (written (l .width) (labelNumbers (l .k) z))) (labelling-there ∙ order-labelled .made)
+              h ∙ ap (λ (z : Labelling). put out' at (written (l .width) (labelNumbers (l .stride) (l .k) z))) (labelling-there ∙ order-labelled .made)

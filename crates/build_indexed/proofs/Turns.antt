@@ -30,7 +30,7 @@ use Rattle.build_indexed.specs.Memory.{childrenFrom, labelsFrom, labelli
 -- j orders are gone through: their labellings are written, and the last of them is still there
 pub record Turns (l : Layout) (e : ℕ) (orders out₀ work₀ out work : List ℕ) (at j : ℕ) : Type 0 where
   pub most : j ≤ l .d
-  pub here : at ≡ l .labels + l .width * (4 * l .k * j)
+  pub here : at ≡ l .labels + l .width * ((l .stride + 1) * l .k * j)
   pub long : length out ≡ length out₀
   pub kept : Kept work₀ work (labelsFrom (l .n) (l .k) e) (labelsWindow (l .n) (l .k) (l .c))
   pub last : 0 < j → OrderLabelled l e orders work₀ work (j - 1)
@@ -38,8 +38,8 @@ pub record Turns (l : Layout) (e : ℕ) (orders out₀ work₀ out work : List �
 
 module _ {l : Layout} {e : ℕ} {orders work₀ : List ℕ} (fit : Ready l e orders work₀) where
   -- where the labels end
-  pub total-at : l .total ≡ l .labels + l .width * (l .d * (4 * l .k))
-  total-at = sited-by l (l .width) (counts (l .n) (l .k) (l .c) (l .d)) (fit .laid) .total-at
+  pub total-at : l .total ≡ l .labels + l .width * (l .d * ((l .stride + 1) * l .k))
+  total-at = sited-by l (l .width) (l .stride) (counts (l .n) (l .k) (l .c) (l .d)) (fit .laid) .total-at
 
   -- something was written where labellings are made: the groups are still there
   module _ {work : List ℕ} (K : Kept work₀ work (labelsFrom (l .n) (l .k) e) (labelsWindow (l .n) (l .k) (l .c))) where
@@ -65,6 +65,7 @@ module _ {l : Layout} {e : ℕ} {orders work₀ : List ℕ} (fit : Ready l e ord
     ready-kept : Ready l e orders work
     ready-kept = record {
       width = fit .width;
+      stride = fit .stride;
       laid = fit .laid;
       vertices = fit .vertices;
       edges = fit .edges;
@@ -77,16 +78,16 @@ module _ {l : Layout} {e : ℕ} {orders work₀ : List ℕ} (fit : Ready l e ord
 
     block-same : (j : ℕ) → labellingBlock l e orders work j ≡ labellingBlock l e orders work₀ j
     block-same j =
-        ap₂ (λ (names : List ℕ) (children : List (List ℕ)). labelNumbers (l .k) (labelling (groupList names) children (orderAt (l .n) orders j)))
+        ap₂ (λ (names : List ℕ) (children : List (List ℕ)). labelNumbers (l .stride) (l .k) (labelling (groupList names) children (orderAt (l .n) orders j)))
         names-same
         below-same
 
-  -- a labelling has four numbers for each group
-  block-long : (j : ℕ) → j < l .d → length (labellingBlock l e orders work₀ j) ≡ 4 * l .k
+  -- a labelling has z numbers by place and one by rank for each group
+  block-long : (j : ℕ) → j < l .d → length (labellingBlock l e orders work₀ j) ≡ (l .stride + 1) * l .k
   block-long j h =
       let G = fit .stored .fit in
       let all : length (part work₀ 0 (l .n)) ≡ l .n = part-length work₀ 0 (l .n) (omega (arith, G .vertices .room)) in
-      numbers-of-long (l .k) (labellingUnder l e orders work₀ j)
+      numbers-of-long (fit .stride) (l .k) (labellingUnder l e orders work₀ j)
       (labelling-sound (G .sound) (orderAt (l .n) orders j) (rw all (fit .permuted j h)) .at-long ∙ G .sound .children-long ∙ G .vertices .all)
 
   pub turns-none : (out₀ : List ℕ) → Turns l e orders out₀ work₀ out₀ work₀ (l .labels) 0
@@ -104,14 +105,14 @@ module _ {l : Layout} {e : ℕ} {orders work₀ : List ℕ} (fit : Ready l e ord
     turns-ready = ready-kept (t .kept)
 
     -- the next labelling lies in the output
-    pub turns-within : l .total ≤ length out₀ → j < l .d → at + l .width * (4 * l .k) ≤ length out₀
+    pub turns-within : l .total ≤ length out₀ → j < l .d → at + l .width * ((l .stride + 1) * l .k) ≤ length out₀
     turns-within room h =
-        omega (arith, t .here, total-at, mul-le-mul-left (l .width) (labelling-within (l .k) (l .d) j h))
+        omega (arith, t .here, total-at, mul-le-mul-left (l .width) (labelling-within ((l .stride + 1) * l .k) (l .d) j h))
 
     pub turns-more : {out' work' : List ℕ} (step : ℕ)
         → l .total ≤ length out₀
         → j < l .d
-        → step ≡ l .width * (4 * l .k)
+        → step ≡ l .width * ((l .stride + 1) * l .k)
         → length out' ≡ length out
         → OrderLabelled l e orders work work' j
         → out' ≡ put out at (written (l .width) (labellingBlock l e orders work j))
@@ -128,7 +129,7 @@ module _ {l : Layout} {e : ℕ} {orders work₀ : List ℕ} (fit : Ready l e ord
           labels =
               put-is
               ∙ ap (λ (z : List ℕ). put out at (written (l .width) z)) (block-same (t .kept) j)
-              ∙ blocks-more (l .width) (l .labels) (labellingBlock l e orders work₀) out₀ (4 * l .k) out at j (λ i b. block-long i (omega arith)) (t .labels) (t .here)
+              ∙ blocks-more (l .width) (l .labels) (labellingBlock l e orders work₀) out₀ ((l .stride + 1) * l .k) out at j (λ i b. block-long i (omega arith)) (t .labels) (t .here)
               (omega (arith, turns-within room h));
         }
 

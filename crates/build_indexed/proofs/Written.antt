@@ -12,11 +12,11 @@ use Rattle.lineage.specs.Labels.{labelling}
 use Rattle.lineage.specs.Index.{Index, indexBy}
 use Rattle.lineage.specs.Stored.{Form, Counts, offsets, labelNumbers, countsOf, header, encode}
 use Rattle.lineage.specs.Calls.{orderAt, lengthOf}
-use Rattle.laws.proofs.Lists.{upto-low, table-long}
+use Rattle.laws.proofs.Lists.{table-long}
 use Rattle.laws.proofs.Levels.{levels-long}
 use Rattle.laws.proofs.Labelled.{labelling-sound}
 use Rattle.laws.proofs.Parts.{part-length}
-use Rattle.laws.proofs.Every.{every-mapped}
+use Rattle.laws.proofs.Every.{every-table}
 use Rattle.numbers.specs.Put.{put}
 use Rattle.numbers.specs.Regions.{Kept}
 use Rattle.build_levels.specs.Fit.{UpFit}
@@ -25,7 +25,6 @@ use Rattle.build_labelled.specs.Fit.{LabelFit}
 use Rattle.build_labelled.proofs.Again.{levels-fit, levels-beside}
 use Rattle.stored_header.specs.declared.Layout.{Layout}
 use Rattle.stored_header.specs.Header.{counts, headerOf}
-use Rattle.stored.specs.Fits.{Full}
 use Rattle.stored_header.proofs.Laid.{Bounded}
 use Rattle.stored.proofs.Encoded.{header-fits}
 use Rattle.build_writing.specs.Words.{groupSections}
@@ -66,17 +65,15 @@ module _ {l : Layout} {e : ℕ} {orders work₀ : List ℕ} (fit : Ready l e ord
   children-long : length children ≡ length groups
   children-long = fit .stored .fit .sound .children-long
 
-  -- every group has its level, its children and its labels
-  full : (j : ℕ) → j < l .d → Full (length groups) (labellingUnder l e orders work₀ j)
-  full j h =
-      let S = labelling-sound (fit .stored .fit .sound) (orderAt (l .n) orders j) (rw names-long (fit .permuted j h)) in
-      record { s = S .s-long ∙ children-long; m = S .m-long ∙ children-long; e = S .e-long ∙ children-long; byRank = S .at-long ∙ children-long }
+  -- every group has its level and its children, and every rank its place
+  ranks-long : (j : ℕ) → j < l .d → length (labellingUnder l e orders work₀ j .byRank) ≡ length groups
+  ranks-long j h = labelling-sound (fit .stored .fit .sound) (orderAt (l .n) orders j) (rw names-long (fit .permuted j h)) .at-long ∙ children-long
 
   whole : Whole I
   whole = record {
     levels = levels-long children ∙ children-long;
     children = children-long;
-    labels = every-mapped (Full (length groups)) (labellingUnder l e orders work₀) (upto (l .d)) (λ j i. full j (upto-low (l .d) j i));
+    ranks = every-table (λ x. length (x .byRank) ≡ length groups) (labellingUnder l e orders work₀) (l .d) ranks-long;
   }
 
   counts-are : countsOf I ≡ counts (l .n) (l .k) (l .c) (l .d)
@@ -86,15 +83,15 @@ module _ {l : Layout} {e : ℕ} {orders work₀ : List ℕ} (fit : Ready l e ord
       rw (names-long, all, entries, table-long (labellingUnder l e orders work₀) (l .d))
 
   -- its labels
-  section-is : joined (map (labellingBlock l e orders work₀) (upto (l .d))) ≡ labelSection I
+  section-is : joined (map (labellingBlock l e orders work₀) (upto (l .d))) ≡ labelSection (l .stride) I
   section-is =
       ap joined
-      (sym (map-map (labelNumbers (l .k)) (labellingUnder l e orders work₀) (upto (l .d)))
-      ∙ ap (λ (k : ℕ). map (labelNumbers k) (map (labellingUnder l e orders work₀) (upto (l .d)))) (sym all))
+      (sym (map-map (labelNumbers (l .stride) (l .k)) (labellingUnder l e orders work₀) (upto (l .d)))
+      ∙ ap (λ (k : ℕ). map (labelNumbers (l .stride) k) (map (labellingUnder l e orders work₀) (upto (l .d)))) (sym all))
 
   module _ (form : ℕ) where
     abbrev F : Form
-    F = writtenAs form (l .width)
+    F = writtenAs form (l .width) (l .stride)
 
     header-is : headerOf form l ≡ header F (countsOf I)
     header-is = ap (headerOf form) (fit .laid) ∙ ap (header F) (sym counts-are)
@@ -104,6 +101,7 @@ module _ {l : Layout} {e : ℕ} {orders work₀ : List ℕ} (fit : Ready l e ord
         let bounded : Bounded F (counts (l .n) (l .k) (l .c) (l .d)) =
         record {
           width = fit .width;
+          stride = fit .stride;
           vertices = fit .vertices;
           groups = fit .stored .few-groups;
           entries = omega (arith, fit .edges, fit .stored .few-children);
@@ -113,13 +111,13 @@ module _ {l : Layout} {e : ℕ} {orders work₀ : List ℕ} (fit : Ready l e ord
         subst⁻¹ (λ (z : List ℕ). Every (λ x. x < 2 ^ 32) z) (ap (headerOf form) (fit .laid)) (header-fits F (counts (l .n) (l .k) (l .c) (l .d)) small bounded)
 
     total-is : lengthOf F I ≡ l .total
-    total-is = ap (λ (a : Counts). getD (offsets (l .width) (a .n) (a .k) (a .c) (a .d)) 6 0) counts-are ∙ sym (ap (λ (z : Layout). z .total) (fit .laid))
+    total-is = ap (λ (a : Counts). getD (offsets (l .width) (l .stride) (a .n) (a .k) (a .c) (a .d)) 6 0) counts-are ∙ sym (ap (λ (z : Layout). z .total) (fit .laid))
 
     pub index-total : lengthOf F (indexBy (condensedIn work₀ (l .n) (l .k) (l .c) e) (map (orderAt (l .n) orders) (upto (l .d)))) ≡ l .total
     index-total = ap (lengthOf F) index-is ∙ total-is
 
-    labels-is : l .labels ≡ getD (offsets (l .width) (countsOf I .n) (countsOf I .k) (countsOf I .c) (countsOf I .d)) 5 0
-    labels-is = ap (λ (z : Layout). z .labels) (fit .laid) ∙ ap (λ (a : Counts). getD (offsets (l .width) (a .n) (a .k) (a .c) (a .d)) 5 0) (sym counts-are)
+    labels-is : l .labels ≡ getD (offsets (l .width) (l .stride) (countsOf I .n) (countsOf I .k) (countsOf I .c) (countsOf I .d)) 5 0
+    labels-is = ap (λ (z : Layout). z .labels) (fit .laid) ∙ ap (λ (a : Counts). getD (offsets (l .width) (l .stride) (a .n) (a .k) (a .c) (a .d)) 5 0) (sym counts-are)
 
   -- the regions that code has reckoned, and the last labelling in its window
   module _
@@ -173,11 +171,11 @@ module _ {l : Layout} {e : ℕ} {orders work₀ : List ℕ} (fit : Ready l e ord
               → out₁ ≡ put out₀ (l .labels) (written (l .width) (joined (map (labellingBlock l e orders work₀) (upto (l .d)))))
               → out₂
               ≡ put out₁ 0 (written 4 (headerOf form l) ++ joined (map (written (l .width)) (groupSections work₂ l 0 (l .n) base children-at (children-at + l .k + 1))))
-              → out₂ ≡ encode (writtenAs form (l .width)) (indexBy (condensedIn work₀ (l .n) (l .k) (l .c) e) (map (orderAt (l .n) orders) (upto (l .d)))) ++ drop (l .total) out₀
+              → out₂ ≡ encode (writtenAs form (l .width) (l .stride)) (indexBy (condensedIn work₀ (l .n) (l .k) (l .c) e) (map (orderAt (l .n) orders) (upto (l .d)))) ++ drop (l .total) out₀
           index-written form out₀ out₁ out₂ room e₁ e₂ =
               e₂
               ∙ ap₂ (λ (z bytes : List ℕ). put z 0 bytes)
               (e₁ ∙ ap (λ (z : List ℕ). put out₀ (l .labels) (written (l .width) z)) section-is)
               (ap₂ (λ (h : List ℕ) (x : List (List ℕ)). written 4 h ++ joined (map (written (l .width)) x)) (header-is form) sections-are)
-              ∙ index-put (F form) I whole out₀ (l .labels) (labels-is form) (omega (arith, total-is form))
+              ∙ index-put (F form) I (fit .stride) whole out₀ (l .labels) (labels-is form) (omega (arith, total-is form))
               ∙ ap₂ (λ (J : Index) (n : ℕ). encode (F form) J ++ drop n out₀) (sym index-is) (total-is form)

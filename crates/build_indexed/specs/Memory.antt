@@ -22,7 +22,7 @@ use Rattle.build_children.specs.Window.{childrenAt}
 use Rattle.build_labelled.specs.Window.{groupsBy, childrenBy, Labelled}
 use Rattle.build_labelled.specs.Fit.{GroupsFit}
 use Rattle.stored_header.specs.declared.Layout.{Layout}
-use Rattle.stored_header.specs.Header.{counts, layoutBy}
+use Rattle.stored_header.specs.Header.{Stride, counts, layoutBy}
 
 -- where the children lie, and where a labelling is made
 abbrev pub childrenFrom : ℕ → ℕ → ℕ → ℕ
@@ -60,7 +60,8 @@ pub record CondensedFound (G : Graph) (work work' : List ℕ) (k c : ℕ) : Type
 -- a layout within the bounds of every form, orders of its n vertices, and its groups in work
 pub record Ready (l : Layout) (e : ℕ) (orders work : List ℕ) : Type 0 where
   pub width : Width (l .width)
-  pub laid : l ≡ layoutBy (l .width) (counts (l .n) (l .k) (l .c) (l .d))
+  pub stride : Stride (l .stride)
+  pub laid : l ≡ layoutBy (l .width) (l .stride) (counts (l .n) (l .k) (l .c) (l .d))
   pub vertices : l .n ≤ vertexBound
   pub edges : e ≤ entryBound
   pub least : 1 ≤ l .d
@@ -75,7 +76,7 @@ labellingUnder l e orders work j =
     labelling (groupsBy work 0 (l .n)) (childrenBy work (childrenFrom (l .n) (l .k) e) (l .k) (l .c)) (orderAt (l .n) orders j)
 
 abbrev pub labellingBlock : Layout → ℕ → (orders work : List ℕ) → ℕ → List ℕ
-labellingBlock l e orders work j = labelNumbers (l .k) (labellingUnder l e orders work j)
+labellingBlock l e orders work j = labelNumbers (l .stride) (l .k) (labellingUnder l e orders work j)
 
 -- what is left by the labelling under order j
 abbrev pub OrderLabelled : Layout → ℕ → (orders work work' : List ℕ) → ℕ → Type 0

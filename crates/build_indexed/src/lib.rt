@@ -4,7 +4,7 @@ ghost use mathlib.Core.Path.{_≡_};
 ghost use mathlib.Core.List.{_++_, map};
 ghost use Prim.Native.Nat.{_+_, _-_, _*_, _^_, _≤_, _<_};
 ghost use lib.ListN.{length, drop};
-ghost use Rattle.lineage.specs.Lists.{upto, joined};
+ghost use Rattle.lineage.specs.Lists.{upto, firstOf, joined, part};
 ghost use Rattle.lineage.specs.Numbers.{written};
 ghost use Rattle.lineage.specs.Index.{indexBy};
 ghost use Rattle.lineage.specs.Stored.{encode};
@@ -15,6 +15,7 @@ ghost use Rattle.numbers.specs.Regions.{Kept};
 ghost use Rattle.build_labelled.specs.Window.{walkAt, labelsWindow};
 ghost use Rattle.build_orders.specs.Input.{graphOf};
 ghost use Rattle.build_indexed.specs.Written.{writtenAs};
+ghost use Rattle.build_indexed.specs.Shared.{rowShared};
 ghost use Rattle.build_indexed.specs.Memory.{childrenFrom, labelsFrom, condensedIn, labellingBlock, CondensedFit, CondensedFound, Ready, OrderLabelled};
 
 // k groups, and c child entries.
@@ -31,6 +32,22 @@ pub fn condensed(n: usize, sources: &[u32], targets: &[u32], work: &mut [u32]) -
     let k = build_condense::condense(n, sources, targets, work);
     let c = build_children::children(sources, targets, work, 2 * n, n, k, 3 * n);
     Sizes { k, c }
+}
+
+// The first group whose row of parents, of k rows, has two entries or more; where there is none, the number of groups.
+pub fn first_shared(work: &[u32], parents: usize, k: usize) -> usize
+    requires { ⌜ parents + k + 1 ≤ length (now work) ⌝ }
+    ensures { λ r. ⌜ (r ≡ firstOf (rowShared (part (now (work .entry)) parents (k + 1))) (upto k) k) × (r ≤ k) ⌝ }
+{
+    let mut p = 0;
+    while p < k {
+        let row = parents + p;
+        if work[row] as usize + 1 < work[row + 1] as usize {
+            return p;
+        }
+        p += 1;
+    }
+    p
 }
 
 // Where the children lie: behind names, group list, places and parents.
@@ -68,7 +85,7 @@ fn write_order(
     work: &mut [u32],
 )
     requires { ⌜ Ready l edges (now orders) (now work) ⌝ }
-    requires { ⌜ (j < l .d) × (at + l .width * (4 * l .k) ≤ length (now out)) ⌝ }
+    requires { ⌜ (j < l .d) × (at + l .width * ((l .stride + 1) * l .k) ≤ length (now out)) ⌝ }
     ensures { λ _. ⌜ OrderLabelled l edges (now (orders .entry)) (now (work .entry)) (now (work .exit)) j ⌝ }
     ensures { λ _. ⌜ now (out .exit) ≡ put (now (out .entry)) at (written (l .width) (labellingBlock l edges (now (orders .entry)) (now (work .entry)) j)) ⌝ }
 {
@@ -95,6 +112,7 @@ fn write_order(
         out,
         at,
         l.width,
+        l.stride,
         work,
         walk,
         walk + 5 * k,
@@ -111,7 +129,7 @@ fn write_labels(out: &mut [u8], l: Layout, edges: usize, orders: &[u32], work: &
     ensures { λ _. ⌜ OrderLabelled l edges (now (orders .entry)) (now (work .entry)) (now (work .exit)) (l .d - 1) ⌝ }
     ensures { λ _. ⌜ now (out .exit) ≡ put (now (out .entry)) (l .labels) (written (l .width) (joined (map (labellingBlock l edges (now (orders .entry)) (now (work .entry))) (upto (l .d))))) ⌝ }
 {
-    let step = numbers::bytes_of(l.width, 4 * l.k);
+    let step = numbers::bytes_of(l.width, (l.stride + 1) * l.k);
     let mut at = l.labels;
     let mut j = 0;
     while j < l.d {
@@ -134,7 +152,7 @@ pub fn write_index(
     requires { ⌜ form < 2 ^ 32 ⌝ }
     requires { ⌜ Ready l edges (now orders) (now work) ⌝ }
     requires { ⌜ l .total ≤ length (now out) ⌝ }
-    ensures { λ _. ⌜ now (out .exit) ≡ encode (writtenAs form (l .width)) (indexBy (condensedIn (now (work .entry)) (l .n) (l .k) (l .c) edges) (map (orderAt (l .n) (now (orders .entry))) (upto (l .d)))) ++ drop (l .total) (now (out .entry)) ⌝ }
+    ensures { λ _. ⌜ now (out .exit) ≡ encode (writtenAs form (l .width) (l .stride)) (indexBy (condensedIn (now (work .entry)) (l .n) (l .k) (l .c) edges) (map (orderAt (l .n) (now (orders .entry))) (upto (l .d)))) ++ drop (l .total) (now (out .entry)) ⌝ }
     ensures { λ _. ⌜ Kept (now (work .entry)) (now (work .exit)) (labelsFrom (l .n) (l .k) edges) (labelsWindow (l .n) (l .k) (l .c)) ⌝ }
 {
     let n = l.n;

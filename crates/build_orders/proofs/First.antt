@@ -9,9 +9,9 @@ use native.Mathlib.Omega.{arith}
 use lib.Dec.{ltb}
 use borrow.Author.Count.{below-none, below-more}
 use borrow.Author.Tests.{lt-ltb, le-ltb}
-use Rattle.lineage.specs.Lists.{upto, any, firstOf}
+use Rattle.lineage.specs.Lists.{upto, any, among, firstOf}
 use Rattle.laws.proofs.Tests.{clash, is-false}
-use Rattle.laws.proofs.Lists.{in-any, in-upto, upto-low, any-none}
+use Rattle.laws.proofs.Lists.{here, there, in-any, in-upto, upto-low, any-none}
 use Rattle.laws.proofs.Rising.{rises-upto, first-of}
 
 -- none of the numbers below i passes: what a loop over 0, 1, .. knows
@@ -68,6 +68,15 @@ module _ (p : ℕ → Bool) where
       at false e =
           let none : firstOf p (upto n) n ≡ n = first-none n n (λ j h. any-none p (upto n) e j (in-upto n j h)) in
           e ∙ sym (le-ltb (firstOf p (upto n) n) n (omega arith))
+
+-- two tests that agree on a list have the same first
+pub first-same : (p q : ℕ → Bool) (xs : List ℕ) (other : ℕ) → ((x : ℕ) → among x xs ≡ true → p x ≡ q x) → firstOf p xs other ≡ firstOf q xs other
+first-same p q [] other same = refl
+first-same p q (x ∷ xs) other same = at (p x) refl (first-same p q xs other (λ y i. same y (there y x xs i)))
+  where
+    at : (t : Bool) → p x ≡ t → firstOf p xs other ≡ firstOf q xs other → firstOf p (x ∷ xs) other ≡ firstOf q (x ∷ xs) other
+    at true e ih = first-yes p x xs other e ∙ sym (first-yes q x xs other (sym (same x (here x xs)) ∙ e))
+    at false e ih = first-no p x xs other e ∙ ih ∙ sym (first-no q x xs other (sym (same x (here x xs)) ∙ e))
 
 module _ {p : ℕ → Bool} where
   pub none-begin : NoneBelow p 0

@@ -22,7 +22,8 @@ module _
     {starts values : List ℕ} (children : List (List ℕ)) {k : ℕ} (long : length children ≡ k)
     (R : RowsOnce starts values k (λ q p. childOf children p q))
   where
-    row-long : (q : ℕ) → q < k → getD starts (suc q) 0 ≡ getD starts q 0 + length (rowAt starts values q)
+    -- a row ends where the next one starts
+    pub row-long : (q : ℕ) → q < k → getD starts (suc q) 0 ≡ getD starts q 0 + length (rowAt starts values q)
     unfolding rowAt
     row-long q h =
         omega (

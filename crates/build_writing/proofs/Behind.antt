@@ -1,4 +1,4 @@
--- Numbers written one behind the other into lent bytes: three of them, blocks of one size, sections.
+-- Numbers written one behind the other into lent bytes: two and three of them, blocks of one size, sections.
 use mathlib.Core.Path.{_≡_, sym, ap, ap₂, _∙_}
 use mathlib.Core.List.{List, [], _∷_, _++_, map, append-assoc}
 use Prim.Native.Nat.{ℕ, _+_, _*_, _≤_, _<_}
@@ -25,18 +25,26 @@ put-before s bs cs h =
     ∙ ap (λ (n : ℕ). (bs ++ cs) ++ drop n s) (sym (length-append bs cs))
     ∙ sym (put-start s (bs ++ cs))
 
--- three numbers, one by one
+-- two numbers, and three, one by one
+pub pair-put : (w at a b : ℕ) (s t u : List ℕ)
+    → at + w ≤ length s
+    → t ≡ put s at (leBytes w a)
+    → u ≡ put t (at + w) (leBytes w b)
+    → u ≡ put s at (written w (a ∷ b ∷ []))
+pair-put w at a b s t u h et eu =
+    let one : t ≡ put s at (written w (a ∷ [])) = et ∙ ap (put s at) (written-one w a) in
+    eu ∙ ap₂ (λ (z x : List ℕ). put z (at + w) x) one (written-one w b) ∙ written-next w at s (a ∷ []) (b ∷ []) (at + w) (omega arith) (omega arith)
+
 pub triple-put : (w at a b c : ℕ) (s t u v : List ℕ)
-    → at + w * 3 ≤ length s
+    → at + w * 2 ≤ length s
     → t ≡ put s at (leBytes w a)
     → u ≡ put t (at + w) (leBytes w b)
     → v ≡ put u (at + w + w) (leBytes w c)
     → v ≡ put s at (written w (a ∷ b ∷ c ∷ []))
 triple-put w at a b c s t u v h et eu ev =
-    let one : t ≡ put s at (written w (a ∷ [])) = et ∙ ap (put s at) (written-one w a) in
-    let two : u ≡ put s at (written w (a ∷ b ∷ [])) =
-    eu ∙ ap₂ (λ (z x : List ℕ). put z (at + w) x) one (written-one w b) ∙ written-next w at s (a ∷ []) (b ∷ []) (at + w) (omega arith) (omega arith) in
-    ev ∙ ap₂ (λ (z x : List ℕ). put z (at + w + w) x) two (written-one w c) ∙ written-next w at s (a ∷ b ∷ []) (c ∷ []) (at + w + w) (omega arith) (omega arith)
+    ev
+    ∙ ap₂ (λ (z x : List ℕ). put z (at + w + w) x) (pair-put w at a b s t u (omega arith) et eu) (written-one w c)
+    ∙ written-next w at s (a ∷ b ∷ []) (c ∷ []) (at + w + w) (omega arith) (omega arith)
 
 -- Blocks of one size, one more at a time.
 module _ (w at : ℕ) (block : ℕ → List ℕ) (s : List ℕ) where

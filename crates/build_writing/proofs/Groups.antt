@@ -20,7 +20,7 @@ use Rattle.build_writing.proofs.Behind.{section-put}
 module _ {out : List ℕ} {form : ℕ} {l : Layout} {words : List ℕ} {names groups levels starts children : ℕ} (fit : SectionsFit out form l words names groups levels starts children) where
   -- where each section starts
   pub fit-sited : Sited l
-  fit-sited = sited-by l (l .width) (counts (l .n) (l .k) (l .c) (l .d)) (fit .laid)
+  fit-sited = sited-by l (l .width) (l .stride) (counts (l .n) (l .k) (l .c) (l .d)) (fit .laid)
 
   behind : (from count offset next : ℕ) → from + count ≤ length words → next ≡ offset + l .width * count → next ≡ offset + l .width * length (part words from count)
   behind from count offset next h e = rw (part-length words from count h) e

@@ -104,7 +104,7 @@ module _
 
     -- what the climb over them leaves is what it leaves over the index
     pub climbed-is :
-        (places : List ℕ) → Part labels (w * (0 * (4 * k) + 3 * k)) (w * k) places
+        (places : List ℕ) → Part labels (w * (0 * ((l .stride + 1) * k) + l .stride * k)) (w * k) places
         → (before : List ℕ) {after : List ℕ} → after ≡ climbed (numbers w groups k) (childrenIn w starts children k c) (numbers w places k) k before
         → after ≡ climbedIn (indexIn b) before
     unfolding climbedIn indexFrom

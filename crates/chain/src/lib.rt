@@ -49,7 +49,7 @@ fn climb_up(index: &[u8], l: Layout, marks: &mut [u8])
     let starts = parts::starts(index, l);
     let children = parts::children(index, l);
     let labels = parts::labels(index, l);
-    let places = parts::by_rank(labels, w, k, d, 0);
+    let places = parts::by_rank(labels, w, l.stride, k, d, 0);
     reach_climb::climb(groups, starts, children, places, marks, w, k, c);
 }
 

@@ -23,7 +23,7 @@ use Rattle.convert.proofs.Same.{Alike, asked-same, ask-marks-same, list
 use Rattle.convert.proofs.Monday.{batched-same, batch-answers-same, batch-marks-same}
 use Rattle.convert.proofs.Theorems.{fits-within, header-fit, Turnable, answered-turnable, turnable-answered, counts-kept, words-turned, turned-opens, turned-alike, turned-back, turnable-back}
 
-module _ (from to : ℕ) (b : List ℕ) (marks work : ℕ) (out : List ℕ) {total : ℕ} (e : convertAnswer from to b marks work (length out) ≡ answered total) where
+module _ (from to : ℕ) (triples : (from ≤ 3) × (to ≤ 3)) (b : List ℕ) (marks work : ℕ) (out : List ℕ) {total : ℕ} (e : convertAnswer from to b marks work (length out) ≡ answered total) where
   abbrev G : Form
   G = formOf to
 
@@ -31,7 +31,7 @@ module _ (from to : ℕ) (b : List ℕ) (marks work : ℕ) (out : List ℕ) {tot
   checks = convertEarly from b marks work ++ convertLate to b (length out)
 
   pub turnable : Turnable from to b
-  turnable = answered-turnable from to b marks work (length out) e
+  turnable = answered-turnable from to triples b marks work (length out) e
 
   -- the total is the length of what is written, and the output behind it is untouched
   total-is : total ≡ length (converted G b)
@@ -93,18 +93,18 @@ module _ (from to : ℕ) (b : List ℕ) (marks work : ℕ) (out : List ℕ) {tot
         monday-marks-kept m answers = batch-marks-same sources targets alike m answers
 
 -- There and back: turned back, what was written gives the bytes that there were, where marks, words and output suffice.
-module _ (from to : ℕ) (known : isForm to ≡ true) (b : List ℕ) (small : Bytes b) (marks work : ℕ) (out : List ℕ) {total : ℕ}
+module _ (from to : ℕ) (triples : (from ≤ 3) × (to ≤ 3)) (known : isForm to ≡ true) (b : List ℕ) (small : Bytes b) (marks work : ℕ) (out : List ℕ) {total : ℕ}
     (e : convertAnswer from to b marks work (length out) ≡ answered total)
     (m w : ℕ) (back : List ℕ) (room : countsIn b .n ≤ m) (words : wordsFor (formOf to .width) (countsIn b) ≤ w) (fits : length b ≤ length back)
   where
     abbrev C : Turnable from to b
-    C = turnable from to b marks work out e
+    C = turnable from to triples b marks work out e
 
     abbrev there : List ℕ
-    there = turned from to b marks work out e
+    there = turned from to triples b marks work out e
 
     there-is : there ≡ converted (formOf to) b
-    there-is = turned-is from to b marks work out e
+    there-is = turned-is from to triples b marks work out e
 
     again : converted (formOf from) (converted (formOf to) b) ≡ b
     again = turned-back C small
@@ -119,7 +119,7 @@ module _ (from to : ℕ) (known : isForm to ≡ true) (b : List ℕ) (small : By
 
     pub back-written : convertOutput to from there m w back ≡ b ++ drop (length b) back
     back-written =
-        output-is to from there m w back back-answers
+        output-is to from (triples .1, triples .0) there m w back back-answers
         ∙ ap (λ (z : List ℕ). z ++ drop (length b) back) (ap (converted (formOf from)) there-is ∙ again)
 
 -- A check that cannot apply where those before it pass is none.
@@ -146,7 +146,7 @@ up-answer b marks work out =
     (λ p. fits-within form1 form2 (omega arith) (omega arith) (countsIn b) (header-fit 1 b (header-pass (only 1) b marks work (pass-front early (contentsCheck b ∷ []) p))))
 
 -- Two results that the contract allows are equal.
-converted-one : (r r' : Converted) → convertedOf r ≡ convertedOf r' → r ≡ r'
+pub converted-one : (r r' : Converted) → convertedOf r ≡ convertedOf r' → r ≡ r'
 converted-one (Total t) (Total t') e = cc
 converted-one (Total t) (Refused number extra) e = let z : _≡_ {A = ℕ} 0 1 = cc in absurd (omega arith)
 converted-one (Refused number extra) (Total t) e = let z : _≡_ {A = ℕ} 0 1 = cc in absurd (omega arith)

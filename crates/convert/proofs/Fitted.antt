@@ -16,7 +16,7 @@ use Rattle.numbers.specs.Put.{put}
 use Rattle.numbers.proofs.Put.{put-start}
 use Rattle.stored_header.specs.declared.Row.{Row}
 use Rattle.stored_header.specs.declared.Layout.{Layout}
-use Rattle.stored_header.specs.Header.{rowOf, counts, layoutBy, Laid}
+use Rattle.stored_header.specs.Header.{Stride, rowOf, counts, layoutBy, Laid}
 use Rattle.stored_header.proofs.Forms.{form-within}
 use Rattle.sound_places.specs.Lent.{SoundBytes}
 use Rattle.convert.specs.declared.Converted.{Converted}
@@ -26,10 +26,11 @@ use Rattle.convert.specs.Converted.{convertedOf, Turned}
 use Rattle.convert.specs.Fit.{Turns}
 use Rattle.convert.proofs.Written.{converted-long}
 
--- sound bytes, and another form with its row of the table
+-- sound bytes, and another form that has as many numbers by place, with its row of the table
 pub record Other (b : List ℕ) (l : Layout) (form : ℕ) (row : Row) : Type 0 where
   pub sound : SoundBytes b l
   pub known : isForm form ≡ true
+  pub alike : formOf form .byPlace ≡ l .stride
   pub row-is : row ≡ rowOf form
 
 module _ {b : List ℕ} {l : Layout} {form : ℕ} {row : Row} (O : Other b l form row) where
@@ -42,12 +43,16 @@ module _ {b : List ℕ} {l : Layout} {form : ℕ} {row : Row} (O : Other b l for
   pub row-width : Width (row .width)
   row-width = subst⁻¹ (λ (r : Row). Width (r .width)) (O .row-is) (form-within form .width)
 
+  pub row-stride : Stride (row .stride)
+  row-stride = subst⁻¹ (λ (r : Row). Stride (r .stride)) (O .row-is) (form-within form .stride)
+
   -- the layout of the same counts at the other form
-  pub turns : {to : Layout} → to ≡ layoutBy (row .width) (counts (l .n) (l .k) (l .c) (l .d)) → Turns b l form to
+  pub turns : {to : Layout} → to ≡ layoutBy (row .width) (row .stride) (counts (l .n) (l .k) (l .c) (l .d)) → Turns b l form to
   turns e = record {
     sound = O .sound;
     known = O .known;
-    laid = e ∙ ap₂ (λ (r : Row) (z : Layout). layoutBy (r .width) (counts (z .n) (z .k) (z .c) (z .d))) (O .row-is) (L .is);
+    alike = O .alike;
+    laid = e ∙ ap₂ (λ (r : Row) (z : Layout). layoutBy (r .width) (r .stride) (counts (z .n) (z .k) (z .c) (z .d))) (O .row-is) (L .is);
   }
 
   module _ (out : List ℕ) where

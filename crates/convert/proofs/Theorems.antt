@@ -8,12 +8,12 @@ use native.Mathlib.Omega.{arith}
 use lib.Dec.{leb, ltb}
 use lib.ListN.{length}
 use borrow.Author.Tests.{leb-true, ltb-false, le-leb, le-ltb, eq-eqb, eqb-true, not-false}
-use Rattle.lineage.specs.Index.{indexOf, Made}
+use Rattle.lineage.specs.Index.{Index, indexOf, Made}
 use Rattle.lineage.specs.Stored.{Form, Counts, countsOf, countsFit, offsetsFit, encode, headerAt, countsIn, formOf, isForm}
-use Rattle.lineage.specs.Sound.{contentsSound, sound}
+use Rattle.lineage.specs.Sound.{isTree, sound}
 use Rattle.lineage.specs.Calls.{Check, answered, FormsTaken, takes, wordsFor, wordsIn, contentsCheck, indexIn, openAnswer}
 use Rattle.laws.specs.Checks.{Pass}
-use Rattle.laws.proofs.Tests.{and-left, and-both, both, or-false-left, or-false-right, neither}
+use Rattle.laws.proofs.Tests.{and-both, both, or-false-left, or-false-right, neither, clash}
 use Rattle.laws.proofs.Checks.{stops-outcome, answered-pass, pass-front, pass-behind, pass-both}
 use Rattle.laws.proofs.Decides.{sound-decides}
 use Rattle.numbers.proofs.Written.{Bytes}
@@ -21,12 +21,13 @@ use Rattle.stored_header.specs.Header.{headerChecks}
 use Rattle.stored_header.proofs.Laid.{header-laid}
 use Rattle.stored_header.proofs.Admitted.{header-pass, lent-pass}
 use Rattle.stored.specs.Fits.{Fits}
-use Rattle.stored.proofs.Contents.{contents-sound}
+use Rattle.stored.proofs.Contents.{contents-starts, contents-sound, contents-tree}
 use Rattle.stored.proofs.Encoded.{header-read, counts-read, encode-passes, index-encode}
 use Rattle.stored.proofs.Decoded.{encode-decode}
 use Rattle.open.proofs.Checks.{opened-contents, passed-opens}
 use Rattle.open.proofs.Fits.{form-wide, yielded-fits, fits-opens}
 use Rattle.open.proofs.Theorem.{opened-made, opened-counts}
+use Rattle.sound_places.proofs.Triples.{Triples, form-triples}
 use Rattle.convert.specs.Convert.{converted, only, beyond, convertEarly, convertLate, convertAnswer}
 use Rattle.convert.proofs.Same.{Alike}
 
@@ -60,14 +61,16 @@ fits-within F G vertices entries a fit =
       le-ltb (G .entries) (a .c) (omega (arith, leb-true (a .c) (F .entries) (c .0))),
     )
 
-within-fits : (F G : Form) (a : Counts) → countsFit F a ≡ true → beyond G a ≡ false → countsFit G a ≡ true
-within-fits F G a fit within =
+within-fits : (F G : Form) → F .labellings ≤ G .labellings → (a : Counts) → countsFit F a ≡ true → beyond G a ≡ false → countsFit G a ≡ true
+within-fits F G labellings a fit within =
     let n = both (leb (a .n) (F .vertices)) _ fit in
     let k = both (leb (a .k) (a .n)) _ (n .1) in
     let c = both (leb (a .c) (F .entries)) _ (k .1) in
+    let d = both (leb 1 (a .d)) _ (c .1) in
+    let few : a .d ≤ G .labellings = omega (arith, leb-true (a .d) (F .labellings) (d .1)) in
     let entries = or-false-right (ltb (G .vertices) (a .k)) _ (or-false-right (ltb (G .vertices) (a .n)) _ within) in
     and-both (le-leb (a .n) (G .vertices) (ltb-false (G .vertices) (a .n) (or-false-left _ _ within)))
-    (and-both (k .0) (and-both (le-leb (a .c) (G .entries) (ltb-false (G .entries) (a .c) entries)) (c .1)))
+    (and-both (k .0) (and-both (le-leb (a .c) (G .entries) (ltb-false (G .entries) (a .c) entries)) (and-both (d .0) (le-leb (a .d) (G .labellings) few))))
 
 -- a form of the table is taken by a call that takes it alone
 own-takes : (form : ℕ) → takes (only (formOf form .number)) (formOf form .number) ≡ true
@@ -76,21 +79,31 @@ own-takes form =
     and-both (and-both (le-leb x x (omega arith)) (le-leb x x (omega arith)))
     (eq-eqb (formOf x .number) x (ap (λ (F : Form). F .number) (form-wide form .known)))
 
--- the bytes can be turned: their header is right for the form to be turned, their contents are sound, and n, k and c are within the other form
+-- the bytes can be turned: their header is right for the form to be turned, their contents are sound, their counts fit the other form, and where that is one of plain
+-- hierarchies they hold one
 pub record Turnable (from to : ℕ) (b : List ℕ) : Type 0 where
   pub header : Pass (headerChecks (only from) b)
   pub contents : contentsCheck b .applies ≡ false
-  pub within : beyond (formOf to) (countsIn b) ≡ false
+  pub fit : countsFit (formOf to) (countsIn b) ≡ true
+  pub plain : formOf to .tree ≡ true → isTree (indexIn b .children) ≡ true
 
--- exactly then they are, where marks, words and output suffice
-pub answered-turnable : (from to : ℕ) (b : List ℕ) (marks work out : ℕ) {total : ℕ} → convertAnswer from to b marks work out ≡ answered total → Turnable from to b
+-- exactly then they are, where marks, words and output suffice; of two forms up to the third
+pub answered-turnable : (from to : ℕ) → (from ≤ 3) × (to ≤ 3) → (b : List ℕ) (marks work out : ℕ) {total : ℕ} → convertAnswer from to b marks work out ≡ answered total → Turnable from to b
 unfolding convertAnswer
-answered-turnable from to b marks work out {total} e =
+answered-turnable from to triples b marks work out {total} e =
     let early : List Check = convertEarly from b marks work in
     let late : List Check = convertLate to b out in
     let p : Pass (early ++ late) = answered-pass (length (converted (formOf to) b)) (early ++ late) total e in
     let l : Pass late = pass-behind early late p in
-    record { header = header-pass (only from) b marks work (pass-front early late p); contents = l .0; within = l .1 .0 }
+    let header : Pass (headerChecks (only from) b) = header-pass (only from) b marks work (pass-front early late p) in
+    let F : Triples (formOf from) = form-triples from (triples .0) in
+    let G : Triples (formOf to) = form-triples to (triples .1) in
+    record {
+      header = header;
+      contents = l .0;
+      fit = within-fits (formOf from) (formOf to) (omega (arith, F .labellings, G .labellings)) (countsIn b) (header-fit from b header) (l .1 .0);
+      plain = λ tree. clash tree (G .any);
+    }
 
 pub turnable-answered : {from to : ℕ} {b : List ℕ} → Turnable from to b → (marks work out : ℕ)
     → countsIn b .n ≤ marks
@@ -102,8 +115,9 @@ turnable-answered {from} {to} {b} C marks work out room words fits =
     let early : List Check = convertEarly from b marks work in
     let late : List Check = convertLate to b out in
     let needed : ℕ = length (converted (formOf to) b) in
+    let within : beyond (formOf to) (countsIn b) ≡ false = fits-within (formOf to) (formOf to) (omega arith) (omega arith) (countsIn b) (C .fit) in
     stops-outcome needed (early ++ late) 8
-    (pass-both early late (lent-pass (only from) b marks work (C .header) room words) (C .contents, (C .within, (le-ltb out needed fits, tt))))
+    (pass-both early late (lent-pass (only from) b marks work (C .header) room words) (C .contents, (within, (le-ltb out needed fits, tt))))
 
 module _ {from to : ℕ} {b : List ℕ} (C : Turnable from to b) where
   abbrev F : Form
@@ -138,13 +152,14 @@ module _ {from to : ℕ} {b : List ℕ} (C : Turnable from to b) where
   turned-fits =
       subst (Fits G) (made .yields)
       (yielded-fits (form-wide to) (made .graph) (made .ends) (made .orders) (made .permuted)
-      (ap (countsFit G) made-counts ∙ within-fits F G a own-fit (C .within)))
+      (λ tree. ap (λ (I : Index). isTree (I .children)) (made .yields) ∙ C .plain tree)
+      (ap (countsFit G) made-counts ∙ C .fit))
 
   own-counts : countsOf (indexIn b) ≡ a
   own-counts = sym (ap countsOf (made .yields)) ∙ made-counts
 
   own-sound : sound (indexIn b) ≡ true
-  own-sound = sound-decides (indexIn b) .1 (contents-sound (formOf (headerAt b 0) .width) b (not-false _ (C .contents)))
+  own-sound = sound-decides (indexIn b) .1 (contents-sound (formOf (headerAt b 0)) b (not-false _ (C .contents)))
 
   -- what is written holds the same index, with the same counts
   pub index-kept : indexIn turned ≡ indexIn b
@@ -164,7 +179,7 @@ module _ {from to : ℕ} {b : List ℕ} (C : Turnable from to b) where
       → openAnswer T turned marks work ≡ answered a
   turned-opens T marks work taken room words =
       sym
-      (fits-opens turned-fits own-sound T marks work taken
+      (fits-opens turned-fits own-sound (C .plain) T marks work taken
       (omega (arith, ap (λ (z : Counts). z .n) own-counts))
       (subst⁻¹ (λ (z : Counts). wordsFor (G .width) z ≤ work) own-counts words))
       ∙ ap answered own-counts
@@ -203,11 +218,10 @@ module _ {from to : ℕ} {b : List ℕ} (C : Turnable from to b) where
 
   -- Back again.
   pub turned-back : Bytes b → converted F turned ≡ b
-  unfolding contentsSound
   turned-back small =
       ap (encode F) index-kept
       ∙ ap (λ (x : ℕ). encode (formOf x) (indexIn b)) (sym number-is)
-      ∙ encode-decode (header-laid b (only from) (C .header)) small (and-left _ _ (not-false _ (C .contents)))
+      ∙ encode-decode (header-laid b (only from) (C .header)) small (contents-starts (formOf (headerAt b 0)) b (not-false _ (C .contents)))
 
   pub turnable-back : isForm to ≡ true → Turnable to from turned
   turnable-back known =
@@ -215,5 +229,8 @@ module _ {from to : ℕ} {b : List ℕ} (C : Turnable from to b) where
       record {
         header = encode-passes turned-fits (only to) (subst (λ (x : ℕ). takes (only x) (G .number) ≡ true) number (own-takes to));
         contents = contents-turned;
-        within = ap (beyond F) counts-kept ∙ fits-within F F (omega arith) (omega arith) a own-fit;
+        fit = ap (countsFit F) counts-kept ∙ own-fit;
+        plain = λ tree.
+            ap (λ (I : Index). isTree (I .children)) index-kept
+            ∙ contents-tree (formOf (headerAt b 0)) b (not-false _ (C .contents)) (ap (λ (x : ℕ). formOf x .tree) number-is ∙ tree);
       }

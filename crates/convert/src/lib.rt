@@ -31,7 +31,7 @@ pub enum Converted {
 fn copy_section(index: &[u8], l: Layout, form: usize, to: Layout, out: &mut [u8], i: usize)
     requires { ⌜ Turns (now index) l form to ⌝ }
     requires { ⌜ (i < 6) × (to .total ≤ length (now out)) ⌝ }
-    ensures { λ _. ⌜ now (out .exit) ≡ put (now (out .entry)) (getD (offsetsOf to) i 0) (written (to .width) (section (l .width) (countsIn (now (index .entry))) (now (index .entry)) i)) ⌝ }
+    ensures { λ _. ⌜ now (out .exit) ≡ put (now (out .entry)) (getD (offsetsOf to) i 0) (written (to .width) (section (l .width) (l .stride) (countsIn (now (index .entry))) (now (index .entry)) i)) ⌝ }
 {
     let at = parts::offset(to, i);
     let size = parts::size(l, i);
@@ -61,14 +61,14 @@ fn is_beyond(form: usize, l: Layout) -> bool
     (row.vertices < l.n) | ((row.vertices < l.k) | (row.entries < l.c))
 }
 
-// Sound bytes turned into the form with this number: refusals 19 and 9, or what is written.
+// Sound bytes turned into the form with this number, which has as many numbers by place: refusals 19 and 9, or what is written.
 fn convert_sound(index: &[u8], l: Layout, form: usize, out: &mut [u8]) -> Converted
     requires { ⌜ SoundBytes (now index) l ⌝ }
-    requires { ⌜ isForm form ≡ true ⌝ }
+    requires { ⌜ (isForm form ≡ true) × (formOf form .byPlace ≡ l .stride) ⌝ }
     ensures { λ r. ⌜ Turned (formOf form) (now (index .entry)) (now (out .entry)) r (now (out .exit)) ⌝ }
 {
     let row = stored_header::form_row(form);
-    let to = stored_header::lay_out(row.width, l.n, l.k, l.c, l.d);
+    let to = stored_header::lay_out(row.width, row.stride, l.n, l.k, l.c, l.d);
     let beyond = is_beyond(form, l);
     let short = out.len() < to.total;
     if beyond {
@@ -87,7 +87,7 @@ fn convert_sound(index: &[u8], l: Layout, form: usize, out: &mut [u8]) -> Conver
     Converted::Total(to.total as u32)
 }
 
-// Turns a stored index of form `from` into form `to`: the first of the refusals 10, 11, 12, 13, 6, 15, 19 and 9 that applies, or the length of what is written to the
+// Turns a stored index of form `from` into form `to`, none of pairs: the first of the refusals 10, 11, 12, 13, 6, 15, 19 and 9 that applies, or the length of what is written to the
 // front of the output. The output behind it is untouched, and all of it by every refusal. Marks below n and the needed words are 0 after 15 and what comes behind it;
 // the refusals before leave them as they were.
 fn convert_between(
@@ -98,7 +98,7 @@ fn convert_between(
     work: &mut [u32],
     out: &mut [u8],
 ) -> Converted
-    requires { ⌜ isForm to ≡ true ⌝ }
+    requires { ⌜ (isForm to ≡ true) × ((from ≤ 3) × (to ≤ 3)) ⌝ }
     ensures { λ r. ⌜ convertedOf r ≡ convertAnswer from to (now (index .entry)) (length (now (marks .entry))) (length (now (work .entry))) (length (now (out .entry))) ⌝ }
     ensures { λ _. ⌜ now (marks .exit) ≡ convertMarks from (now (index .entry)) (now (marks .entry)) (length (now (work .entry))) ⌝ }
     ensures { λ _. ⌜ now (work .exit) ≡ convertWork from (now (index .entry)) (length (now (marks .entry))) (now (work .entry)) ⌝ }

@@ -3,7 +3,9 @@ use mathlib.Core.Path.{sym}
 use base.Logic.{emp, id⊢}
 use Rattle.lineage.specs.Calls.{buildAnswer, buildCall, openAnswer, askAnswer, listAnswer}
 use Rattle.build.proofs.build as build-call
+use Rattle.build.proofs.build_hierarchy as build-hierarchy-call
 use Rattle.build.proofs.Theorems.{built-once, build-finishes}
+use Rattle.build.proofs.Hierarchy.{hierarchy-once, hierarchy-finishes, finished-hierarchy}
 use Rattle.open.proofs.open as open-call
 use Rattle.open.proofs.open_form1 as open-form1-call
 use Rattle.open.proofs.Theorem.{opened-once}
@@ -20,6 +22,12 @@ use Rattle.convert.specs.Convert.{convertAnswer}
 use Rattle.convert.proofs.convert_up as convert-up-call
 use Rattle.convert.proofs.convert_down as convert-down-call
 use Rattle.convert.proofs.Finished.{converted-once}
+use Rattle.hierarchy.specs.Turn.{turnAnswer}
+use Rattle.hierarchy.proofs.open_hierarchy as open-hierarchy-call
+use Rattle.hierarchy.proofs.ask_hierarchy as ask-hierarchy-call
+use Rattle.hierarchy.proofs.to_hierarchy as to-hierarchy-call
+use Rattle.hierarchy.proofs.from_hierarchy as from-hierarchy-call
+use Rattle.hierarchy.proofs.Finished.{turned-once as plain-turned-once}
 use Rattle.chain.specs.Traced.{chainAnswer}
 use Rattle.chain.proofs.chain as chain-call
 use Rattle.chain.proofs.Theorems.{chained-once}
@@ -64,12 +72,12 @@ use Rattle.demands.specs.Orders.{MoreOrders}
 use Rattle.demands.proofs.Refusals.{first-refusal}
 use Rattle.demands.proofs.Words.{open-no-words, ask-no-words, batch-no-words, convert-no-words}
 use Rattle.demands.proofs.Stored.{build-stored, finished-stored}
-use Rattle.demands.proofs.Opened.{opened-yields, yielded-stored, opened-answers, asked-path, host-path}
+use Rattle.demands.proofs.Opened.{opened-yields, opened-written, yielded-stored, opened-answers, asked-path, host-path}
 use Rattle.demands.proofs.Orders.{fewer, on-a-no}
 
 -- 1. The checker's theorem of each call is cited; what the contract says is, equation by equation, what is allowed.
 pub demand-1 : EveryCall
-unfolding buildAnswer buildCall openAnswer askAnswer batchAnswer listAnswer chainAnswer addedAnswer convertAnswer rulesAnswer matrixReadAnswer matrixWriteAnswer exceptionsBuilt exceptionsOpened exceptionsAsked exceptionsAll
+unfolding buildAnswer buildCall openAnswer askAnswer batchAnswer listAnswer chainAnswer addedAnswer convertAnswer rulesAnswer matrixReadAnswer matrixWriteAnswer exceptionsBuilt exceptionsOpened exceptionsAsked exceptionsAll turnAnswer
 demand-1 = record {
   build = record {
     met = build-call.Met.met;
@@ -148,6 +156,36 @@ demand-1 = record {
     nothing-asked = λ κs a. tt;
     allows = λ κs a r e (answers, (leaves, clears)). record { answers = answers; leaves = leaves; clears = clears };
     once = λ κs a r r' e e'. added-once;
+  };
+  build-hierarchy = record {
+    met = build-hierarchy-call.Met.met;
+    nothing-asked = λ κs a. tt;
+    allows = λ κs a r e (answers, (leaves, writes)). record { answers = answers; leaves = leaves; writes = writes };
+    once = λ κs a r r' e e'. hierarchy-once;
+  };
+  opens-hierarchy = record {
+    met = open-hierarchy-call.Met.met;
+    nothing-asked = λ κs a. tt;
+    allows = λ κs a r e (answers, (leaves, clears)). record { answers = answers; leaves = leaves; clears = clears };
+    once = λ κs a r r' e e'. opened-once;
+  };
+  ask-hierarchy = record {
+    met = ask-hierarchy-call.Met.met;
+    nothing-asked = λ κs a. tt;
+    allows = λ κs a r e (answers, (leaves, clears)). record { answers = answers; leaves = leaves; clears = clears };
+    once = λ κs a r r' e e'. asked-once;
+  };
+  to-hierarchy = record {
+    met = to-hierarchy-call.Met.met;
+    nothing-asked = λ κs a. tt;
+    allows = λ κs a r e (answers, (leaves, (clears, writes))). record { answers = answers; leaves = leaves; clears = clears; writes = writes };
+    once = λ κs a r r' e e'. plain-turned-once;
+  };
+  from-hierarchy = record {
+    met = from-hierarchy-call.Met.met;
+    nothing-asked = λ κs a. tt;
+    allows = λ κs a r e (answers, (leaves, (clears, writes))). record { answers = answers; leaves = leaves; clears = clears; writes = writes };
+    once = λ κs a r r' e e'. plain-turned-once;
   };
   build-turned = record {
     met = build-turned-call.Met.met;
@@ -247,6 +285,7 @@ demand-1 = record {
   };
   build-refuses = λ form B work out number extra. first-refusal _ number extra _;
   build-turned-refuses = λ B work out number extra. first-refusal _ number extra _;
+  build-hierarchy-refuses = λ B work out number extra. first-refusal _ number extra _;
   open-refuses = λ T b marks work number extra. first-refusal _ number extra _;
   ask-refuses = λ T b u v marks work number extra. first-refusal _ number extra _;
   ask-all-refuses = λ T b sources targets marks work answers number extra. first-refusal _ number extra _;
@@ -257,6 +296,7 @@ demand-1 = record {
   add-refuses = λ count n from to number extra. first-refusal _ number extra _;
   ask-added-refuses = λ T b state u v marks work number extra. first-refusal _ number extra _;
   rules-refuses = λ T b changed marks work number extra. first-refusal _ number extra _;
+  turn-refuses = λ from to b marks work out number extra. first-refusal _ number extra _;
   convert-refuses = λ from to b marks work out number extra. first-refusal _ number extra _;
   build-exceptions-refuses = λ b marks out number extra. first-refusal _ number extra _;
   open-exceptions-refuses = λ b lists marks number extra. first-refusal _ number extra _;
@@ -270,6 +310,9 @@ demand-2 = record {
   finishes = build-finishes;
   built = build-stored;
   built-turned = λ X done. finished-stored (finished-turned X done);
+  finishes-hierarchy = hierarchy-finishes;
+  built-hierarchy = λ X done. finished-stored (finished-hierarchy X done);
+  opened-hierarchy = opened-written;
   opened = opened-yields;
   yielded = yielded-stored;
   answers = opened-answers;

@@ -12,13 +12,14 @@ use Rattle.lineage.specs.Graph.{Reaches}
 use Rattle.lineage.specs.Index.{indexOf, Made}
 use Rattle.lineage.specs.Stored.{Counts, countsOf, countsFit, headerAt, countsIn}
 use Rattle.lineage.specs.Question.{answer}
-use Rattle.lineage.specs.Calls.{Outcome, refused, answered, FormsTaken, host, takes, wordsIn, indexIn, Said, saidOf, askAnswer}
+use Rattle.lineage.specs.Calls.{Outcome, refused, answered, FormsTaken, host, hierarchy, takes, wordsIn, indexIn, Said, saidOf, askAnswer}
 use Rattle.numbers.proofs.Written.{Bytes}
 use Rattle.open.specs.declared.Opened.{Opened}
 use Rattle.open.specs.Opened.{openedOf}
 use Rattle.open.specs.Yields.{Yields, HeaderRight}
 use Rattle.open.proofs.Checks.{opened-right}
 use Rattle.open.proofs.Theorem.{Allowed, opens-within}
+use Rattle.build.proofs.Hierarchy.{Written, opens-written}
 use Rattle.ask.specs.declared.Asked.{Asked}
 use Rattle.ask.specs.Asked.{askedOf}
 use Rattle.ask.proofs.Answered.{answered-only}
@@ -40,6 +41,16 @@ opened-yields {T} {b} {marks} {work} small room words X =
     let (to, from) = opens-within T b (length marks) (length work) small room words in (
       (λ (a, e). let opens = sym (X .answers) ∙ e in to (opens ∙ ap answered (opened-counts T b (length marks) (length work) opens))),
       λ y. (countsIn b, X .answers ∙ from y),
+    )
+
+-- and as a plain hierarchy exactly when some accepted build of one writes them
+pub opened-written : {b marks work : List ℕ} {r : Opened} {m w : List ℕ} → Bytes b → countsIn b .n ≤ length marks → wordsIn b ≤ length work
+    → Allowed hierarchy b marks work r m w
+    → ((a : Counts) × (openedOf r ≡ answered a)) ↔ Written b
+opened-written {b} {marks} {work} small room words X =
+    let (to, from) = opens-written b (length marks) (length work) small room words in (
+      (λ (a, e). let opens = sym (X .answers) ∙ e in to (opens ∙ ap answered (opened-counts hierarchy b (length marks) (length work) opens))),
+      λ W. (countsIn b, X .answers ∙ from W),
     )
 
 -- of whatever graph and d orders yield them

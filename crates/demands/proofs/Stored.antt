@@ -55,7 +55,7 @@ module _ {b : List ℕ} (Y : Yields (formIn b) b) (bounds : countsFit (formIn b)
   S = built-sound G (Y .ends) (Y .orders) (Y .permuted)
 
   fits : Fits (formIn b) I
-  fits = yielded-fits (form-wide (headerAt b 0)) G (Y .ends) (Y .orders) (Y .permuted) bounds
+  fits = yielded-fits (form-wide (headerAt b 0)) G (Y .ends) (Y .orders) (Y .permuted) (Y .plain) bounds
 
   holds : I ≡ indexIn b
   holds = sym (index-encode fits) ∙ ap indexIn (Y .bytes)
@@ -72,7 +72,7 @@ module _ {b : List ℕ} (Y : Yields (formIn b) b) (bounds : countsFit (formIn b)
   opens T marks work taken room words =
       sym
       (subst (λ (z : List ℕ). takes T (headerAt z 0) ≡ true → countsIn z .n ≤ marks → wordsIn z ≤ work → answered (countsIn z) ≡ openAnswer T z marks work) (Y .bytes)
-      (encoded-opens fits (sound-decides I .1 S) T marks work) taken (omega (arith, vertices)) words)
+      (encoded-opens fits (sound-decides I .1 S) (Y .plain) T marks work) taken (omega (arith, vertices)) words)
       ∙ ap answered counts
 
   -- the graph and the orders make the index that the bytes hold
@@ -141,7 +141,7 @@ finished-stored {F} {B} E =
     let permuted = build.orders-right E in
     let many = table-long (orderAt (B .graph .n) (B .orders)) (B .d) in
     stored-at (build.stored-form E)
-    (record { graph = B .graph; ends = A .ends; orders = ordersOf B; permuted = permuted; bytes = sym (build.build-stores E) })
+    (record { graph = B .graph; ends = A .ends; orders = ordersOf B; permuted = permuted; plain = build.graph-plain E; bytes = sym (build.build-stores E) })
     (bounds-kept (E .wide) (B .graph) (A .ends) (ordersOf B) permuted (A .vertices) (A .edges) (omega (arith, A .least)) (omega (arith, A .most)))
 
 pub build-stored : {G : Graph} {orders : List (List ℕ)} {b : List ℕ} → Builds G orders b → Stored G orders b

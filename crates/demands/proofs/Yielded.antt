@@ -4,7 +4,7 @@ use mathlib.Core.Bool.{true}
 use mathlib.Core.Path.{_≡_, refl, sym, ap, subst, _∙_}
 use mathlib.Core.List.{List, [], _∷_}
 use Prim.Native.Nat.{ℕ, zero, suc, _+_, _*_, _^_, _≤_, _<_}
-use native.Mathlib.Nat.{mul-le-mul-left}
+use native.Mathlib.Nat.{mul-le-mul, mul-le-mul-left}
 use native.Mathlib.Omega.{arith}
 use lib.ListN.{length}
 use Rattle.lineage.specs.Lists.{joined}
@@ -54,15 +54,14 @@ module _ {T : FormsTaken} {b : List ℕ} (R : HeaderRight T b) (Y : Yields (form
           let no-vertices : a .n ≤ 0 = omega arith in
           let no-groups : a .k ≤ 0 = omega (arith, groups-few S) in
           let no-children : a .c ≤ 0 = omega (arith, none-joined (I .children) rows) in
-          let no-labels : a .d * (4 * a .k) ≤ 0 =
-          let none : 4 * a .k ≤ 0 = omega arith in
-          omega (arith, mul-le-mul-left (a .d) none) in
+          let no-labels : a .d * ((formIn b .byPlace + 1) * a .k) ≤ 0 =
+          omega (arith, mul-le-mul-left (a .d) (mul-le-mul-left (formIn b .byPlace + 1) no-groups)) in
           let one-start : a .k + 1 ≤ 1 = omega arith in
           let start : 1 ≤ countsIn b .k + 1 = omega arith in
           absurd
           (omega (
             arith,
-            yielded-long (formIn b) S,
+            yielded-long (formIn b) S (form-within (headerAt b 0)) (Y .plain),
             ap length (Y .bytes),
             mul-le-mul-left w no-vertices,
             mul-le-mul-left w no-groups,
@@ -78,15 +77,19 @@ module _ {T : FormsTaken} {b : List ℕ} (R : HeaderRight T b) (Y : Yields (form
 
   -- the header's counts are the index's
   counts-are : length (I .labels) < 2 ^ 31 → countsIn b ≡ countsOf I
-  counts-are few = ap countsIn (sym (Y .bytes)) ∙ counts-bounded (formIn b) S (form-within (headerAt b 0)) short few
+  counts-are few = ap countsIn (sym (Y .bytes)) ∙ counts-bounded (formIn b) S (form-within (headerAt b 0)) (Y .plain) short few
 
   -- as many orders as the header says, where there is a vertex
   pub orders-are : 0 < countsIn b .n → length (Y .orders) ≡ countsIn b .d
   orders-are some =
-      let one : 1 ≤ 4 * length (I .groups) = omega (arith, some-group some) in
       let a : Counts = countsOf I in
-      let labels = count-low (formIn b .width) (a .d * (4 * a .k)) (form-within (headerAt b 0) .width .low) in
-      let few : length (I .labels) < 2 ^ 31 = omega (arith, short, yielded-long (formIn b) S, labels, mul-le-mul-left (length (I .labels)) one) in
+      let W = form-within (headerAt b 0) in
+      let some-places : 1 ≤ (formIn b .byPlace + 1) * a .k =
+      let each : 1 ≤ formIn b .byPlace + 1 = omega arith in
+      let one : 1 ≤ a .k = some-group some in
+      mul-le-mul each one in
+      let labels = count-low (formIn b .width) (a .d * ((formIn b .byPlace + 1) * a .k)) (W .width .low) in
+      let few : length (I .labels) < 2 ^ 31 = omega (arith, short, yielded-long (formIn b) S W (Y .plain), labels, mul-le-mul-left (length (I .labels)) some-places) in
       sym (orders-long (Y .graph) (Y .orders)) ∙ ap (λ (a : Counts). a .d) (sym (counts-are few))
 
   -- with as many orders the index is within the form's bounds

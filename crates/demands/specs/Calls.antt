@@ -22,11 +22,13 @@ use denote.Triple.Entry.{Args, Res}
 use denote.Triple.Spec.{Meets}
 use borrow.Fn.Kinds.{PK, RK, In, Out, Dens, resT, endedOf}
 use Rattle.lineage.specs.Graph.{Graph}
-use Rattle.lineage.specs.Stored.{form2, form3, formOf}
-use Rattle.lineage.specs.Calls.{Check, check, refused, FormsTaken, host, ordinary, turned, takes, Input, turnedInput, buildEarly, buildLate, buildAnswer, buildCall, formChecks, contentsCheck, openAnswer, askEarly, askAnswer, listEarly, listLate, listAnswer}
+use Rattle.lineage.specs.Stored.{form2, form3, form4, formOf}
+use Rattle.lineage.specs.Calls.{Check, check, refused, FormsTaken, host, ordinary, turned, hierarchy, takes, Input, turnedInput, buildEarly, buildLate, buildAnswer, buildCall, formChecks, contentsCheck, openAnswer, askEarly, askAnswer, listEarly, listLate, listAnswer}
 use Rattle.build.specs.Input.{inputOf}
 use Rattle.build.proofs.build as build-call
+use Rattle.build.proofs.build_hierarchy as build-hierarchy-call
 use Rattle.build.proofs.Theorems as build
+use Rattle.build.proofs.Hierarchy as plain
 use Rattle.open.proofs.open as open-call
 use Rattle.open.proofs.open_form1 as open-form1-call
 use Rattle.open.proofs.Theorem as opening
@@ -43,6 +45,12 @@ use Rattle.convert.specs.Convert.{convertEarly, convertLate, convertAnswer}
 use Rattle.convert.specs.Converted as converting
 use Rattle.convert.proofs.convert_up as convert-up-call
 use Rattle.convert.proofs.convert_down as convert-down-call
+use Rattle.hierarchy.specs.Turn.{turnLate, turnAnswer}
+use Rattle.hierarchy.specs.Turned as plain-turning
+use Rattle.hierarchy.proofs.open_hierarchy as open-hierarchy-call
+use Rattle.hierarchy.proofs.ask_hierarchy as ask-hierarchy-call
+use Rattle.hierarchy.proofs.to_hierarchy as to-hierarchy-call
+use Rattle.hierarchy.proofs.from_hierarchy as from-hierarchy-call
 use Rattle.chain.specs.Traced.{chainLate, chainAnswer}
 use Rattle.chain.specs.Chained as chaining
 use Rattle.chain.proofs.chain as chain-call
@@ -179,6 +187,33 @@ pub record EveryCall : Type 2 where
       (λ κs (index, (state, (source, (target, (marks, (work, _)))))) r (_, (_, (_, (_, (marks', (work', _)))))).
       adding.Allowed ordinary (now index) state source target (now marks) (now work) r (now marks') (now work'))
       (λ κs (_, (_, (_, (_, (marks, (work, _)))))) (_, (_, (_, (_, (marks', (work', _)))))). (now marks ≡ now marks') × (now work ≡ now work'))
+  -- the calls on a plain hierarchy
+  pub build-hierarchy : Answers build-hierarchy-call.Kinds.ps build-hierarchy-call.Kinds.r build-hierarchy-call.Statement.statement build-hierarchy-call.Reads.Asked
+      build-hierarchy-call.Reads.Learnt
+      (λ κs (n, (sources, (targets, (orders, (d, (work, (out, _))))))) r (_, (_, (_, (_, (_, (work', (out', _))))))).
+      plain.Allowed (inputOf n (now sources) (now targets) d (now orders)) (now work) (now out) r (now work') (now out'))
+      (λ κs (_, (_, (_, (_, (_, (work, (out, _))))))) (_, (_, (_, (_, (_, (work', (out', _))))))). (now work ≡ now work') × (now out ≡ now out'))
+  pub opens-hierarchy : Answers open-hierarchy-call.Kinds.ps open-hierarchy-call.Kinds.r open-hierarchy-call.Statement.statement open-hierarchy-call.Reads.Asked
+      open-hierarchy-call.Reads.Learnt
+      (λ κs (index, (marks, (work, _))) r (_, (marks', (work', _))). opening.Allowed hierarchy (now index) (now marks) (now work) r (now marks') (now work'))
+      (λ κs (_, (marks, (work, _))) (_, (marks', (work', _))). (now marks ≡ now marks') × (now work ≡ now work'))
+  pub ask-hierarchy : Answers ask-hierarchy-call.Kinds.ps ask-hierarchy-call.Kinds.r ask-hierarchy-call.Statement.statement ask-hierarchy-call.Reads.Asked
+      ask-hierarchy-call.Reads.Learnt
+      (λ κs (index, (source, (target, (marks, (work, _))))) r (_, (_, (_, (marks', (work', _))))).
+      asking.Allowed hierarchy (now index) source target (now marks) (now work) r (now marks') (now work'))
+      (λ κs (_, (_, (_, (marks, (work, _))))) (_, (_, (_, (marks', (work', _))))). (now marks ≡ now marks') × (now work ≡ now work'))
+  pub to-hierarchy : Answers to-hierarchy-call.Kinds.ps to-hierarchy-call.Kinds.r to-hierarchy-call.Statement.statement to-hierarchy-call.Reads.Asked
+      to-hierarchy-call.Reads.Learnt
+      (λ κs (index, (marks, (work, (out, _)))) r (_, (marks', (work', (out', _)))).
+      plain-turning.Allowed 2 4 (now index) (now marks) (now work) (now out) r (now marks') (now work') (now out'))
+      (λ κs (_, (marks, (work, (out, _)))) (_, (marks', (work', (out', _)))).
+      (now marks ≡ now marks') × ((now work ≡ now work') × (now out ≡ now out')))
+  pub from-hierarchy : Answers from-hierarchy-call.Kinds.ps from-hierarchy-call.Kinds.r from-hierarchy-call.Statement.statement from-hierarchy-call.Reads.Asked
+      from-hierarchy-call.Reads.Learnt
+      (λ κs (index, (marks, (work, (out, _)))) r (_, (marks', (work', (out', _)))).
+      plain-turning.Allowed 4 2 (now index) (now marks) (now work) (now out) r (now marks') (now work') (now out'))
+      (λ κs (_, (marks, (work, (out, _)))) (_, (marks', (work', (out', _)))).
+      (now marks ≡ now marks') × ((now work ≡ now work') × (now out ≡ now out')))
   -- the calls on a turned index
   pub build-turned : Answers build-turned-call.Kinds.ps build-turned-call.Kinds.r build-turned-call.Statement.statement build-turned-call.Reads.Asked
       build-turned-call.Reads.Learnt
@@ -276,6 +311,8 @@ pub record EveryCall : Type 2 where
   pub build-turned-refuses : (B : Input) (work out number extra : ℕ)
       → (buildAnswer form3 (turnedInput B) work out ≡ refused number extra)
       ↔ Refuses (buildEarly form3 (turnedInput B) work ++ buildLate form3 (turnedInput B) out) number extra
+  pub build-hierarchy-refuses : (B : Input) (work out number extra : ℕ)
+      → (buildAnswer form4 B work out ≡ refused number extra) ↔ Refuses (buildEarly form4 B work ++ buildLate form4 B out) number extra
   pub open-refuses : (T : FormsTaken) (b : List ℕ) (marks work number extra : ℕ)
       → (openAnswer T b marks work ≡ refused number extra) ↔ Refuses (formChecks T b marks work ++ (contentsCheck b ∷ [])) number extra
   pub ask-refuses : (T : FormsTaken) (b : List ℕ) (u v marks work number extra : ℕ)
@@ -291,6 +328,8 @@ pub record EveryCall : Type 2 where
       → (matrixReadAnswer form2 text sources targets ≡ refused number extra) ↔ Refuses (readChecks form2 (matrixReading text) sources targets) number extra
   pub write-matrix-refuses : (G : Graph) (out number extra : ℕ)
       → (matrixWriteAnswer form2 G out ≡ refused number extra) ↔ Refuses (writeChecks form2 G (matrixText G) out) number extra
+  pub turn-refuses : (from to : ℕ) (b : List ℕ) (marks work out number extra : ℕ)
+      → (turnAnswer from to b marks work out ≡ refused number extra) ↔ Refuses (convertEarly from b marks work ++ turnLate to b out) number extra
   pub chain-refuses : (T : FormsTaken) (b : List ℕ) (u v marks work out number extra : ℕ)
       → (chainAnswer T b u v marks work out ≡ refused number extra) ↔ Refuses (askEarly T b u v marks work ++ chainLate b u v out) number extra
   pub add-refuses : (count n from to number extra : ℕ) → (addAnswer count n from to ≡ refused number extra) ↔ Refuses (addChecks count n from to) number extra

@@ -11,15 +11,17 @@ use Rattle.lineage.specs.Lists.{Every}
 use Rattle.lineage.specs.Graph.{Graph, turnedGraph, Ends, Reaches}
 use Rattle.lineage.specs.Labels.{Order}
 use Rattle.lineage.specs.Index.{Index, indexOf}
-use Rattle.lineage.specs.Stored.{Form, Counts, countsOf, countsFit, encode, headerAt, countsIn, formOf}
+use Rattle.lineage.specs.Stored.{Form, form4, Counts, countsOf, countsFit, encode, headerAt, countsIn, formOf}
 use Rattle.lineage.specs.Question.{placeIn, answer}
-use Rattle.lineage.specs.Calls.{answered, FormsTaken, host, ordinary, takes, wordsIn, Input, ordersOf, lengthOf, indexIn, Said, saidOf}
+use Rattle.lineage.specs.Sound.{isTree}
+use Rattle.lineage.specs.Calls.{answered, FormsTaken, host, ordinary, hierarchy, takes, wordsIn, Input, ordersOf, lengthOf, indexIn, Said, saidOf}
 use Rattle.laws_answers.specs.Answers.{Holds, Opened, Marked}
 use Rattle.numbers.proofs.Written.{Bytes}
 use Rattle.build.specs.declared.Built.{Built}
 use Rattle.build.specs.Admitted.{Admitted}
 use Rattle.build.specs.Answers.{builtOf}
 use Rattle.build.proofs.Theorems as build
+use Rattle.build.proofs.Hierarchy as plain
 use Rattle.open.specs.declared.Opened.{Opened as OpenAnswer}
 use Rattle.open.specs.Opened.{openedOf}
 use Rattle.open.specs.Yields.{Yields}
@@ -108,6 +110,20 @@ pub record AsGrail : Type 0 where
   pub built-turned : {B : Input} {work out : List ℕ} {r : Built} {work' out' : List ℕ} {total : ℕ} → turning.Allowed B work out r work' out'
       → builtOf r ≡ answered total
       → Stored (turnedGraph (B .graph)) (ordersOf B) (take total out')
+  -- a plain hierarchy under one order within form 4's bounds is built, and what is left is a stored index of its edge list
+  pub finishes-hierarchy : {B : Input} {work out : List ℕ} {r : Built} {work' out' : List ℕ} → plain.Allowed B work out r work' out'
+      → Admitted form4 B (length work)
+      → Every (Order (B .graph .n)) (ordersOf B)
+      → isTree (indexOf (B .graph) (ordersOf B) .children) ≡ true
+      → lengthOf form4 (indexOf (B .graph) (ordersOf B)) ≤ length out
+      → builtOf r ≡ answered (lengthOf form4 (indexOf (B .graph) (ordersOf B)))
+  pub built-hierarchy : {B : Input} {work out : List ℕ} {r : Built} {work' out' : List ℕ} {total : ℕ} → plain.Allowed B work out r work' out'
+      → builtOf r ≡ answered total
+      → Stored (B .graph) (ordersOf B) (take total out')
+  -- bytes open as a plain hierarchy exactly when some accepted build of one writes them
+  pub opened-hierarchy : {b marks work : List ℕ} {r : OpenAnswer} {m w : List ℕ} → Bytes b → countsIn b .n ≤ length marks → wordsIn b ≤ length work
+      → opening.Allowed hierarchy b marks work r m w
+      → ((a : Counts) × (openedOf r ≡ answered a)) ↔ plain.Written b
   -- bytes open exactly when their form is taken and some edge list, of any length, and some orders yield them within the form's bounds
   pub opened : {T : FormsTaken} {b marks work : List ℕ} {r : OpenAnswer} {m w : List ℕ} → Bytes b → countsIn b .n ≤ length marks → wordsIn b ≤ length work
       → opening.Allowed T b marks work r m w

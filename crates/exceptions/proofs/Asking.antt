@@ -70,7 +70,7 @@ module _ (b lists : List ℕ) (u v marks : ℕ) (s : Bool) (e : exceptionsAsked 
   target = omega (arith, leb-false (countsIn b .n) v (behind .1 .1 .1 .0), names-many b)
 
   sound : Sound (indexIn b)
-  sound = contents-sound (formOf (headerAt b 0) .width) b (not-false _ (behind .0))
+  sound = contents-sound (formOf (headerAt b 0)) b (not-false _ (behind .0))
 
   some : 0 < length (indexIn b .labels)
   some =

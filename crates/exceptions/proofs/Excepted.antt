@@ -67,7 +67,7 @@ module _ (b lists : List ℕ) (marks : ℕ) (a : ListCounts) (e : exceptionsOpen
       let p = answered-pass (listCounts (indexIn b)) (formOneChecks b marks ++ openLate b lists) a e in
       let early = pass-front (formOneChecks b marks) (openLate b lists) p in
       let L = header-laid b host (header-pass host b marks 0 early) in
-      let sound : Sound (indexIn b) = contents-sound (formOf (headerAt b 0) .width) b (not-false _ (pass-behind (formOneChecks b marks) (openLate b lists) p .0)) in
+      let sound : Sound (indexIn b) = contents-sound (formOf (headerAt b 0)) b (not-false _ (pass-behind (formOneChecks b marks) (openLate b lists) p .0)) in
       omega (arith, groups-are, sound .condensed .children-long, children-many b, k-is L, L .groups, n-is L, counts-few b marks early)
 
   -- list x has the entries of x's exceptions

@@ -17,16 +17,14 @@ use numbers::num;
 use open::contents_sound;
 use refusals::BAD_VERTEX;
 use refusals::NOT_SOUND;
+use refusals::OTHER_LISTS;
 use refusals::OUTPUT_SHORT;
 use stored_header::Header;
 use stored_header::Layout;
 
-// Refusal 20: the lists do not belong to the index.
-pub const OTHER_LISTS: u32 = 20;
-
 // The length of the lists that were written, or a refusal with its number and its extra number.
 pub enum Written {
-    Length(usize),
+    Length(u32),
     Refused { number: u32, extra: u32 },
 }
 
@@ -52,14 +50,15 @@ fn build_sound(index: &[u8], l: Layout, marks: &mut [u8], out: &mut [u8]) -> Wri
 {
     let entries = count_exceptions(index, l, marks);
     let needed = 4 * (l.k + 3 + entries);
+    let total = needed as u32;
     if out.len() < needed {
         return Written::Refused {
             number: OUTPUT_SHORT,
-            extra: needed as u32,
+            extra: total,
         };
     }
     write_exceptions(index, l, marks, out, entries);
-    Written::Length(needed)
+    Written::Length(total)
 }
 
 // Builds the exception lists of a stored index of form 1: refusals 10 to 13, 15 and 9 in order, or their length. The output past them is untouched, and all of it by

@@ -51,7 +51,7 @@ module _
     groups-few : l .k ≤ 4096
     groups-few = omega (arith, O .laid .groups)
 
-    pub tabled-ready : l .n ≤ length places → Ready (l .width) (l .n) (l .k) (l .d) labels lists places
+    pub tabled-ready : l .n ≤ length places → Ready (l .width) (l .stride) (l .n) (l .k) (l .d) labels lists places
     tabled-ready h = record {
       labelled = labelled O P;
       listed = λ x low. list-in I are (groups-many O) groups-few low;
@@ -59,6 +59,6 @@ module _
       low = λ v b. omega (arith, table-at v b, place-few v b);
     }
 
-    pub tabled-says : (u v : ℕ) → u < l .n → v < l .n → byPlace (l .width) (l .k) (l .d) labels lists places u v ≡ saysByExceptions (indexIn b) u v
+    pub tabled-says : (u v : ℕ) → u < l .n → v < l .n → byPlace (l .width) (l .stride) (l .k) (l .d) labels lists places u v ≡ saysByExceptions (indexIn b) u v
     tabled-says u v hu hv =
         says-by I are (groups-many O) groups-few (omega (arith, table-at u hu, place-few u hu)) u v (table-at u hu) (table-at v hv) (rw (labels-are O P) refl)

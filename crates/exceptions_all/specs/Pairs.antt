@@ -20,13 +20,13 @@ module _ (n : ℕ) (says : ℕ → ℕ → Bool) where
   threes sources targets i = joined (map (λ j. pairThree (getD sources j 0) (getD targets j 0)) (upto i))
 
 -- by a table of places: contained and not listed
-abbrev pub byPlace : (w k d : ℕ) → (labels lists places : List ℕ) → ℕ → ℕ → Bool
-byPlace w k d labels lists places u v =
-    not (someLabelling (outside (getD places u 0) (getD places v 0)) (labelsIn w labels k d)) && not (hasPlace (getD places v 0) (listIn lists k (getD places u 0)))
+abbrev pub byPlace : (w z k d : ℕ) → (labels lists places : List ℕ) → ℕ → ℕ → Bool
+byPlace w z k d labels lists places u v =
+    not (someLabelling (outside (getD places u 0) (getD places v 0)) (labelsIn w z labels k d)) && not (hasPlace (getD places v 0) (listIn lists k (getD places u 0)))
 
 -- labels, lists of k groups, and a table of n vertices' places
-pub record Ready (w n k d : ℕ) (labels lists places : List ℕ) : Type 0 where
-  pub labelled : Labellings w labels k d
+pub record Ready (w z n k d : ℕ) (labels lists places : List ℕ) : Type 0 where
+  pub labelled : Labellings w z labels k d
   pub listed : (x : ℕ) → x < k → ListIn lists k x
   pub long : n ≤ length places
   pub low : (u : ℕ) → u < n → getD places u 0 < k

@@ -14,7 +14,6 @@ ghost use Rattle.exceptions_all.specs.Pairs.{pairThree, threes, byPlace,
 ghost use Rattle.exceptions_all.specs.Batch.{allLate, exceptionsAll, exceptionsAnswers};
 ghost use Rattle.exceptions_all.specs.Batched.{batchedOf, answersLaid};
 use ask_pairs::places::lay_out;
-use exceptions::OTHER_LISTS;
 use exceptions_ask::reaches;
 use exceptions_lists::exceptions_match;
 use open::contents_sound;
@@ -22,6 +21,7 @@ use refusals::BAD_VERTEX;
 use refusals::LIST_SHORT;
 use refusals::LISTS_DIFFER;
 use refusals::NOT_SOUND;
+use refusals::OTHER_LISTS;
 use stored::parts;
 use stored_header::Header;
 use stored_header::Layout;
@@ -51,6 +51,7 @@ fn put_pair(
     lists: &[u8],
     places: &[u32],
     w: usize,
+    z: usize,
     n: usize,
     k: usize,
     d: usize,
@@ -59,9 +60,9 @@ fn put_pair(
     answers: &mut [u32],
     at: usize,
 )
-    requires { ⌜ Ready w n k d (now labels) (now lists) (now places) ⌝ }
+    requires { ⌜ Ready w z n k d (now labels) (now lists) (now places) ⌝ }
     requires { ⌜ at + 3 ≤ length (now answers) ⌝ }
-    ensures { λ _. ⌜ now (answers .exit) ≡ put (now (answers .entry)) at (pairThree n (byPlace w k d (now (labels .entry)) (now (lists .entry)) (now (places .entry))) u v) ⌝ }
+    ensures { λ _. ⌜ now (answers .exit) ≡ put (now (answers .entry)) at (pairThree n (byPlace w z k d (now (labels .entry)) (now (lists .entry)) (now (places .entry))) u v) ⌝ }
 {
     if n <= u {
         put_three(answers, at, BAD_VERTEX, 0, 0);
@@ -73,7 +74,7 @@ fn put_pair(
     }
     let x = places[u] as usize;
     let y = places[v] as usize;
-    let yes = reaches(labels, lists, w, k, d, x, y);
+    let yes = reaches(labels, lists, w, z, k, d, x, y);
     put_three(answers, at, 0, 0, yes as u32)
 }
 
@@ -83,6 +84,7 @@ fn ask_each(
     lists: &[u8],
     places: &[u32],
     w: usize,
+    z: usize,
     n: usize,
     k: usize,
     d: usize,
@@ -90,15 +92,15 @@ fn ask_each(
     targets: &[u32],
     answers: &mut [u32],
 )
-    requires { ⌜ Ready w n k d (now labels) (now lists) (now places) ⌝ }
+    requires { ⌜ Ready w z n k d (now labels) (now lists) (now places) ⌝ }
     requires { ⌜ (length (now sources) ≡ length (now targets)) × (3 * length (now sources) ≤ length (now answers)) ⌝ }
-    ensures { λ _. ⌜ now (answers .exit) ≡ put (now (answers .entry)) 0 (threes n (byPlace w k d (now (labels .entry)) (now (lists .entry)) (now (places .entry))) (now (sources .entry)) (now (targets .entry)) (length (now (sources .entry)))) ⌝ }
+    ensures { λ _. ⌜ now (answers .exit) ≡ put (now (answers .entry)) 0 (threes n (byPlace w z k d (now (labels .entry)) (now (lists .entry)) (now (places .entry))) (now (sources .entry)) (now (targets .entry)) (length (now (sources .entry)))) ⌝ }
 {
     let mut i = 0;
     while i < sources.len() {
         let u = sources[i] as usize;
         let v = targets[i] as usize;
-        put_pair(labels, lists, places, w, n, k, d, u, v, answers, 3 * i);
+        put_pair(labels, lists, places, w, z, n, k, d, u, v, answers, 3 * i);
         i += 1;
     }
 }
@@ -130,6 +132,7 @@ fn ask_placed(
         lists,
         places,
         w,
+        l.stride,
         n,
         k,
         l.d,

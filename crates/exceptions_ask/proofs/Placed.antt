@@ -26,5 +26,5 @@ module _
     place-in {u} h named placed = vertex-placed (lent (O .laid) P (O .contents)) h named placed ∙ sym (ap (λ (z : Index). placeIn z u) (index-is O P))
 
     pub contains-read :
-        {r : Bool} (x y : ℕ) (a : Bool) → r ≡ (not (someLabelling (outside x y) (labelsIn (l .width) labels (l .k) (l .d))) && a) → r ≡ (contains (indexIn b) x y && a)
+        {r : Bool} (x y : ℕ) (a : Bool) → r ≡ (not (someLabelling (outside x y) (labelsIn (l .width) (l .stride) labels (l .k) (l .d))) && a) → r ≡ (contains (indexIn b) x y && a)
     contains-read x y a e = rw (labels-are O P) at e

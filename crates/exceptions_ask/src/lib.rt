@@ -37,17 +37,18 @@ pub fn reaches(
     labels: &[u8],
     lists: &[u8],
     w: usize,
+    z: usize,
     k: usize,
     d: usize,
     x: usize,
     y: usize,
 ) -> bool
-    requires { ⌜ Labellings w (now labels) k d ⌝ }
+    requires { ⌜ Labellings w z (now labels) k d ⌝ }
     requires { ⌜ (x < k) × (y < k) ⌝ }
     requires { ⌜ ListIn (now lists) k x ⌝ }
-    ensures { λ r. ⌜ r ≡ (not (someLabelling (outside x y) (labelsIn w (now (labels .entry)) k d)) && not (hasPlace y (listIn (now (lists .entry)) k x))) ⌝ }
+    ensures { λ r. ⌜ r ≡ (not (someLabelling (outside x y) (labelsIn w z (now (labels .entry)) k d)) && not (hasPlace y (listIn (now (lists .entry)) k x))) ⌝ }
 {
-    if !contains(labels, w, k, d, x, y) {
+    if !contains(labels, w, z, k, d, x, y) {
         return false;
     }
     !is_listed(lists, k, x, y)
@@ -68,5 +69,5 @@ pub fn says(index: &[u8], l: Layout, lists: &[u8], u: usize, v: usize) -> bool
     let labels = parts::labels(index, l);
     let x = place_of(groups, w, n, k, num(names, w, u));
     let y = place_of(groups, w, n, k, num(names, w, v));
-    reaches(labels, lists, w, k, l.d, x, y)
+    reaches(labels, lists, w, l.stride, k, l.d, x, y)
 }

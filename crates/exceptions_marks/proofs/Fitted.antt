@@ -2,8 +2,8 @@
 use mathlib.Core.Bool.{Bool, false, not, cond}
 use mathlib.Core.Path.{_≡_, refl, sym, ap, subst⁻¹, _∙_}
 use mathlib.Core.List.{List, [], _∷_}
-use Prim.Native.Nat.{ℕ, _+_, _*_, _≤_, _<_}
-use native.Mathlib.Nat.{add-zero, not-suc-le-zero}
+use Prim.Native.Nat.{ℕ, _+_, _-_, _*_, _≤_, _<_}
+use native.Mathlib.Nat.{not-suc-le-zero}
 use native.Mathlib.Omega.{arith}
 use lib.ListN.{length, getD}
 use Rattle.lineage.specs.Labels.{Labelling}
@@ -24,7 +24,7 @@ use Rattle.numbers.specs.Regions.{Part}
 use Rattle.numbers.proofs.Numbers.{room, numbers-at}
 use Rattle.stored_header.specs.declared.Layout.{Layout}
 use Rattle.stored_header.specs.Header.{layoutIn, Laid}
-use Rattle.stored.specs.Sections.{Section, Six, childrenIn, Labellings, labellingIn, triplesOf, placesOf, labelsIn, indexFrom}
+use Rattle.stored.specs.Sections.{Section, Six, childrenIn, Labellings, labellingIn, tuplesOf, placesOf, labelsIn, indexFrom}
 use Rattle.stored.proofs.Offsets.{offsets-within}
 use Rattle.stored.proofs.Contents.{stretchOf, with-rows, names-only, index-at, children-many}
 use Rattle.stored.proofs.Sections.{s-at, e-at}
@@ -40,17 +40,17 @@ first-of [] h = absurd (not-suc-le-zero h)
 first-of (l ∷ labels) h = front
 
 -- The sections of bytes, of which only some are read: each of the others stands where the header says.
-stands-at : (b : List ℕ) → Laid b (layoutIn b) → Section b (layoutIn b) 0 (stretch (layoutIn b .width) (countsIn b) b 0)
+stands-at : (b : List ℕ) → Laid b (layoutIn b) → Section b (layoutIn b) 0 (stretch (layoutIn b .width) (layoutIn b .stride) (countsIn b) b 0)
 unfolding stretch
 stands-at b L =
     let l : Layout = layoutIn b in
-    let s : List ℕ = sizes (l .n) (l .k) (l .c) (l .d) in
+    let s : List ℕ = sizes (l .stride) (l .n) (l .k) (l .c) (l .d) in
     record { is = refl; long = part-length b 48 (l .width * l .n) (omega (arith, offsets-within (l .width) b 48 s 0 (omega arith), L .long)) }
 
 module _ {b : List ℕ} {l : Layout} (L : Laid b l) where
   all-stand : Six b l (stretchOf L 0) (stretchOf L 1) (stretchOf L 2) (stretchOf L 3) (stretchOf L 4) (stretchOf L 5)
   all-stand =
-      names-only L (subst⁻¹ (λ (z : Layout). Laid b z → Section b z 0 (stretch (z .width) (countsIn b) b 0)) (L .is) (stands-at b) L)
+      names-only L (subst⁻¹ (λ (z : Layout). Laid b z → Section b z 0 (stretch (z .width) (z .stride) (countsIn b) b 0)) (L .is) (stands-at b) L)
 
   -- the group list is read, or it and the labels
   pub with-groups : {groups : List ℕ} → Section b l 1 groups → Six b l (stretchOf L 0) groups (stretchOf L 2) (stretchOf L 3) (stretchOf L 4) (stretchOf L 5)
@@ -81,6 +81,9 @@ module _
     abbrev w : ℕ
     w = l .width
 
+    abbrev z : ℕ
+    z = l .stride
+
     abbrev k : ℕ
     k = l .k
 
@@ -96,24 +99,25 @@ module _
     -- the index's own lists
     pub groups-are : numbers w groups k ≡ I .groups
     unfolding indexFrom
-    groups-are = ap (λ (z : Index). z .groups) (index-at (O .laid) P)
+    groups-are = ap (λ (x : Index). x .groups) (index-at (O .laid) P)
 
     pub children-are : childrenIn w starts children k (l .c) ≡ I .children
     unfolding indexFrom
-    children-are = ap (λ (z : Index). z .children) (index-at (O .laid) P)
+    children-are = ap (λ (x : Index). x .children) (index-at (O .laid) P)
 
-    pub labels-are : labelsIn w labels k d ≡ I .labels
+    pub labels-are : labelsIn w z labels k d ≡ I .labels
     unfolding indexFrom
-    labels-are = ap (λ (z : Index). z .labels) (index-at (O .laid) P)
+    labels-are = ap (λ (x : Index). x .labels) (index-at (O .laid) P)
 
     -- what is told by the labels is told by the index
-    pub test-was : {r : Bool} (a : Bool) (x y : ℕ) → r ≡ cond a false (not (someLabelling (outside x y) (labelsIn w labels k d))) → r ≡ cond a false (contains I x y)
+    pub test-was : {r : Bool} (a : Bool) (x y : ℕ) → r ≡ cond a false (not (someLabelling (outside x y) (labelsIn w z labels k d))) → r ≡ cond a false (contains I x y)
     test-was a x y e = rw labels-are at e
 
     -- labels that can be read, and a group's name
-    pub labelled : Labellings w labels k d
+    pub labelled : Labellings w z labels k d
     labelled = record {
       width = S .width;
+      stride = S .stride;
       groups-few = omega (arith, S .vertices-few, S .groups-few);
       labellings-few = S .labellings-few;
       long = omega (arith, S .labels-long);
@@ -126,46 +130,42 @@ module _
     name-low {p} {marks = marks} h e room = omega (arith, spots O P marks room .name-low p h)
 
     pub name-was : {p v : ℕ} → p < k → v ≡ numAt w groups p → v ≡ getD (I .groups) p 0
-    name-was {p} h e = e ∙ sym (numbers-at w groups k p h) ∙ ap (λ (z : List ℕ). getD z p 0) groups-are
+    name-was {p} h e = e ∙ sym (numbers-at w groups k p h) ∙ ap (λ (x : List ℕ). getD x p 0) groups-are
 
     -- the first labelling
     abbrev first : Labelling
     first = firstLabels (I .labels)
 
-    labelling-is : labellingIn w (triplesOf w labels k 0) (placesOf w labels k 0) k ≡ first
+    labelling-is : labellingIn w z (tuplesOf w z labels k 0) (placesOf w z labels k 0) k ≡ first
     unfolding labelsIn
     labelling-is =
-        sym (table-at (λ j. labellingIn w (triplesOf w labels k j) (placesOf w labels k j) k) d 0 _ (O .laid .least)) ∙ ap firstLabels labels-are
+        sym (table-at (λ j. labellingIn w z (tuplesOf w z labels k j) (placesOf w z labels k j) k) d 0 _ (O .laid .least)) ∙ ap firstLabels labels-are
 
-    module _ {triples : List ℕ} (T : Part labels (w * (0 * (4 * k))) (w * (3 * k)) triples) {x : ℕ} (h : x < k) where
-      pub triple-read : {i : ℕ} → i < 3 → Width w × (w * (3 * x + i) + w ≤ length triples)
-      triple-read {i} low = (S .width, room w (3 * x + i) (3 * k) (length triples) (omega arith) (omega (arith, T .long)))
-
-      pub s-was : {v : ℕ} → v ≡ numAt w triples (3 * x + 0) → v ≡ getD (first .s) x 0
-      unfolding triplesOf
+    module _ {tuples : List ℕ} (T : Part labels (w * (0 * ((z + 1) * k))) (w * (z * k)) tuples) {x : ℕ} (h : x < k) where
+      pub s-was : {v : ℕ} → v ≡ numAt w tuples (z * x) → v ≡ getD (first .s) x 0
+      unfolding tuplesOf
       s-was e =
           e
-          ∙ ap (numAt w triples) (add-zero (3 * x))
-          ∙ ap (λ (z : List ℕ). numAt w z (3 * x)) (T .is)
-          ∙ sym (s-at w (triplesOf w labels k 0) (placesOf w labels k 0) k x h)
-          ∙ ap (λ (z : Labelling). getD (z .s) x 0) labelling-is
+          ∙ ap (λ (s : List ℕ). numAt w s (z * x)) (T .is)
+          ∙ sym (s-at w z (tuplesOf w z labels k 0) (placesOf w z labels k 0) k x h)
+          ∙ ap (λ (m : Labelling). getD (m .s) x 0) labelling-is
 
       -- s is a rank, e no less, and no more than there are groups
-      pub s-least : {v : ℕ} → v ≡ numAt w triples (3 * x + 0) → 1 ≤ v
+      pub s-least : {v : ℕ} → v ≡ numAt w tuples (z * x) → 1 ≤ v
       s-least e = omega (arith, s-was e, s-some I (index-sound O) (first-in O) x (omega (arith, places-many O)))
 
-      pub e-was : {v : ℕ} → v ≡ numAt w triples (3 * x + 2) → v ≡ getD (first .e) x 0
-      unfolding triplesOf
+      pub e-was : {v : ℕ} → v ≡ numAt w tuples (z * x + (z - 1)) → v ≡ getD (first .e) x 0
+      unfolding tuplesOf
       e-was e =
           e
-          ∙ ap (λ (z : List ℕ). numAt w z (3 * x + 2)) (T .is)
-          ∙ sym (e-at w (triplesOf w labels k 0) (placesOf w labels k 0) k x h)
-          ∙ ap (λ (z : Labelling). getD (z .e) x 0) labelling-is
+          ∙ ap (λ (s : List ℕ). numAt w s (z * x + (z - 1))) (T .is)
+          ∙ sym (e-at w z (tuplesOf w z labels k 0) (placesOf w z labels k 0) k x h)
+          ∙ ap (λ (m : Labelling). getD (m .e) x 0) labelling-is
 
-      pub ranks-rise : {u v : ℕ} → u ≡ numAt w triples (3 * x + 0) → v ≡ numAt w triples (3 * x + 2) → u ≤ v
+      pub ranks-rise : {u v : ℕ} → u ≡ numAt w tuples (z * x) → v ≡ numAt w tuples (z * x + (z - 1)) → u ≤ v
       ranks-rise eu ev = omega (arith, s-was eu, e-was ev, s-most I (index-sound O) (first-in O) x (omega (arith, places-many O)))
 
-      pub e-low : {v : ℕ} → v ≡ numAt w triples (3 * x + 2) → v ≤ k
+      pub e-low : {v : ℕ} → v ≡ numAt w tuples (z * x + (z - 1)) → v ≤ k
       e-low ev =
           omega (
             arith,
@@ -174,7 +174,7 @@ module _
             e-most (every-member (SoundLabelling (I .children)) (index-sound O .labelled) (first-in O)) x (omega (arith, places-many O)),
           )
 
-    module _ {places : List ℕ} (R : Part labels (w * (0 * (4 * k) + 3 * k)) (w * k) places) {r : ℕ} (h : r < k) where
+    module _ {places : List ℕ} (R : Part labels (w * (0 * ((z + 1) * k) + z * k)) (w * k) places) {r : ℕ} (h : r < k) where
       pub place-read : Width w × (w * r + w ≤ length places)
       place-read = (S .width, room w r k (length places) h (omega (arith, R .long)))
 
@@ -185,6 +185,6 @@ module _
       unfolding labellingIn placesOf
       place-was e =
           e
-          ∙ ap (λ (z : List ℕ). numAt w z r) (R .is)
-          ∙ sym (numbers-at w (placesOf w labels k 0) k r h)
-          ∙ ap (λ (z : Labelling). getD (z .byRank) r 0) labelling-is
+          ∙ ap (λ (s : List ℕ). numAt w s r) (R .is)
+          ∙ sym (numbers-at w (placesOf w z labels k 0) k r h)
+          ∙ ap (λ (m : Labelling). getD (m .byRank) r 0) labelling-is

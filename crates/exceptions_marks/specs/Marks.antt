@@ -1,8 +1,8 @@
--- What is read of the triples of one labelling, and the marks that tell the exceptions of one group. A group's mark stands at its name.
+-- What is read of the numbers by place of one labelling, and the marks that tell the exceptions of one group. A group's mark stands at its name.
 use mathlib.Core.Bool.{Bool, _&&_, cond}
 use mathlib.Core.Path.{_≡_}
 use mathlib.Core.List.{List}
-use Prim.Native.Nat.{ℕ, _+_, _*_, _<_}
+use Prim.Native.Nat.{ℕ, _+_, _-_, _*_, _<_}
 use lib.Dec.{eqb, leb}
 use lib.ListN.{length, getD, drop}
 use Rattle.lineage.specs.Graph.{leads}
@@ -11,8 +11,8 @@ use Rattle.lineage.specs.Numbers.{numAt}
 use Rattle.laws_exceptions.specs.Exceptions.{isException}
 
 -- y's outer interval lies in x's: s(x) is not above s(y), nor e(y) above e(x)
-abbrev pub liesIn : ℕ → List ℕ → (x y : ℕ) → Bool
-liesIn w triples x y = leb (numAt w triples (3 * x)) (numAt w triples (3 * y)) && leb (numAt w triples (3 * y + 2)) (numAt w triples (3 * x + 2))
+abbrev pub liesIn : (w z : ℕ) → List ℕ → (x y : ℕ) → Bool
+liesIn w z tuples x y = leb (numAt w tuples (z * x)) (numAt w tuples (z * y)) && leb (numAt w tuples (z * y + (z - 1))) (numAt w tuples (z * x + (z - 1)))
 
 abbrev pub markOf : Index → List ℕ → ℕ → ℕ
 markOf I marks q = getD marks (getD (I .groups) q 0) 0

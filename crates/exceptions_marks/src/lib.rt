@@ -2,21 +2,21 @@
 // labelling are its exceptions.
 ghost use mathlib.Core.Bool.{false, not, cond};
 ghost use mathlib.Core.Path.{_≡_};
-ghost use Prim.Native.Nat.{_*_, _≤_, _<_};
+ghost use Prim.Native.Nat.{_≤_, _<_};
 ghost use lib.Dec.{eqb};
-ghost use lib.ListN.{length, getD};
+ghost use lib.ListN.{length};
 ghost use Rattle.lineage.specs.Lists.{cleared};
-ghost use Rattle.lineage.specs.Numbers.{Width};
 ghost use Rattle.lineage.specs.Question.{outside, someLabelling};
 ghost use Rattle.lineage.specs.Calls.{indexIn};
 ghost use Rattle.laws_exceptions.specs.Exceptions.{exceptionsOf};
 ghost use Rattle.stored.specs.Sections.{Labellings, labelsIn};
+ghost use Rattle.sound_ranks.specs.Fit.{Tuples};
 ghost use Rattle.sound_places.specs.Lent.{SoundBytes};
 ghost use Rattle.exceptions_marks.specs.Marks.{liesIn, Reaching, Excepting};
 use numbers::num;
+use sound_ranks::e_of;
+use sound_ranks::s_of;
 use stored::parts;
-use stored::parts::E;
-use stored::parts::S;
 use stored_header::Layout;
 
 // What x reaches is marked 1, and its exceptions 2.
@@ -24,28 +24,28 @@ pub const REACHED: u8 = 1;
 
 pub const EXCEPTED: u8 = 2;
 
-// Whether y's outer interval lies in x's, in the labelling of these triples.
-fn lies_in(triples: &[u8], w: usize, k: usize, x: usize, y: usize) -> bool
-    requires { ⌜ Width w ⌝ }
-    requires { ⌜ (x < k) × ((y < k) × (w * (3 * k) ≤ length (now triples))) ⌝ }
-    ensures { λ r. ⌜ r ≡ liesIn w (now (triples .entry)) x y ⌝ }
+// Whether y's outer interval lies in x's, in the labelling of these numbers by place.
+fn lies_in(tuples: &[u8], w: usize, z: usize, k: usize, x: usize, y: usize) -> bool
+    requires { ⌜ Tuples w z (now tuples) k ⌝ }
+    requires { ⌜ (x < k) × (y < k) ⌝ }
+    ensures { λ r. ⌜ r ≡ liesIn w z (now (tuples .entry)) x y ⌝ }
 {
-    if num(triples, w, 3 * x + S) > num(triples, w, 3 * y + S) {
+    if s_of(tuples, w, z, k, x) > s_of(tuples, w, z, k, y) {
         return false;
     }
-    num(triples, w, 3 * y + E) <= num(triples, w, 3 * x + E)
+    e_of(tuples, w, z, k, y) <= e_of(tuples, w, z, k, x)
 }
 
 // Whether group x contains group y: y's outer interval lies in x's in every labelling.
-pub fn contains(labels: &[u8], w: usize, k: usize, d: usize, x: usize, y: usize) -> bool
-    requires { ⌜ Labellings w (now labels) k d ⌝ }
+pub fn contains(labels: &[u8], w: usize, z: usize, k: usize, d: usize, x: usize, y: usize) -> bool
+    requires { ⌜ Labellings w z (now labels) k d ⌝ }
     requires { ⌜ (x < k) × (y < k) ⌝ }
-    ensures { λ r. ⌜ r ≡ not (someLabelling (outside x y) (labelsIn w (now (labels .entry)) k d)) ⌝ }
+    ensures { λ r. ⌜ r ≡ not (someLabelling (outside x y) (labelsIn w z (now (labels .entry)) k d)) ⌝ }
 {
     let mut l = 0;
     while l < d {
-        let triples = parts::triples(labels, w, k, d, l);
-        if !lies_in(triples, w, k, x, y) {
+        let tuples = parts::tuples(labels, w, z, k, d, l);
+        if !lies_in(tuples, w, z, k, x, y) {
             return false;
         }
         l += 1;
@@ -53,25 +53,25 @@ pub fn contains(labels: &[u8], w: usize, k: usize, d: usize, x: usize, y: usize)
     true
 }
 
-// Whether group y of this name, whose mark says whether x reaches it, is an exception of x.
+// Whether group y, whose mark says whether x reaches it, is an exception of x.
 fn is_exception(
     labels: &[u8],
-    marks: &[u8],
     w: usize,
+    z: usize,
     k: usize,
     d: usize,
     x: usize,
     y: usize,
-    name: usize,
+    mark: u8,
 ) -> bool
-    requires { ⌜ Labellings w (now labels) k d ⌝ }
-    requires { ⌜ (x < k) × ((y < k) × (name < length (now marks))) ⌝ }
-    ensures { λ r. ⌜ r ≡ cond (eqb (getD (now (marks .entry)) name 0) 1) false (not (someLabelling (outside x y) (labelsIn w (now (labels .entry)) k d))) ⌝ }
+    requires { ⌜ Labellings w z (now labels) k d ⌝ }
+    requires { ⌜ (x < k) × (y < k) ⌝ }
+    ensures { λ r. ⌜ r ≡ cond (eqb mark 1) false (not (someLabelling (outside x y) (labelsIn w z (now (labels .entry)) k d))) ⌝ }
 {
-    if marks[name] == REACHED {
+    if mark == REACHED {
         return false;
     }
-    contains(labels, w, k, d, x, y)
+    contains(labels, w, z, k, d, x, y)
 }
 
 // Marks the exceptions of x, where what it reaches is marked; how many they are. It goes through the ranks of x's outer interval in the first labelling: all that x
@@ -84,20 +84,21 @@ fn mark_contained(index: &[u8], l: Layout, marks: &mut [u8], x: usize) -> usize
     ensures { λ _. ⌜ Excepting (indexIn (now (index .entry))) x (now (marks .entry)) (now (marks .exit)) ⌝ }
 {
     let w = l.width;
+    let z = l.stride;
     let k = l.k;
     let d = l.d;
     let groups = parts::groups(index, l);
     let labels = parts::labels(index, l);
-    let triples = parts::triples(labels, w, k, d, 0);
-    let places = parts::by_rank(labels, w, k, d, 0);
-    let from = num(triples, w, 3 * x + S) - 1;
-    let ranks = num(triples, w, 3 * x + E) - from;
+    let tuples = parts::tuples(labels, w, z, k, d, 0);
+    let places = parts::by_rank(labels, w, z, k, d, 0);
+    let from = s_of(tuples, w, z, k, x) - 1;
+    let ranks = e_of(tuples, w, z, k, x) - from;
     let mut count = 0;
     let mut i = 0;
     while i < ranks {
         let y = num(places, w, from + i);
         let name = num(groups, w, y);
-        if is_exception(labels, marks, w, k, d, x, y, name) {
+        if is_exception(labels, w, z, k, d, x, y, marks[name]) {
             marks[name] = EXCEPTED;
             count += 1;
         }

@@ -23,12 +23,12 @@ module _
     {b : List ℕ} {l : Layout} {names groups levels starts children labels : List ℕ}
     (O : SoundBytes b l) (P : Six b l names groups levels starts children labels)
   where
-    pub telling : Telling (l .width) (l .k) (l .c) (l .d) starts children labels
+    pub telling : Telling (l .width) (l .stride) (l .k) (l .c) (l .d) starts children labels
     telling = record { below = spots O P (l .n) (omega arith) .below; labelled = labelled O P }
 
     -- an entry of the children and labels is one of the index
     pub entry-here :
-        (x y : ℕ) {v : ℕ} → v ≡ entry (kindsAlone (childrenIn (l .width) starts children (l .k) (l .c)) (labelsIn (l .width) labels (l .k) (l .d))) x y
+        (x y : ℕ) {v : ℕ} → v ≡ entry (kindsAlone (childrenIn (l .width) starts children (l .k) (l .c)) (labelsIn (l .width) (l .stride) labels (l .k) (l .d))) x y
         → v ≡ entry (indexIn b) x y
     entry-here x y e = rw (children-are O P, labels-are O P) at e
 

@@ -32,8 +32,8 @@ any-fails p xs none =
 abbrev pub childrenAt : (w k c : ℕ) → (starts children : List ℕ) → ℕ → List ℕ
 childrenAt w k c starts children x = getD (childrenIn w starts children k c) x []
 
-abbrev pub told : (w k c d : ℕ) → (starts children labels : List ℕ) → Index
-told w k c d starts children labels = kindsAlone (childrenIn w starts children k c) (labelsIn w labels k d)
+abbrev pub told : (w z k c d : ℕ) → (starts children labels : List ℕ) → Index
+told w z k c d starts children labels = kindsAlone (childrenIn w starts children k c) (labelsIn w z labels k d)
 
 pub record Trying (I : Index) (row : List ℕ) (y i : ℕ) : Type 0 where
   pub within : i ≤ length row
@@ -42,21 +42,21 @@ pub record Trying (I : Index) (row : List ℕ) (y i : ℕ) : Type 0 where
 pub trying-none : (I : Index) (row : List ℕ) (y : ℕ) → Trying I row y 0
 trying-none I row y = record { within = omega arith; none = λ j h. absurd (omega arith) }
 
-module _ (w k c d : ℕ) (starts children labels : List ℕ) (x y : ℕ) where
+module _ (w z k c d : ℕ) (starts children labels : List ℕ) (x y : ℕ) where
   abbrev I : Index
-  I = told w k c d starts children labels
+  I = told w z k c d starts children labels
 
   abbrev row : List ℕ
   row = childrenAt w k c starts children x
 
   -- under several labellings there is one kind
   pub kind-one : (d ≡ 1 → ⊥) → false ≡ isIndirect I x y
-  kind-one n = rw (labels-long w labels k d, ne-eqb d 1 n)
+  kind-one n = rw (labels-long w z labels k d, ne-eqb d 1 n)
 
   kind-by : d ≡ 1 → {r : Bool} → r ≡ any (λ h. contains I h y) row → r ≡ isIndirect I x y
-  kind-by one e = rw (labels-long w labels k d, eq-eqb d 1 one) e
+  kind-by one e = rw (labels-long w z labels k d, eq-eqb d 1 one) e
 
-  module _ {from len i : ℕ} (one : d ≡ 1) (T : Telling w k c d starts children labels) (R : Row w starts k c x from len) (K : Trying I row y i) where
+  module _ {from len i : ℕ} (one : d ≡ 1) (T : Telling w z k c d starts children labels) (R : Row w starts k c x from len) (K : Trying I row y i) where
     -- the next child, as it was read
     module _ (low : i < len) {h : ℕ} (is : h ≡ numAt w children (from + i)) {r : Bool} (test : r ≡ contains I h y) where
       here : getD row i 0 ≡ h

@@ -14,9 +14,9 @@ use Rattle.exceptions_rows.specs.declared.Compared.{Compared}
 use Rattle.exceptions_rows.specs.declared.Compared.the-variants.{Ends, Differs}
 
 -- children that are places, and labels
-pub record Telling (w k c d : ℕ) (starts children labels : List ℕ) : Type 0 where
+pub record Telling (w z k c d : ℕ) (starts children labels : List ℕ) : Type 0 where
   pub below : Places w starts children k c
-  pub labelled : Labellings w labels k d
+  pub labelled : Labellings w z labels k d
 
 -- an index of which only children and labels are told: an entry depends on nothing else
 abbrev pub kindsAlone : List (List ℕ) → List Labelling → Index

@@ -33,15 +33,16 @@ fn is_indirect(
     children: &[u8],
     labels: &[u8],
     w: usize,
+    z: usize,
     k: usize,
     c: usize,
     d: usize,
     x: usize,
     y: usize,
 ) -> bool
-    requires { ⌜ Telling w k c d (now starts) (now children) (now labels) ⌝ }
+    requires { ⌜ Telling w z k c d (now starts) (now children) (now labels) ⌝ }
     requires { ⌜ (x < k) × (y < k) ⌝ }
-    ensures { λ r. ⌜ r ≡ isIndirect (kindsAlone (childrenIn w (now (starts .entry)) (now (children .entry)) k c) (labelsIn w (now (labels .entry)) k d)) x y ⌝ }
+    ensures { λ r. ⌜ r ≡ isIndirect (kindsAlone (childrenIn w (now (starts .entry)) (now (children .entry)) k c) (labelsIn w z (now (labels .entry)) k d)) x y ⌝ }
 {
     if d != 1 {
         return false;
@@ -52,7 +53,7 @@ fn is_indirect(
     let mut i = 0;
     while i < len {
         let h = num(children, w, from + i);
-        if contains(labels, w, k, d, h, y) {
+        if contains(labels, w, z, k, d, h, y) {
             return true;
         }
         i += 1;
@@ -66,17 +67,18 @@ fn entry_of(
     children: &[u8],
     labels: &[u8],
     w: usize,
+    z: usize,
     k: usize,
     c: usize,
     d: usize,
     x: usize,
     y: usize,
 ) -> usize
-    requires { ⌜ Telling w k c d (now starts) (now children) (now labels) ⌝ }
+    requires { ⌜ Telling w z k c d (now starts) (now children) (now labels) ⌝ }
     requires { ⌜ (x < k) × (y < k) ⌝ }
-    ensures { λ r. ⌜ r ≡ entry (kindsAlone (childrenIn w (now (starts .entry)) (now (children .entry)) k c) (labelsIn w (now (labels .entry)) k d)) x y ⌝ }
+    ensures { λ r. ⌜ r ≡ entry (kindsAlone (childrenIn w (now (starts .entry)) (now (children .entry)) k c) (labelsIn w z (now (labels .entry)) k d)) x y ⌝ }
 {
-    if is_indirect(starts, children, labels, w, k, c, d, x, y) {
+    if is_indirect(starts, children, labels, w, z, k, c, d, x, y) {
         return 2 * y + 1;
     }
     2 * y
@@ -90,6 +92,7 @@ fn write_marked(index: &[u8], l: Layout, marks: &[u8], x: usize, out: &mut [u8],
     ensures { λ _. ⌜ now (out .exit) ≡ put (now (out .entry)) (4 * from) (written 4 (entriesOf (indexIn (now (index .entry))) x)) ⌝ }
 {
     let w = l.width;
+    let z = l.stride;
     let k = l.k;
     let c = l.c;
     let d = l.d;
@@ -102,7 +105,7 @@ fn write_marked(index: &[u8], l: Layout, marks: &[u8], x: usize, out: &mut [u8],
     while y < k {
         let name = num(groups, w, y);
         if marks[name] == EXCEPTED {
-            let v = entry_of(starts, children, labels, w, k, c, d, x, y);
+            let v = entry_of(starts, children, labels, w, z, k, c, d, x, y);
             put_at(out, 4 * at, 4, v);
             at += 1;
         }
@@ -118,6 +121,7 @@ fn match_marked(index: &[u8], l: Layout, marks: &[u8], x: usize, lists: &[u8], f
     ensures { λ r. ⌜ r ≡ agrees (now (lists .entry)) from (entriesOf (indexIn (now (index .entry))) x) ⌝ }
 {
     let w = l.width;
+    let z = l.stride;
     let k = l.k;
     let c = l.c;
     let d = l.d;
@@ -130,7 +134,7 @@ fn match_marked(index: &[u8], l: Layout, marks: &[u8], x: usize, lists: &[u8], f
     while y < k {
         let name = num(groups, w, y);
         if marks[name] == EXCEPTED {
-            if num(lists, 4, at) != entry_of(starts, children, labels, w, k, c, d, x, y) {
+            if num(lists, 4, at) != entry_of(starts, children, labels, w, z, k, c, d, x, y) {
                 return false;
             }
             at += 1;

@@ -53,7 +53,7 @@ module _ (I : Index) (S : Sound I) where
     e p = getD (l .e) p 0
 
     -- rule 4: a path needs outer containment
-    outer-needed : {p t : ℕ} → p < k → Down (I .children) p t → (s p ≤ s t) × (e t ≤ e p)
+    pub outer-needed : {p t : ℕ} → p < k → Down (I .children) p t → (s p ≤ s t) × (e t ≤ e p)
     outer-needed b stay = (omega arith, omega arith)
     outer-needed {p} b (step {q = q} i w) =
         let r = outer-needed (child-in (S .condensed) p q b i) w in
@@ -77,7 +77,7 @@ module _ (I : Index) (S : Sound I) where
         ]
 
     -- rule 2: the inner interval holds what is below
-    inner-below : (B p t : ℕ) → p < k → t < k → m p ≤ e t → e t ≤ e p → e p ≤ B → Down (I .children) p t
+    pub inner-below : (B p t : ℕ) → p < k → t < k → m p ≤ e t → e t ≤ e p → e p ≤ B → Down (I .children) p t
     inner-below zero p t b c low high bound = absurd (omega (arith, L .m-low p b))
     inner-below (suc B) p t b c low high bound =
         elim (ℕ-discrete (e p) (e t)) [

@@ -1,4 +1,4 @@
--- The calls (document 01, "Refusal numbers, in order of checking"; document 02, [6] and [13]): of each call its checks in order, its answer, and what every lent buffer
+-- The calls (document 01, "Refusal numbers, in order of checking"; document 02, [6], [13] and [14]): of each call its checks in order, its answer, and what every lent buffer
 -- holds afterwards, as functions of what was lent and of the forms that the call takes.
 use mathlib.Core.Bool.{Bool, true, false, not, _||_, _&&_, cond}
 use mathlib.Core.List.{List, [], _∷_, _++_, map}
@@ -9,8 +9,8 @@ use Rattle.lineage.specs.Lists.{upto, any, among, firstOf, part, cleared
 use Rattle.lineage.specs.Graph.{Graph, turnedGraph}
 use Rattle.lineage.specs.Index.{Index, indexOf}
 use Rattle.lineage.specs.Question.{Answer, answer, downstream}
-use Rattle.lineage.specs.Stored.{Form, mostLabellings, headerLength, Counts, countsOf, totalLength, encode, headerAt, countsIn, formOf, isForm, countsFit, offsetsFit, decode}
-use Rattle.lineage.specs.Sound.{contentsSound}
+use Rattle.lineage.specs.Stored.{Form, headerLength, Counts, countsOf, totalLength, encode, headerAt, countsIn, formOf, isForm, countsFit, offsetsFit, decode}
+use Rattle.lineage.specs.Sound.{shared, isTree, contentsSound}
 
 -- one check: when it applies, the refusal's number, the extra number
 pub record Check : Type 0 where
@@ -60,6 +60,10 @@ ordinary = formsTaken 1 2
 abbrev pub turned : FormsTaken
 turned = formsTaken 3 3
 
+-- and those on a plain hierarchy form 4 alone
+abbrev pub hierarchy : FormsTaken
+hierarchy = formsTaken 4 4
+
 -- a call that takes these forms takes the one with this number
 abbrev pub takes : FormsTaken → ℕ → Bool
 takes T number = (leb (T .least) number && leb number (T .most)) && isForm number
@@ -100,7 +104,12 @@ abbrev pub built : Input → Index
 built B = indexOf (B .graph) (ordersOf B)
 
 abbrev pub lengthOf : Form → Index → ℕ
-lengthOf F I = let a : Counts = countsOf I in totalLength (F .width) (a .n) (a .k) (a .c) (a .d)
+lengthOf F I = let a : Counts = countsOf I in totalLength (F .width) (F .byPlace) (a .n) (a .k) (a .c) (a .d)
+
+-- 22, at a form of plain hierarchies: a group is a child of two others; the extra number is the smallest such name
+abbrev pub treeCheck : Form → Index → Check
+treeCheck F I =
+    check (F .tree && not (isTree (I .children))) 22 (getD (I .groups) (firstOf (shared (I .children)) (upto (length (I .children))) 0) 0)
 
 -- refusals 1 to 7 alter nothing
 abbrev pub buildEarly : Form → Input → ℕ → List Check
@@ -109,7 +118,7 @@ buildEarly F B work =
     check (ltb (F .vertices) (G .n)) 1 0
     ∷ check (not (eqb (length (G .sources)) (length (G .targets)))) 2 0
     ∷ check (ltb (F .edges) (length (G .sources))) 3 0
-    ∷ check (eqb (B .d) 0 || ltb mostLabellings (B .d)) 4 0
+    ∷ check (eqb (B .d) 0 || ltb (F .labellings) (B .d)) 4 0
     ∷ check (not (eqb (length (B .orders)) (B .d * G .n))) 5 0
     ∷ check (ltb work (workNeeded G)) 6 (workNeeded G)
     ∷ check (any (badEdge G) (upto (length (G .sources)))) 7 (firstOf (badEdge G) (upto (length (G .sources))) 0)
@@ -119,17 +128,18 @@ buildEarly F B work =
 abbrev pub buildLate : Form → Input → ℕ → List Check
 buildLate F B out =
     check (any (badOrder (B .graph .n) (B .orders)) (upto (B .d))) 8 (firstOf (badOrder (B .graph .n) (B .orders)) (upto (B .d)) 0)
+    ∷ treeCheck F (built B)
     ∷ check (ltb out (lengthOf F (built B))) 9 (lengthOf F (built B))
     ∷ []
 
 -- a finished build returns the total length
 unfoldable pub buildAnswer : Form → Input → (work out : ℕ) → Outcome ℕ
-unfolding indexOf
+unfolding indexOf isTree
 buildAnswer F B work out = outcome (buildEarly F B work ++ buildLate F B out) (lengthOf F (built B))
 
 -- the output after a build: unchanged by every refusal; past what is written it keeps its contents
 unfoldable pub buildOutput : Form → Input → ℕ → List ℕ → List ℕ
-unfolding encode indexOf
+unfolding encode indexOf isTree
 buildOutput F B work out =
     cond (anyApplies (buildEarly F B work ++ buildLate F B (length out))) out (encode F (built B) ++ drop (lengthOf F (built B)) out)
 
@@ -173,11 +183,11 @@ formChecks T b marks work =
 
 -- 15
 abbrev pub contentsCheck : List ℕ → Check
-contentsCheck b = check (not (contentsSound (formOf (headerAt b 0) .width) b)) 15 0
+contentsCheck b = check (not (contentsSound (formOf (headerAt b 0)) b)) 15 0
 
 -- the index that bytes of their form hold
 abbrev pub indexIn : List ℕ → Index
-indexIn b = decode (formOf (headerAt b 0) .width) b
+indexIn b = decode (formOf (headerAt b 0)) b
 
 -- marks after a call whose checks before 15 are these: unchanged where one of them applies, otherwise 0 below n
 abbrev pub marksAfter : List Check → List ℕ → List ℕ → List ℕ

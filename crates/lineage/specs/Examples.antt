@@ -1,5 +1,5 @@
 -- The reckoned examples of document 01, P1 to P10, the sample text's five answers and the slips that need an example of their own: one table,
--- a single claim, by computation. Questions are asked of the stored bytes, through every check, at both forms. A second table has refusals of every kind.
+-- a single claim, by computation. Questions are asked of the stored bytes, through every check, at both forms; those of a plain hierarchy at form 4. A second table has refusals of every kind.
 use mathlib.Core.Path.{_≡_, refl}
 use mathlib.Core.Bool.{Bool, true, false}
 use mathlib.Core.List.{List, [], _∷_, _++_, map}
@@ -10,8 +10,8 @@ use Rattle.lineage.specs.Lists.{upto, Every, cleared}
 use Rattle.lineage.specs.Graph.{Graph, condense}
 use Rattle.lineage.specs.Labels.{Labelling}
 use Rattle.lineage.specs.Index.{indexOf}
-use Rattle.lineage.specs.Stored.{Form, form1, form2, Counts, encode}
-use Rattle.lineage.specs.Calls.{Outcome, refused, answered, Said, host, ordinary, buildCall, openAnswer, askAnswer, askMarks, askWork, listAnswer, listOutput}
+use Rattle.lineage.specs.Stored.{Form, form1, form2, form4, Counts, encode}
+use Rattle.lineage.specs.Calls.{Outcome, refused, answered, Said, host, ordinary, hierarchy, buildAnswer, buildCall, openAnswer, askAnswer, askMarks, askWork, listAnswer, listOutput}
 
 -- Graph G: n = 6, edges 0-1, 1-2, 2-1, 0-3, 3-4, 2-4, 5-5
 abbrev G : Graph
@@ -42,6 +42,14 @@ none = record { n = 0; sources = []; targets = [] }
 -- edges 2-1, 1-2, 0-2: the edges name 2 before 1
 abbrev turned : Graph
 turned = record { n = 3; sources = 2 ∷ 1 ∷ 0 ∷ []; targets = 1 ∷ 2 ∷ 2 ∷ [] }
+
+-- a plain hierarchy: G without its edge 2-4, so that 4 is a child of 3's group alone
+abbrev T : Graph
+T = record { n = 6; sources = 0 ∷ 1 ∷ 2 ∷ 0 ∷ 3 ∷ 5 ∷ []; targets = 1 ∷ 2 ∷ 1 ∷ 3 ∷ 4 ∷ 5 ∷ [] }
+
+-- no plain hierarchy, though under the rising order m is s in every group: edges 1-0, 0-2, 1-2
+abbrev alike : Graph
+alike = record { n = 3; sources = 1 ∷ 0 ∷ 1 ∷ []; targets = 0 ∷ 2 ∷ 2 ∷ [] }
 
 -- s, m and e of a place
 data Label : Type 0 where
@@ -94,6 +102,13 @@ wide = stored form2 G (A ∷ [])
 abbrev wideUnsound : List ℕ
 wideUnsound = altered wide 180 1
 
+-- the bytes of T under B at form 4, and the same with 3's s, at byte 164, above that of its child
+abbrev plain : List ℕ
+plain = stored form4 T (B ∷ [])
+
+abbrev plainUnsound : List ℕ
+plainUnsound = altered plain 164 3
+
 -- a question and its outcome
 data Question : Type 0 where
   question : (u v : ℕ) → Outcome Said → Question
@@ -113,6 +128,9 @@ data Example : Type 0 where
   buildsAs : (form : ℕ) → Graph → (d : ℕ) → (orders : List ℕ) → (work out : ℕ) → Outcome ℕ → Example
   asksAs : (bytes : List ℕ) → (marks : ℕ) → List Question → Example
   listsAs : (bytes : List ℕ) → (u marks out : ℕ) → Outcome ℕ → Example
+  hierarchyBuildsAs : Graph → (d : ℕ) → (orders : List ℕ) → (work out : ℕ) → Outcome ℕ → Example
+  hierarchyOpensAs : (bytes : List ℕ) → (marks work : ℕ) → Outcome Counts → Example
+  hierarchyAnswerIs : (bytes : List ℕ) → (u v : ℕ) → Said → Example
   allRefuse : (bytes : List ℕ) → (vertex marks work : ℕ) → (number extra : ℕ) → Example
 
 abbrev Asked : List ℕ → ℕ → Question → Type 0
@@ -144,6 +162,10 @@ Right (wordsAre bytes u v before after) = askWork ordinary bytes u v 6 before �
 Right (buildsAs form g d orders work out o) = buildCall form (record { graph = g; d = d; orders = orders }) work out ≡ o
 Right (asksAs bytes marks qs) = Every (Asked bytes marks) qs
 Right (listsAs bytes u marks out o) = listAnswer ordinary bytes u marks words out ≡ o
+Right (hierarchyBuildsAs g d orders work out o) = buildAnswer form4 (record { graph = g; d = d; orders = orders }) work out ≡ o
+Right (hierarchyOpensAs bytes marks work o) = openAnswer hierarchy bytes marks work ≡ o
+Right (hierarchyAnswerIs bytes u v a) =
+    (askAnswer hierarchy bytes u v 6 words ≡ answered a) × (askMarks hierarchy bytes u v (lent 7) words ≡ replicate 6 0 ++ (7 ∷ []))
 Right (allRefuse bytes vertex marks work number extra) =
     (openAnswer ordinary bytes marks work ≡ refused number extra)
     × (askAnswer ordinary bytes vertex vertex marks work ≡ refused number extra)
@@ -203,12 +225,25 @@ table =
     ∷ buildsAs 1 G 2 (A ++ (5 ∷ 4 ∷ 3 ∷ 2 ∷ 1 ∷ 1 ∷ [])) 188 0 (refused 8 1)
     ∷ buildsAs 2 G 2 (A ++ B) 188 312 (answered 312)
     ∷ buildsAs 2 G 2 (A ++ B) 188 311 (refused 9 312)
+    -- a plain hierarchy: built, opened and asked; where two groups share a child, m and s being alike does not help
+    ∷ labelsAre T B (label 2 2 5 ∷ label 4 4 4 ∷ label 2 2 3 ∷ label 2 2 2 ∷ label 1 1 1 ∷ [])
+    ∷ hierarchyBuildsAs T 1 B 184 208 (answered 208)
+    ∷ hierarchyOpensAs plain 6 172 (answered (counts 6 5 3 1))
+    ∷ hierarchyOpensAs plainUnsound 6 172 (refused 15 0)
+    ∷ hierarchyAnswerIs plain 2 1 (said true 1 0 0)
+    ∷ hierarchyAnswerIs plain 0 4 (said true 2 0 1)
+    ∷ hierarchyAnswerIs plain 4 0 (said false 3 0 0)
+    ∷ hierarchyAnswerIs plain 3 2 (said false 4 0 1)
+    ∷ hierarchyAnswerIs plain 0 5 (said false 4 0 1)
+    ∷ labelsAre alike (0 ∷ 1 ∷ 2 ∷ []) (label 1 1 2 ∷ label 1 1 3 ∷ label 1 1 1 ∷ [])
+    ∷ opensAs (stored form2 alike ((0 ∷ 1 ∷ 2 ∷ []) ∷ [])) 3 (answered (counts 3 3 3 1))
+    ∷ hierarchyOpensAs (stored form4 alike ((0 ∷ 1 ∷ 2 ∷ []) ∷ [])) 3 124 (refused 15 0)
     ∷ []
 
 claim : Every Right table
-unfolding condense indexOf encode cleared openAnswer askAnswer askMarks askWork listAnswer listOutput buildCall
+unfolding condense indexOf encode cleared openAnswer askAnswer askMarks askWork listAnswer listOutput buildAnswer buildCall
 claim =
-    ((refl, refl), (refl, (refl, (refl, (((refl, refl), (refl, refl)), (((refl, refl), (refl, refl)), (((refl, refl), (refl, refl)), (((refl, refl), (refl, refl)), ((refl, refl), ((refl, refl), ((refl, refl), (((λ u v. rw leb·zero), (λ u v. rw leb·zero)), (((refl, (refl, (refl, (refl, (refl, tt))))), (refl, (refl, (refl, (refl, (refl, tt)))))), (((refl, refl), (refl, refl)), (((refl, (refl, tt)), (refl, (refl, tt))), ((refl, refl), (refl, (refl, (refl, (refl, (refl, (refl, (refl, (refl, (refl, (refl, (((refl, refl, refl), (refl, refl, refl)), (((refl, refl, refl), (refl, refl, refl)), (((refl, refl, refl), (refl, refl, refl)), (((refl, refl, refl), (refl, refl, refl)), (refl, (refl, (refl, (refl, (refl, tt)))))))))))))))))))))))))))))))))))
+    ((refl, refl), (refl, (refl, (refl, (((refl, refl), (refl, refl)), (((refl, refl), (refl, refl)), (((refl, refl), (refl, refl)), (((refl, refl), (refl, refl)), ((refl, refl), ((refl, refl), ((refl, refl), (((λ u v. rw leb·zero), (λ u v. rw leb·zero)), (((refl, (refl, (refl, (refl, (refl, tt))))), (refl, (refl, (refl, (refl, (refl, tt)))))), (((refl, refl), (refl, refl)), (((refl, (refl, tt)), (refl, (refl, tt))), ((refl, refl), (refl, (refl, (refl, (refl, (refl, (refl, (refl, (refl, (refl, (refl, (((refl, refl, refl), (refl, refl, refl)), (((refl, refl, refl), (refl, refl, refl)), (((refl, refl, refl), (refl, refl, refl)), (((refl, refl, refl), (refl, refl, refl)), (refl, (refl, (refl, (refl, (refl, (refl, (refl, (refl, (refl, ((refl, refl), ((refl, refl), ((refl, refl), ((refl, refl), ((refl, refl), (refl, (refl, (refl, tt)))))))))))))))))))))))))))))))))))))))))))))))
 
 -- Refusals of every kind, with their extra numbers: in each row the next check applies too, so that their order shows.
 abbrev refusals : List Example
@@ -216,6 +251,7 @@ refusals =
     -- a build: 11, then 1 to 9, of which 1 and 3 are by the form's own bounds
     buildsAs 0 (bare 4097 1 0) 1 [] 0 0 (refused 11 0)
     ∷ buildsAs 3 (bare 200001 1 0) 1 [] 0 0 (refused 11 3)
+    ∷ buildsAs 4 (bare 200001 1 0) 1 [] 0 0 (refused 11 4)
     ∷ buildsAs 1 (bare 4097 1 0) 1 [] 0 0 (refused 1 0)
     ∷ buildsAs 2 (bare 200001 1 0) 1 [] 0 0 (refused 1 0)
     ∷ buildsAs 2 (bare 200000 1 0) 1 [] 0 0 (refused 2 0)
@@ -229,6 +265,18 @@ refusals =
     ∷ buildsAs 1 (record { n = 2; sources = 0 ∷ 2 ∷ []; targets = 1 ∷ 0 ∷ [] }) 1 (1 ∷ 1 ∷ []) 104 0 (refused 7 1)
     ∷ buildsAs 1 (bare 2 0 0) 2 (1 ∷ 0 ∷ 1 ∷ 1 ∷ []) 96 0 (refused 8 1)
     ∷ buildsAs 1 (bare 2 0 0) 1 (1 ∷ 0 ∷ []) 96 81 (refused 9 82)
+    -- a build of a plain hierarchy: 4 by its one order, and 22 between 8 and 9, of the smallest name of a shared group
+    ∷ hierarchyBuildsAs (bare 200001 1 0) 2 [] 0 0 (refused 1 0)
+    ∷ hierarchyBuildsAs T 2 A 0 0 (refused 4 0)
+    ∷ hierarchyBuildsAs G 1 (5 ∷ 4 ∷ 3 ∷ 2 ∷ 1 ∷ 1 ∷ []) 188 0 (refused 8 0)
+    ∷ hierarchyBuildsAs G 1 B 188 0 (refused 22 4)
+    ∷ hierarchyBuildsAs T 1 B 184 207 (refused 9 208)
+    -- its opening: 11 unless the form is 4, 12 for two labellings, then as at form 2; other calls do not take form 4
+    ∷ hierarchyOpensAs (take 48 wide) 5 0 (refused 11 2)
+    ∷ opensAs plain 5 (refused 11 4)
+    ∷ hierarchyOpensAs (stored form4 T (A ∷ B ∷ [])) 5 0 (refused 12 0)
+    ∷ hierarchyOpensAs plainUnsound 5 171 (refused 13 6)
+    ∷ hierarchyOpensAs plainUnsound 6 171 (refused 6 172)
     -- open, ask and list: 10 to 13, and 6 at form 2; the vertex is out of range each time
     ∷ allRefuse (take 47 (altered sound 0 3)) 6 5 0 10 0
     ∷ allRefuse (take 48 (altered sound 1 1)) 6 5 0 11 257
@@ -247,6 +295,6 @@ refusals =
     ∷ []
 
 all-refused : Every Right refusals
-unfolding indexOf encode openAnswer askAnswer listAnswer buildCall
+unfolding indexOf encode openAnswer askAnswer listAnswer buildAnswer buildCall
 all-refused =
-    (refl, (refl, (refl, (refl, (refl, (refl, (refl, (refl, (refl, (refl, (refl, (refl, (refl, (refl, (refl, ((refl, refl, refl), ((refl, refl, refl), ((refl, refl, refl), ((refl, refl, refl), ((refl, refl, refl), ((refl, refl, refl), ((refl, refl, refl), ((refl, refl, refl), ((refl, (refl, (refl, tt))), ((refl, (refl, (refl, tt))), (refl, (refl, (refl, tt))))))))))))))))))))))))))))
+    (refl, (refl, (refl, (refl, (refl, (refl, (refl, (refl, (refl, (refl, (refl, (refl, (refl, (refl, (refl, (refl, (refl, (refl, (refl, (refl, (refl, (refl, (refl, (refl, (refl, (refl, ((refl, refl, refl), ((refl, refl, refl), ((refl, refl, refl), ((refl, refl, refl), ((refl, refl, refl), ((refl, refl, refl), ((refl, refl, refl), ((refl, refl, refl), ((refl, (refl, (refl, tt))), ((refl, (refl, (refl, tt))), (refl, (refl, (refl, tt)))))))))))))))))))))))))))))))))))))))

@@ -1,19 +1,31 @@
 -- Sound contents (document 01, "Stored form 1": "Opening decides this without trying orders"): the local tests that decide, over the stored
--- lists alone, whether some edge list and some orders yield an index. That they decide exactly this is a theorem of `laws`.
-use mathlib.Core.Bool.{Bool, true, false, _&&_}
+-- lists alone, whether some edge list and some orders yield an index. That they decide exactly this is a theorem of `laws`. And what a plain hierarchy is (document 02, [14]).
+use mathlib.Core.Bool.{Bool, true, false, not, _&&_, _||_}
 use mathlib.Core.List.{List, [], map}
 use Prim.Native.Nat.{ℕ, zero, suc, _-_}
 use lib.Dec.{eqb, leb, ltb}
 use lib.ListN.{length, getD}
-use Rattle.lineage.specs.Lists.{allBelow, among, allOf, least, greatest, sameList}
+use Rattle.lineage.specs.Lists.{upto, any, allBelow, among, those, allOf, least, greatest, sameList}
 use Rattle.lineage.specs.Graph.{groupList}
 use Rattle.lineage.specs.Labels.{Labelling, nobodysChild}
 use Rattle.lineage.specs.Index.{Index}
-use Rattle.lineage.specs.Stored.{Counts, countsIn, section, decode}
+use Rattle.lineage.specs.Stored.{Form, Counts, countsIn, section, decode}
 
 -- q is a child of p
 abbrev pub childOf : List (List ℕ) → ℕ → ℕ → Bool
 childOf children p q = among q (getD children p [])
+
+-- the groups that have q as a child
+abbrev pub parentsOf : List (List ℕ) → ℕ → List ℕ
+parentsOf children q = those (λ p. childOf children p q) (upto (length children))
+
+-- q is a child of two others
+abbrev pub shared : List (List ℕ) → ℕ → Bool
+shared children q = ltb 1 (length (parentsOf children q))
+
+-- a plain hierarchy: no group is a child of two others
+unfoldable pub isTree : List (List ℕ) → Bool
+isTree children = not (any (shared children) (upto (length children)))
 
 -- a name is not above its vertex and is its own name; the group list is all names, rising
 unfoldable pub namesPass : List ℕ → List ℕ → Bool
@@ -97,7 +109,9 @@ abbrev pub startsPass : List ℕ → ℕ → ℕ → Bool
 startsPass starts k c =
     eqb (getD starts 0 0) 0 && (allBelow k (λ p. leb (getD starts p 0) (getD starts (suc p) 0)) && eqb (getD starts k 0) c)
 
--- whether the contents of bytes are sound, their header being right
-unfoldable pub contentsSound : ℕ → List ℕ → Bool
-unfolding section decode sound
-contentsSound w b = let a : Counts = countsIn b in startsPass (section w a b 3) (a .k) (a .c) && sound (decode w b)
+-- whether the contents of bytes are sound, their header being right; at a form of plain hierarchies the children are one
+unfoldable pub contentsSound : Form → List ℕ → Bool
+unfolding section decode sound isTree
+contentsSound F b =
+    let a : Counts = countsIn b in
+    startsPass (section (F .width) (F .byPlace) a b 3) (a .k) (a .c) && (sound (decode F b) && (not (F .tree) || isTree (decode F b .children)))

@@ -87,7 +87,7 @@ module _ (T : FormsTaken) (b : List ℕ) (u : ℕ) (marks work out : List ℕ) (
         {F : Form} → Wide F → (Y : Yields F b) → countsFit F (countsOf (indexOf (Y .graph) (Y .orders))) ≡ true → (v : ℕ)
         → (among v list ≡ true) ↔ Downstream (Y .graph) u v
     listed-yielded {F} W Y bounds =
-        let E : Fits F (indexOf (Y .graph) (Y .orders)) = yielded-fits W (Y .graph) (Y .ends) (Y .orders) (Y .permuted) bounds in
+        let E : Fits F (indexOf (Y .graph) (Y .orders)) = yielded-fits W (Y .graph) (Y .ends) (Y .orders) (Y .permuted) (Y .plain) bounds in
         listed-right (record {
           graph = Y .graph;
           ends = Y .ends;

@@ -1,4 +1,5 @@
 -- Good texts, bad texts in one way each, and every refusal of the two calls: one table, a single claim, by computation.
+use mathlib.Core.Bool.{false}
 use mathlib.Core.Path.{_≡_, refl}
 use mathlib.Core.List.{List, [], _∷_, _++_}
 use Prim.Native.Nat.{ℕ}
@@ -18,7 +19,7 @@ behindHeader lines = header ++ (bytes "\n" ++ bytes lines)
 
 -- a form with small bounds, so that a text beyond them is short
 abbrev small : Form
-small = record { number = 1; width = 2; vertices = 3; edges = 2; entries = 2 }
+small = record { number = 1; width = 2; vertices = 3; edges = 2; entries = 2; labellings = 1; byPlace = 3; tree = false }
 
 abbrev graph : ℕ → List ℕ → List ℕ → Graph
 graph n sources targets = record { n = n; sources = sources; targets = targets }

@@ -16,14 +16,12 @@ use matrix_lines::header_stands;
 use matrix_lines::kind_at;
 use matrix_lines::read_row;
 use matrix_lines::skip_comments;
+use refusals::BAD_MATRIX;
 use refusals::LIST_SHORT;
 use refusals::MANY_EDGES;
 use refusals::MANY_VERTICES;
 use stored_header::form_row;
 use text_lines::Line;
-
-// The text is outside the subset; extra: its first bad line.
-const BAD_MATRIX: u32 = 18;
 
 // An entry that was read, its ends from 0 on, and where the next line begins.
 enum Entry {

@@ -15,13 +15,13 @@ use Rattle.laws.specs.Checks.{Pass, Comes}
 use Rattle.stored_header.specs.Header.{layoutIn, wordsOf, headerChecks, Laid}
 use Rattle.laws.proofs.Checks.{stops-outcome, answered-pass, pass-behind, pass-both, refused-comes, rest-comes}
 use Rattle.stored_header.proofs.Checked.{all-right}
-use Rattle.stored_header.proofs.Laid.{width-is, n-is, k-is, c-is, d-is, words-are, cleared-in}
+use Rattle.stored_header.proofs.Laid.{n-is, k-is, c-is, d-is, words-are, cleared-in}
 use Rattle.stored_header.proofs.Admitted.{lent-pass, Admits, admitted, admitted-laid}
 use Rattle.open.specs.Yields.{HeaderRight}
 
 -- 15 as code tests it
-pub contents-applies : {b : List ℕ} {l : Layout} {t : Bool} → Laid b l → t ≡ contentsSound (l .width) b → contentsCheck b .applies ≡ not t
-contents-applies {b} L e = ap not (ap (λ (w : ℕ). contentsSound w b) (sym (width-is L)) ∙ sym e)
+pub contents-applies : {b : List ℕ} {l : Layout} {t : Bool} → Laid b l → t ≡ contentsSound (formOf (headerAt b 0)) b → contentsCheck b .applies ≡ not t
+contents-applies L e = ap not (sym e)
 
 -- the needed words as code has them
 pub words-cleared : {b : List ℕ} {l : Layout} {needed : ℕ} → Laid b l → needed ≡ wordsOf l → (work : List ℕ) {w : List ℕ} → w ≡ cleared needed work
@@ -51,7 +51,7 @@ module _ (T : FormsTaken) (b marks work : List ℕ) where
 
   -- t says whether the contents are sound, and marks and needed words are cleared
   module _ {l : Layout} (A : Admits T b (length marks) (length work) l)
-      {t : Bool} (told : t ≡ contentsSound (l .width) b)
+      {t : Bool} (told : t ≡ contentsSound (formOf (headerAt b 0)) b)
       {m : List ℕ} (left : m ≡ cleared (l .n) marks)
       {needed : ℕ} (need : needed ≡ wordsOf l) {w : List ℕ} (words : w ≡ cleared needed work)
     where
@@ -91,14 +91,14 @@ module _ (T : FormsTaken) (b : List ℕ) where
           offsets = fit .1;
         }
 
-    pub opened-contents : contentsSound (F .width) b ≡ true
-    opened-contents = not-false (contentsSound (F .width) b) (pass-behind (formChecks T b m w) (contentsCheck b ∷ []) passed .0)
+    pub opened-contents : contentsSound F b ≡ true
+    opened-contents = not-false (contentsSound F b) (pass-behind (formChecks T b m w) (contentsCheck b ∷ []) passed .0)
 
   -- a header that is right passes; with sound contents, and marks and words that suffice, the bytes open
   pub right-passes : HeaderRight T b → Pass (headerChecks T b)
   right-passes R = all-right T b (R .long) (R .taken) (R .counts) (R .offsets)
 
-  pub passed-opens : Pass (headerChecks T b) → (m w : ℕ) → countsIn b .n ≤ m → wordsIn b ≤ w → contentsSound (formOf (headerAt b 0) .width) b ≡ true
+  pub passed-opens : Pass (headerChecks T b) → (m w : ℕ) → countsIn b .n ≤ m → wordsIn b ≤ w → contentsSound (formOf (headerAt b 0)) b ≡ true
       → answered (countsIn b) ≡ openAnswer T b m w
   unfolding openAnswer
   passed-opens p m w h i s =

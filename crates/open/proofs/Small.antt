@@ -1,6 +1,6 @@
 -- The numbers of an index that some edge list and orders yield are small: vertices and names below n, places, levels and ranks at most k, starts at most c. So a
 -- form's width holds them.
-use mathlib.Core.Bool.{true}
+use mathlib.Core.Bool.{Bool, true, false, cond}
 use mathlib.Core.Path.{_≡_, subst}
 use mathlib.Core.List.{List, [], _∷_, map}
 use Prim.Native.Nat.{ℕ, _≤_, _<_}
@@ -11,7 +11,7 @@ use Rattle.lineage.specs.Lists.{upto, among, position, joined, Every}
 use Rattle.lineage.specs.Graph.{groupList, level, levelsOf}
 use Rattle.lineage.specs.Labels.{Labelling}
 use Rattle.lineage.specs.Index.{Index}
-use Rattle.lineage.specs.Stored.{startsFrom, triple, labelNumbers, sections}
+use Rattle.lineage.specs.Stored.{startsFrom, triple, pair, labelOf, labelNumbers, sections}
 use Rattle.laws.specs.Sound.{SoundLabelling, SoundGroups, Sound}
 use Rattle.laws.proofs.Lists.{in-getD, those-pass, upto-low, length-upto, position-low, at-position, least-below}
 use Rattle.laws.proofs.Rising.{those-short}
@@ -26,15 +26,23 @@ module _ {children : List (List ℕ)} {l : Labelling} (L : SoundLabelling childr
   abbrev k : ℕ
   k = length children
 
-  triple-small : (p : ℕ) → p < k → Every (λ x. x < N) (triple l p)
-  triple-small p h =
-      let e = e-most L p h in
-      (omega (arith, L .outer-is p h, least-below (λ q. getD (l .s) q 0) (getD (l .e) p 0) (getD children p [])), (omega (arith, L .m-high p h), (omega arith, tt)))
+  label-small : (z p : ℕ) → p < k → Every (λ x. x < N) (labelOf z l p)
+  label-small z p h = at (eqb z 2)
+    where
+      s-small : getD (l .s) p 0 < N
+      s-small = omega (arith, e-most L p h, L .outer-is p h, least-below (λ q. getD (l .s) q 0) (getD (l .e) p 0) (getD children p []))
 
-  labelling-small : Every (λ x. x < N) (labelNumbers k l)
-  labelling-small =
-      every-append (λ x. x < N) (joined (map (triple l) (upto k))) (l .byRank)
-      (every-joined (λ x. x < N) (map (triple l) (upto k)) (every-table (Every (λ x. x < N)) (triple l) k triple-small))
+      e-small : getD (l .e) p 0 < N
+      e-small = omega (arith, e-most L p h)
+
+      at : (b : Bool) → Every (λ x. x < N) (cond b (pair l p) (triple l p))
+      at true = (s-small, (e-small, tt))
+      at false = (s-small, (omega (arith, e-small, L .m-high p h), (e-small, tt)))
+
+  labelling-small : (z : ℕ) → Every (λ x. x < N) (labelNumbers z k l)
+  labelling-small z =
+      every-append (λ x. x < N) (joined (map (labelOf z l) (upto k))) (l .byRank)
+      (every-joined (λ x. x < N) (map (labelOf z l) (upto k)) (every-table (Every (λ x. x < N)) (labelOf z l) k (label-small z)))
       (every-getD (λ x. x < N) 0 (l .byRank) (λ r h. omega (arith, L .at-low r (omega (arith, L .at-long)))))
 
 -- the whole index
@@ -90,12 +98,12 @@ module _ {I : Index} (S : Sound I) where
         let row : List ℕ = getD (I .children) p [] in
         omega (arith, G .child-low p (position q row) l (position-low q row j), at-position q row j, places-few))
 
-    labels-small : (ls : List Labelling) → Every (SoundLabelling (I .children)) ls → Low (joined (map (labelNumbers (length (I .children))) ls))
-    labels-small [] h = tt
-    labels-small (l ∷ ls) h =
-        every-append (λ x. x < N) (labelNumbers (length (I .children)) l) (joined (map (labelNumbers (length (I .children))) ls))
-        (labelling-small (h .0) N (omega (arith, places-few))) (labels-small ls (h .1))
+    labels-small : (z : ℕ) (ls : List Labelling) → Every (SoundLabelling (I .children)) ls → Low (joined (map (labelNumbers z (length (I .children))) ls))
+    labels-small z [] h = tt
+    labels-small z (l ∷ ls) h =
+        every-append (λ x. x < N) (labelNumbers z (length (I .children)) l) (joined (map (labelNumbers z (length (I .children))) ls))
+        (labelling-small (h .0) N (omega (arith, places-few)) z) (labels-small z ls (h .1))
 
-    pub sections-small : Every Low (sections I)
-    sections-small =
-        (names-small, (groups-small, (levels-small, (starts-small, (children-small, (rw (← (G .children-long)) (labels-small (I .labels) (S .labelled)), tt))))))
+    pub sections-small : (z : ℕ) → Every Low (sections z I)
+    sections-small z =
+        (names-small, (groups-small, (levels-small, (starts-small, (children-small, (rw (← (G .children-long)) (labels-small z (I .labels) (S .labelled)), tt))))))

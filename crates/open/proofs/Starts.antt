@@ -14,7 +14,7 @@ use Rattle.numbers.proofs.Written.{written-long, numbers-written}
 use Rattle.stored.specs.Fits.{Fits}
 use Rattle.stored.proofs.Offsets.{offsets-part}
 
-pub starts-read : {F : Form} {I : Index} → Fits F I → section (F .width) (countsOf I) (encode F I) 3 ≡ startsFrom 0 (I .children)
+pub starts-read : {F : Form} {I : Index} → Fits F I → section (F .width) (F .byPlace) (countsOf I) (encode F I) 3 ≡ startsFrom 0 (I .children)
 unfolding section stretch encode
 starts-read {F} {I} E =
     let starts : List ℕ = startsFrom 0 (I .children) in
@@ -22,6 +22,6 @@ starts-read {F} {I} E =
     let w : ℕ = F .width in
     ap₂ (numbers w)
     (sym (ap₂ (λ (v z : ℕ). part (encode F I) (48 + w * length (I .names) + w * length (I .groups) + w * v) (w * z)) (E .levels) size)
-    ∙ offsets-part w (written 4 (header F (countsOf I))) (sections I) 48 3 (sym (written-long 4 (header F (countsOf I)))) (omega arith))
+    ∙ offsets-part w (written 4 (header F (countsOf I))) (sections (F .byPlace) I) 48 3 (sym (written-long 4 (header F (countsOf I)))) (omega arith))
     (sym size)
-    ∙ numbers-written (F .width) starts (every-at (Every (λ x. x < 256 ^ F .width)) (sections I) 3 [] (E .small) (omega arith))
+    ∙ numbers-written (F .width) starts (every-at (Every (λ x. x < 256 ^ F .width)) (sections (F .byPlace) I) 3 [] (E .small) (omega arith))

@@ -12,15 +12,15 @@ use Rattle.lineage.specs.Lists.{Every}
 use Rattle.lineage.specs.Graph.{Graph, Ends}
 use Rattle.lineage.specs.Labels.{Order, labelling}
 use Rattle.lineage.specs.Index.{Index, indexBy, indexOf, Made}
-use Rattle.lineage.specs.Stored.{Form, Counts, countsOf, countsFit, encode, headerAt, countsIn, formOf, section, mostLabellings}
-use Rattle.lineage.specs.Sound.{startsPass, sound, contentsSound}
+use Rattle.lineage.specs.Stored.{Form, Counts, countsOf, countsFit, encode, headerAt, countsIn, formOf}
+use Rattle.lineage.specs.Sound.{isTree, sound, contentsSound}
 use Rattle.lineage.specs.Calls.{answered, FormsTaken, takes, wordsFor, wordsIn, openAnswer, openMarks, openWork, indexIn}
 use Rattle.laws.proofs.Sound.{made-sound, sound-is-made, made-long}
 use Rattle.laws.proofs.Decides.{sound-decides}
-use Rattle.laws.proofs.Tests.{both}
 use Rattle.numbers.proofs.Written.{Bytes}
 use Rattle.stored_header.proofs.Forms.{form-within}
 use Rattle.stored_header.proofs.Laid.{header-laid}
+use Rattle.stored.proofs.Contents.{contents-starts, contents-sound, contents-tree}
 use Rattle.stored.proofs.Decoded.{counts-are, encode-decode}
 use Rattle.open.specs.Yields.{Yields, HeaderRight}
 use Rattle.open.proofs.Checks.{opened-right, opened-contents, right-passes}
@@ -35,16 +35,19 @@ module _ (T : FormsTaken) (b : List ℕ) (marks work : ℕ) {a : Counts} (e : an
   abbrev F : Form
   F = formOf (headerAt b 0)
 
-  tests : (startsPass (section (F .width) (countsIn b) b 3) (countsIn b .k) (countsIn b .c) ≡ true) × (sound (indexIn b) ≡ true)
-  unfolding contentsSound
-  tests = both _ _ (opened-contents T b marks work e)
+  contents : contentsSound F b ≡ true
+  contents = opened-contents T b marks work e
 
   -- it holds the names, group list, levels, children and labels of some graph under some orders
   pub opened-made : Made (indexIn b)
-  opened-made = sound-is-made (indexIn b) .0 (tests .1)
+  opened-made = sound-is-made (indexIn b) .0 (sound-decides (indexIn b) .1 (contents-sound F b contents))
 
   pub opened-counts : countsOf (indexOf (opened-made .graph) (opened-made .orders)) ≡ countsIn b
-  opened-counts = ap countsOf (opened-made .yields) ∙ counts-are (F .width) b (tests .0)
+  opened-counts = ap countsOf (opened-made .yields) ∙ counts-are F b (contents-starts F b contents)
+
+  -- those of a plain hierarchy, where the form is one of these
+  pub opened-plain : F .tree ≡ true → isTree (indexOf (opened-made .graph) (opened-made .orders) .children) ≡ true
+  opened-plain tree = ap (λ (I : Index). isTree (I .children)) (opened-made .yields) ∙ contents-tree F b contents tree
 
   opened-yields : Bytes b → Yields F b
   opened-yields small =
@@ -55,7 +58,8 @@ module _ (T : FormsTaken) (b : List ℕ) (marks work : ℕ) {a : Counts} (e : an
         ends = M .ends;
         orders = M .orders;
         permuted = M .permuted;
-        bytes = ap (encode F) (M .yields) ∙ encode-decode laid small (tests .0);
+        plain = opened-plain;
+        bytes = ap (encode F) (M .yields) ∙ encode-decode laid small (contents-starts F b contents);
       }
 
 -- What is yielded.
@@ -78,7 +82,7 @@ module _ {F : Form} {b : List ℕ} (Y : Yields F b) where
       → answered (countsIn b) ≡ openAnswer T b marks work
   yields-open W bounds T marks work =
       subst (λ (z : List ℕ). takes T (headerAt z 0) ≡ true → countsIn z .n ≤ marks → wordsIn z ≤ work → answered (countsIn z) ≡ openAnswer T z marks work) (Y .bytes)
-      (encoded-opens (yielded-fits W (Y .graph) (Y .ends) (Y .orders) (Y .permuted) bounds) passes T marks work)
+      (encoded-opens (yielded-fits W (Y .graph) (Y .ends) (Y .orders) (Y .permuted) (Y .plain) bounds) passes (Y .plain) T marks work)
 
 -- Any forms, and bytes with the form that they name.
 module _ (T : FormsTaken) (b : List ℕ) where
@@ -92,7 +96,7 @@ module _ (T : FormsTaken) (b : List ℕ) where
       let L = header-laid b T (right-passes T b R) in
       let short : length (encode own (indexOf (Y .graph) (Y .orders))) < 2 ^ 31 = subst (λ (z : List ℕ). length z < 2 ^ 31) (sym (Y .bytes)) (laid-short L) in
       let S = made-sound (Y .graph) (Y .ends) (Y .orders) (Y .permuted) in
-      let counts = counts-bounded own S (form-within (headerAt b 0)) short (omega (arith, labellings Y, L .most)) in
+      let counts = counts-bounded own S (form-within (headerAt b 0)) (Y .plain) short (omega (arith, labellings Y, L .most)) in
       ap (countsFit own) (sym counts ∙ ap countsIn (Y .bytes)) ∙ R .counts
 
   -- with marks and words that suffice
@@ -130,17 +134,18 @@ pub built-opens : {F : Form} → Wide F → (G : Graph) → Ends G → (orders :
     → G .n ≤ F .vertices
     → length (G .sources) ≤ F .edges
     → 1 ≤ length orders
-    → length orders ≤ mostLabellings
+    → length orders ≤ F .labellings
+    → (F .tree ≡ true → isTree (indexOf G orders .children) ≡ true)
     → (T : FormsTaken) (marks work : ℕ)
     → takes T (F .number) ≡ true
     → G .n ≤ marks
     → wordsFor (F .width) (countsOf (indexOf G orders)) ≤ work
     → openAnswer T (encode F (indexOf G orders)) marks work ≡ answered (countsOf (indexOf G orders))
-built-opens W G ends orders permuted vertices edges least most T marks work taken room words =
+built-opens W G ends orders permuted vertices edges least most plain T marks work taken room words =
     let bounds = bounds-kept W G ends orders permuted vertices edges least most in
     let passes = sound-decides (indexOf G orders) .1 (made-sound G ends orders permuted) in
     let n = made-long (record { graph = G; ends = ends; orders = orders; permuted = permuted; yields = refl }) in
-    sym (fits-opens (yielded-fits W G ends orders permuted bounds) passes T marks work taken (omega arith) words)
+    sym (fits-opens (yielded-fits W G ends orders permuted plain bounds) passes plain T marks work taken (omega arith) words)
 
 -- What opening may answer and leave, by its contract: two results are equal.
 pub record Allowed (T : FormsTaken) (b marks work : List ℕ) (r : Opened) (m w : List ℕ) : Type 0 where

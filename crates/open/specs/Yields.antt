@@ -9,14 +9,16 @@ use Rattle.lineage.specs.Graph.{Graph, Ends}
 use Rattle.lineage.specs.Labels.{Order}
 use Rattle.lineage.specs.Index.{indexOf}
 use Rattle.lineage.specs.Stored.{Form, formOf, headerLength, countsFit, offsetsFit, encode, headerAt, countsIn}
+use Rattle.lineage.specs.Sound.{isTree}
 use Rattle.lineage.specs.Calls.{FormsTaken, takes}
 
--- some edge list, of any length, and some orders yield exactly these bytes of a form
+-- some edge list, of any length, and some orders yield exactly these bytes of a form; at a form of plain hierarchies its groups are one
 pub record Yields (F : Form) (b : List ℕ) : Type 0 where
   pub graph : Graph
   pub ends : Ends graph
   pub orders : List (List ℕ)
   pub permuted : Every (Order (graph .n)) orders
+  pub plain : F .tree ≡ true → isTree (indexOf graph orders .children) ≡ true
   pub bytes : encode F (indexOf graph orders) ≡ b
 
 -- the header is right for its form, which is taken: none of 10, 11 and 12 applies

@@ -1,15 +1,13 @@
 // Opening a stored index: it opens exactly when some edge list and some orders made its bytes.
-ghost use mathlib.Core.Bool.{_&&_};
 ghost use mathlib.Core.Path.{_≡_};
-ghost use Prim.Native.Nat.{_+_, _≤_};
+ghost use Prim.Native.Nat.{_≤_};
 ghost use lib.ListN.{length};
 ghost use Rattle.lineage.specs.Lists.{cleared};
-ghost use Rattle.lineage.specs.Numbers.{numbers};
-ghost use Rattle.lineage.specs.Sound.{startsPass, sound, contentsSound};
+ghost use Rattle.lineage.specs.Stored.{headerAt, formOf};
+ghost use Rattle.lineage.specs.Sound.{contentsSound};
 ghost use Rattle.lineage.specs.Calls.{formsTaken, host, ordinary, openAnswer, openMarks, openWork};
 ghost use Rattle.stored_header.specs.Header.{Laid};
-ghost use Rattle.stored.specs.Sections.{indexFrom};
-ghost use Rattle.open.specs.Parts.{Parts};
+ghost use Rattle.open.specs.Parts.{Parts, partsPass};
 ghost use Rattle.open.specs.Opened.{openedOf};
 use numbers::clear_marks;
 use numbers::clear_words;
@@ -26,7 +24,7 @@ pub enum Opened {
     Refused { number: u32, extra: u32 },
 }
 
-// Whether six sections hold an index that some edge list and some orders yield. Marks below n are 0 afterwards.
+// Whether six sections hold an index that some edge list and some orders yield, and where labels are in pairs one of a plain hierarchy. Marks below n are 0 afterwards.
 fn parts_sound(
     names: &[u8],
     groups: &[u8],
@@ -36,30 +34,31 @@ fn parts_sound(
     labels: &[u8],
     marks: &mut [u8],
     w: usize,
+    z: usize,
     n: usize,
     k: usize,
     c: usize,
     d: usize,
 ) -> bool
-    requires { ⌜ Parts w n k c d (now names) (now groups) (now levels) (now starts) (now children) (now labels) ⌝ }
+    requires { ⌜ Parts w z n k c d (now names) (now groups) (now levels) (now starts) (now children) (now labels) ⌝ }
     requires { ⌜ n ≤ length (now marks) ⌝ }
-    ensures { λ r. ⌜ r ≡ (startsPass (numbers w (now (starts .entry)) (k + 1)) k c
-        && sound (indexFrom w n k c d (now (names .entry)) (now (groups .entry)) (now (levels .entry)) (now (starts .entry)) (now (children .entry))
-        (now (labels .entry)))) ⌝ }
+    ensures { λ r. ⌜ r ≡ partsPass w z n k c d (now (names .entry)) (now (groups .entry)) (now (levels .entry)) (now (starts .entry)) (now (children .entry))
+        (now (labels .entry)) ⌝ }
     ensures { λ _. ⌜ now (marks .exit) ≡ cleared n (now (marks .entry)) ⌝ }
 {
     if !groups_pass(names, groups, levels, starts, children, w, n, k, c) {
         clear_marks(marks, n);
         return false;
     }
-    labels_sound(starts, children, labels, marks, w, n, k, c, d)
+    labels_sound(starts, children, labels, marks, w, z, n, k, c, d)
 }
 
-// Whether the contents of bytes whose header passes are sound: whether some edge list and some orders yield exactly these bytes. Marks below n are 0 afterwards.
+// Whether the contents of bytes whose header passes are sound: whether some edge list and some orders, as its form takes them, yield exactly these bytes. Marks below n are
+// 0 afterwards.
 pub fn contents_sound(index: &[u8], l: Layout, marks: &mut [u8]) -> bool
     requires { ⌜ Laid (now index) l ⌝ }
     requires { ⌜ l .n ≤ length (now marks) ⌝ }
-    ensures { λ r. ⌜ r ≡ contentsSound (l .width) (now (index .entry)) ⌝ }
+    ensures { λ r. ⌜ r ≡ contentsSound (formOf (headerAt (now (index .entry)) 0)) (now (index .entry)) ⌝ }
     ensures { λ _. ⌜ now (marks .exit) ≡ cleared (l .n) (now (marks .entry)) ⌝ }
 {
     parts_sound(
@@ -71,6 +70,7 @@ pub fn contents_sound(index: &[u8], l: Layout, marks: &mut [u8]) -> bool
         stored::parts::labels(index, l),
         marks,
         l.width,
+        l.stride,
         l.n,
         l.k,
         l.c,

@@ -2,12 +2,13 @@
 use mathlib.Core.Bool.{Bool, true, _&&_}
 use mathlib.Core.Path.{_≡_, refl, sym, ap, ap₂, _∙_}
 use mathlib.Core.List.{List}
-use Prim.Native.Nat.{ℕ, _+_, _*_, _≤_, _<_}
+use Prim.Native.Nat.{ℕ, _+_, _-_, _*_, _≤_, _<_}
 use native.Mathlib.Omega.{arith}
+use native.Mathlib.Nat.{mul-le-mul}
 use lib.Dec.{eqb}
 use lib.ListN.{length, getD, set}
 use Rattle.lineage.specs.Lists.{allBelow, cleared}
-use Rattle.lineage.specs.Numbers.{Width, numAt, numbers}
+use Rattle.lineage.specs.Numbers.{numAt, numbers}
 use Rattle.lineage.specs.Index.{Index}
 use Rattle.lineage.specs.Labels.{Labelling}
 use Rattle.lineage.specs.Question.{placeIn}
@@ -18,17 +19,18 @@ use Rattle.laws.specs.Sound.{SoundLabelling, SoundGroups, Sound}
 use Rattle.laws.proofs.Tests.{and-left, and-right}
 use Rattle.laws.proofs.Grouped.{name-in, group-name}
 use Rattle.laws.proofs.Lists.{table-at}
-use Rattle.numbers.specs.Bounds.{entryBound}
+use Rattle.numbers.specs.Bounds.{vertexBound, entryBound}
 use Rattle.numbers.specs.Regions.{Part}
-use Rattle.numbers.proofs.Numbers.{room, numbers-long, numbers-at}
+use Rattle.numbers.proofs.Numbers.{numbers-long, numbers-at}
 use Rattle.stored_header.specs.declared.Layout.{Layout}
-use Rattle.stored_header.proofs.Laid.{width-is, n-is, k-is, d-is}
-use Rattle.stored.specs.Sections.{Six, childrenIn, labellingIn, triplesOf, placesOf, labelsIn, indexFrom, indexAt}
+use Rattle.stored_header.proofs.Laid.{n-is, k-is, d-is}
+use Rattle.stored.specs.Sections.{Six, childrenIn, labellingIn, tuplesOf, placesOf, labelsIn, indexFrom, indexAt}
 use Rattle.stored.proofs.Sections.{children-long, e-at, labels-long}
 use Rattle.stored.specs.Rows.{Holds}
 use Rattle.sound_places.specs.Lent.{SoundBytes, Lent}
 use Rattle.stored.proofs.Contents.{names-many, children-many, labels-many, contents-sound, index-at}
 use Rattle.sound_places.proofs.Lent.{lent}
+use Rattle.sound_ranks.specs.Fit.{Tuples}
 use Rattle.reach_sweep.specs.Fit.{Spots, Ranked}
 use Rattle.reach.specs.Fit.{Names}
 use Rattle.reach_sweep.specs.Sweep.{swept}
@@ -51,7 +53,7 @@ rows-tested I h =
 -- the index that the bytes hold is sound, and as long as the layout's counts
 module _ {b : List ℕ} {l : Layout} (O : SoundBytes b l) where
   pub index-sound : Sound (indexIn b)
-  index-sound = contents-sound (formOf (headerAt b 0) .width) b (rw (width-is (O .laid)) at (O .contents))
+  index-sound = contents-sound (formOf (headerAt b 0)) b (O .contents)
 
   pub labels-some : 0 < length (indexIn b .labels)
   labels-some = omega (arith, labels-many b, d-is (O .laid), O .laid .least)
@@ -79,6 +81,9 @@ module _
   where
     abbrev w : ℕ
     w = l .width
+
+    abbrev z : ℕ
+    z = l .stride
 
     abbrev n : ℕ
     n = l .n
@@ -144,18 +149,18 @@ module _
     }
 
     -- the first labelling is what its two stretches hold
-    first-is : firstLabels (labelsIn w labels k d) ≡ labellingIn w (triplesOf w labels k 0) (placesOf w labels k 0) k
+    first-is : firstLabels (labelsIn w z labels k d) ≡ labellingIn w z (tuplesOf w z labels k 0) (placesOf w z labels k 0) k
     unfolding labelsIn
-    first-is = table-at (λ j. labellingIn w (triplesOf w labels k j) (placesOf w labels k j) k) d 0 _ (O .laid .least)
+    first-is = table-at (λ j. labellingIn w z (tuplesOf w z labels k j) (placesOf w z labels k j) k) d 0 _ (O .laid .least)
 
-    first-labelled : SoundLabelling (childrenIn w starts children k c) (firstLabels (labelsIn w labels k d))
+    first-labelled : SoundLabelling (childrenIn w starts children k c) (firstLabels (labelsIn w z labels k d))
     unfolding indexFrom
-    first-labelled = first-sound (I .children) (I .labels) (sound-index .labelled) (omega (arith, labels-long w labels k d, O .laid .least))
+    first-labelled = first-sound (I .children) (I .labels) (sound-index .labelled) (omega (arith, labels-long w z labels k d, O .laid .least))
 
-    module _ (places : List ℕ) (R : Part labels (w * (0 * (4 * k) + 3 * k)) (w * k) places) where
-      pub places-are : firstLabels (labelsIn w labels k d) .byRank ≡ numbers w places k
+    module _ (places : List ℕ) (R : Part labels (w * (0 * ((z + 1) * k) + z * k)) (w * k) places) where
+      pub places-are : firstLabels (labelsIn w z labels k d) .byRank ≡ numbers w places k
       unfolding labellingIn placesOf
-      places-are = ap (λ (z : Labelling). z .byRank) first-is ∙ ap (λ (s : List ℕ). numbers w s k) (sym (R .is))
+      places-are = ap (λ (x : Labelling). x .byRank) first-is ∙ ap (λ (s : List ℕ). numbers w s k) (sym (R .is))
 
       pub ranked : Ranked w k places
       ranked = record {
@@ -178,19 +183,21 @@ module _
       unfolding sweptIn indexFrom
       swept-is top before e = rw (index-is, places-are) e
 
-    module _ (triples : List ℕ) (T : Part labels (w * (0 * (4 * k))) (w * (3 * k)) triples) {p : ℕ} (low : p < k) where
+    module _ (tuples : List ℕ) (T : Part labels (w * (0 * ((z + 1) * k))) (w * (z * k)) tuples) where
       -- the rank of group p
-      pub rank-read : Width w × (w * (3 * p + 2) + w ≤ length triples)
-      rank-read = (S .width, room w (3 * p + 2) (3 * k) (length triples) (omega arith) (omega (arith, T .long)))
+      pub tuples-held : Tuples w z tuples k
+      tuples-held =
+          let few : k ≤ vertexBound = omega (arith, S .vertices-few, S .groups-few) in
+          record { stride = S .stride; held = holds tuples (z * k) (T .long) (omega (arith, mul-le-mul (S .stride .high) few)) }
 
-      pub rank-is : (u : ℕ) {r : ℕ} → p ≡ placeIn I u → r ≡ numAt w triples (3 * p + 2) → r ≡ rankIn (indexIn b) u
-      unfolding rankIn indexFrom triplesOf
-      rank-is u placed e =
+      pub rank-is : {p : ℕ} → p < k → (u : ℕ) {r : ℕ} → p ≡ placeIn I u → r ≡ numAt w tuples (z * p + (z - 1)) → r ≡ rankIn (indexIn b) u
+      unfolding rankIn indexFrom tuplesOf
+      rank-is {p} low u placed e =
           e
-          ∙ ap (λ (s : List ℕ). numAt w s (3 * p + 2)) (T .is)
-          ∙ sym (e-at w (triplesOf w labels k 0) (placesOf w labels k 0) k p low)
-          ∙ ap (λ (z : Labelling). getD (z .e) p 0) (sym first-is)
-          ∙ ap (λ (x : ℕ). getD (firstLabels (labelsIn w labels k d) .e) x 0) placed
+          ∙ ap (λ (s : List ℕ). numAt w s (z * p + (z - 1))) (T .is)
+          ∙ sym (e-at w z (tuplesOf w z labels k 0) (placesOf w z labels k 0) k p low)
+          ∙ ap (λ (x : Labelling). getD (x .e) p 0) (sym first-is)
+          ∙ ap (λ (x : ℕ). getD (firstLabels (labelsIn w z labels k d) .e) x 0) placed
           ∙ ap (λ (J : Index). rankIn J u) (sym index-is)
 
     -- the names are fit for the list

@@ -8,25 +8,27 @@ ghost use Rattle.sound_places.specs.Lent.{SoundBytes};
 ghost use Rattle.reach.specs.Marks.{rankIn, markIn, sweptIn, reachMarks};
 use numbers::num;
 use sound_places::place_of;
+use sound_ranks::e_of;
 use stored::parts;
 use stored_header::Layout;
 
-// The rank of vertex u's group in the first labelling: e stands last in the triple of its place.
+// The rank of vertex u's group in the first labelling.
 fn rank_of(index: &[u8], l: Layout, u: usize) -> usize
     requires { ⌜ SoundBytes (now index) l ⌝ }
     requires { ⌜ u < l .n ⌝ }
     ensures { λ r. ⌜ r ≡ rankIn (indexIn (now (index .entry))) u ⌝ }
 {
     let w = l.width;
+    let z = l.stride;
     let n = l.n;
     let k = l.k;
     let d = l.d;
     let names = parts::names(index, l);
     let groups = parts::groups(index, l);
     let labels = parts::labels(index, l);
-    let triples = parts::triples(labels, w, k, d, 0);
+    let tuples = parts::tuples(labels, w, z, k, d, 0);
     let p = place_of(groups, w, n, k, num(names, w, u));
-    num(triples, w, 3 * p + 2)
+    e_of(tuples, w, z, k, p)
 }
 
 // Marks the group of vertex u, whatever else is marked.
@@ -54,7 +56,7 @@ pub fn sweep_down(index: &[u8], l: Layout, marks: &mut [u8], top: usize)
     let starts = parts::starts(index, l);
     let children = parts::children(index, l);
     let labels = parts::labels(index, l);
-    let places = parts::by_rank(labels, w, k, d, 0);
+    let places = parts::by_rank(labels, w, l.stride, k, d, 0);
     reach_sweep::sweep(groups, starts, children, places, marks, w, k, c, top);
 }
 

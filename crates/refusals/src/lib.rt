@@ -52,5 +52,17 @@ pub const LIST_SHORT: u32 = 16;
 // The program's text is bad; extra: the line, or 0.
 pub const BAD_TEXT: u32 = 17;
 
+// A Matrix Market text is outside the subset; extra: its first bad line.
+pub const BAD_MATRIX: u32 = 18;
+
 // Conversion: n, k or c is beyond the form's bounds.
 pub const BEYOND_FORM: u32 = 19;
+
+// The exception lists do not belong to the index.
+pub const OTHER_LISTS: u32 = 20;
+
+// There are more than 256 added edges.
+pub const MANY_ADDED: u32 = 21;
+
+// A group of a plain hierarchy is a child of two others; extra: the smallest such name.
+pub const SHARED_CHILD: u32 = 22;

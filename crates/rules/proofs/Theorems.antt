@@ -30,7 +30,7 @@ use Rattle.rules.proofs.Preparing.{in-range}
 -- whatever graph yields the bytes, with counts within their form's bounds, yields the index that they hold
 abbrev pub yields-made : {F : Form} {b : List ℕ} → Wide F → (Y : Yields F b) → countsFit F (countsOf (indexOf (Y .graph) (Y .orders))) ≡ true → Made (indexIn b)
 yields-made {F} W Y bounds =
-    let E : Fits F (indexOf (Y .graph) (Y .orders)) = yielded-fits W (Y .graph) (Y .ends) (Y .orders) (Y .permuted) bounds in
+    let E : Fits F (indexOf (Y .graph) (Y .orders)) = yielded-fits W (Y .graph) (Y .ends) (Y .orders) (Y .permuted) (Y .plain) bounds in
     record {
       graph = Y .graph;
       ends = Y .ends;

@@ -2,7 +2,7 @@
 use mathlib.Core.Bool.{true}
 use mathlib.Core.Path.{_≡_}
 use mathlib.Core.List.{List}
-use Prim.Native.Nat.{ℕ, _+_, _*_, _≤_, _<_}
+use Prim.Native.Nat.{ℕ, _+_, _-_, _*_, _≤_, _<_}
 use native.Mathlib.Omega.{arith}
 use lib.Dec.{leb}
 use lib.ListN.{getD}
@@ -34,9 +34,9 @@ module _ (l : Labelling) where
   inner-below : (p : ℕ) → innerPasses l p ≡ true → m p ≤ e p
   inner-below p t = leb-true (m p) (e p) (and-right (leb 1 (m p)) (leb (m p) (e p)) t)
 
-module _ {w k : ℕ} {triples places : List ℕ} (N : Ranked w triples places k) where
+module _ {w z k : ℕ} {tuples places : List ℕ} (N : Ranked w z tuples places k) where
   abbrev l : Labelling
-  l = labellingIn w triples places k
+  l = labellingIn w z tuples places k
 
   ranked : (r : ℕ) → r < k → rankPasses k l r ≡ true
   ranked r h = all-below k (rankPasses k l) r (N .ranks) h
@@ -48,18 +48,18 @@ module _ {w k : ℕ} {triples places : List ℕ} (N : Ranked w triples places k)
   pub place-low : {r p : ℕ} → r < k → p ≡ numAt w places r → p < k
   place-low {r} {p} h i = omega (arith, rank-low k l r (ranked r h), place-was (N .labels) h i)
 
-  pub m-some : {p x : ℕ} → p < k → x ≡ numAt w triples (3 * p + 1) → 1 ≤ x
-  m-some {p} h i = omega (arith, inner-some l p (inner p h), m-was (N .labels .triples-held) places h i)
+  pub m-some : {p x : ℕ} → p < k → x ≡ numAt w tuples (z * p + (z - 2)) → 1 ≤ x
+  m-some {p} h i = omega (arith, inner-some l p (inner p h), m-was (N .labels .tuples-held) places h i)
 
-  pub e-some : {p x : ℕ} → p < k → x ≡ numAt w triples (3 * p + 2) → 1 ≤ x
-  e-some {p} h i = omega (arith, inner-some l p (inner p h), inner-below l p (inner p h), e-was (N .labels .triples-held) places h i)
+  pub e-some : {p x : ℕ} → p < k → x ≡ numAt w tuples (z * p + (z - 1)) → 1 ≤ x
+  e-some {p} h i = omega (arith, inner-some l p (inner p h), inner-below l p (inner p h), e-was (N .labels .tuples-held) places h i)
 
-  pub e-most : {p x : ℕ} → p < k → x ≡ numAt w triples (3 * p + 2) → x ≤ k
+  pub e-most : {p x : ℕ} → p < k → x ≡ numAt w tuples (z * p + (z - 1)) → x ≤ k
   e-most {p} h i =
       omega (
         arith,
-        e-was (N .labels .triples-held) places h i,
-        rank-most k (l .byRank) (λ q. getD (l .e) q 0) (places-long w triples places k) (λ r j. rank-low k l r (ranked r j)) (λ r j. rank-own k l r (ranked r j)) p h,
+        e-was (N .labels .tuples-held) places h i,
+        rank-most k (l .byRank) (λ q. getD (l .e) q 0) (places-long w z tuples places k) (λ r j. rank-low k l r (ranked r j)) (λ r j. rank-own k l r (ranked r j)) p h,
       )
 
   pub goes-left : Left l k

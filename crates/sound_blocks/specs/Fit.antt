@@ -9,7 +9,7 @@ use Rattle.stored.specs.Sections.{labellingIn}
 use Rattle.sound_ranks.specs.Fit.{Labels}
 
 -- a labelling whose ranks and inner intervals have passed their tests
-pub record Ranked (w : ℕ) (triples places : List ℕ) (k : ℕ) : Type 0 where
-  pub labels : Labels w triples places k
-  pub ranks : allBelow k (rankPasses k (labellingIn w triples places k)) ≡ true
-  pub inners : allBelow k (innerPasses (labellingIn w triples places k)) ≡ true
+pub record Ranked (w z : ℕ) (tuples places : List ℕ) (k : ℕ) : Type 0 where
+  pub labels : Labels w z tuples places k
+  pub ranks : allBelow k (rankPasses k (labellingIn w z tuples places k)) ≡ true
+  pub inners : allBelow k (innerPasses (labellingIn w z tuples places k)) ≡ true

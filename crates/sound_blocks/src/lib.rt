@@ -13,10 +13,9 @@ ghost use Rattle.sound_blocks.specs.Tests.{intervalsPass};
 use numbers::count_below;
 use numbers::num;
 use numbers::numbers_from;
-use sound_ranks::label;
+use sound_ranks::e_of;
+use sound_ranks::m_of;
 use sound_ranks::outer_passes;
-use stored::parts::E;
-use stored::parts::M;
 use stored::rows::row_span;
 
 // Whether q is a child of group p: it is looked for in the row, which rises, by halves.
@@ -48,26 +47,27 @@ fn child_in(
 fn block_passes(
     starts: &[u8],
     children: &[u8],
-    triples: &[u8],
+    tuples: &[u8],
     places: &[u8],
     w: usize,
+    z: usize,
     k: usize,
     c: usize,
     p: usize,
 ) -> bool
     requires { ⌜ Places w (now starts) (now children) k c ⌝ }
-    requires { ⌜ Ranked w (now triples) (now places) k ⌝ }
+    requires { ⌜ Ranked w z (now tuples) (now places) k ⌝ }
     requires { ⌜ p < k ⌝ }
-    ensures { λ a. ⌜ a ≡ blockPasses (childrenIn w (now (starts .entry)) (now (children .entry)) k c) (labellingIn w (now (triples .entry)) (now (places .entry)) k) p ⌝ }
+    ensures { λ a. ⌜ a ≡ blockPasses (childrenIn w (now (starts .entry)) (now (children .entry)) k c) (labellingIn w z (now (tuples .entry)) (now (places .entry)) k) p ⌝ }
 {
-    let low = label(triples, w, k, p, M) - 1;
-    let mut rank = label(triples, w, k, p, E) - 1;
+    let low = m_of(tuples, w, z, k, p) - 1;
+    let mut rank = e_of(tuples, w, z, k, p) - 1;
     while low < rank {
         let child = num(places, w, rank - 1);
         if !child_in(starts, children, w, k, c, p, child) {
             return false;
         }
-        rank = label(triples, w, k, child, M) - 1;
+        rank = m_of(tuples, w, z, k, child) - 1;
     }
     rank == low
 }
@@ -76,22 +76,23 @@ fn block_passes(
 pub fn intervals_pass(
     starts: &[u8],
     children: &[u8],
-    triples: &[u8],
+    tuples: &[u8],
     places: &[u8],
     w: usize,
+    z: usize,
     k: usize,
     c: usize,
 ) -> bool
     requires { ⌜ Places w (now starts) (now children) k c ⌝ }
-    requires { ⌜ Ranked w (now triples) (now places) k ⌝ }
-    ensures { λ a. ⌜ a ≡ allBelow k (intervalsPass (childrenIn w (now (starts .entry)) (now (children .entry)) k c) (labellingIn w (now (triples .entry)) (now (places .entry)) k)) ⌝ }
+    requires { ⌜ Ranked w z (now tuples) (now places) k ⌝ }
+    ensures { λ a. ⌜ a ≡ allBelow k (intervalsPass (childrenIn w (now (starts .entry)) (now (children .entry)) k c) (labellingIn w z (now (tuples .entry)) (now (places .entry)) k)) ⌝ }
 {
     let mut p = 0;
     while p < k {
-        if !outer_passes(starts, children, triples, w, k, c, p) {
+        if !outer_passes(starts, children, tuples, w, z, k, c, p) {
             return false;
         }
-        if !block_passes(starts, children, triples, places, w, k, c, p) {
+        if !block_passes(starts, children, tuples, places, w, z, k, c, p) {
             return false;
         }
         p += 1;
@@ -100,10 +101,10 @@ pub fn intervals_pass(
 }
 
 // Whether all ranks are, side by side, the inner intervals of groups whose mark is 0.
-pub fn roots_pass(triples: &[u8], places: &[u8], marks: &[u8], w: usize, k: usize) -> bool
-    requires { ⌜ Ranked w (now triples) (now places) k ⌝ }
+pub fn roots_pass(tuples: &[u8], places: &[u8], marks: &[u8], w: usize, z: usize, k: usize) -> bool
+    requires { ⌜ Ranked w z (now tuples) (now places) k ⌝ }
     requires { ⌜ k ≤ length (now marks) ⌝ }
-    ensures { λ a. ⌜ a ≡ walkEnds (labellingIn w (now (triples .entry)) (now (places .entry)) k) (unmarked (now (marks .entry))) k k 0 ⌝ }
+    ensures { λ a. ⌜ a ≡ walkEnds (labellingIn w z (now (tuples .entry)) (now (places .entry)) k) (unmarked (now (marks .entry))) k k 0 ⌝ }
 {
     let mut rank = k;
     while 0 < rank {
@@ -111,7 +112,7 @@ pub fn roots_pass(triples: &[u8], places: &[u8], marks: &[u8], w: usize, k: usiz
         if marks[root] != 0 {
             return false;
         }
-        rank = label(triples, w, k, root, M) - 1;
+        rank = m_of(tuples, w, z, k, root) - 1;
     }
     true
 }

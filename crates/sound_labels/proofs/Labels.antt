@@ -28,12 +28,12 @@ reorder true false true true b c = refl
 reorder true false true false b c = refl
 reorder true false false o b c = refl
 
-module _ (w k c : ℕ) (starts children triples places : List ℕ) where
+module _ (w z k c : ℕ) (starts children tuples places : List ℕ) where
   abbrev rows : List (List ℕ)
   rows = childrenIn w starts children k c
 
   abbrev l : Labelling
-  l = labellingIn w triples places k
+  l = labellingIn w z tuples places k
 
   abbrev roots : Bool
   roots = walkEnds l (nobodysChild rows) k k 0
@@ -44,7 +44,7 @@ module _ (w k c : ℕ) (starts children triples places : List ℕ) where
       ≡ labelsPass rows l
   unfolding labelsPass
   whole-is =
-      rw (children-long w starts children k c, s-long w triples places k, m-long w triples places k, e-long w triples places k, places-long w triples places k, eq-eqb k k refl)
+      rw (children-long w starts children k c, s-long w z tuples places k, m-long w z tuples places k, e-long w z tuples places k, places-long w z tuples places k, eq-eqb k k refl)
 
   intervals-are : allBelow k (intervalsPass rows l) ≡ ((allBelow k (fallPasses rows l) && allBelow k (outerPasses rows l)) && allBelow k (blockPasses rows l))
   intervals-are =
@@ -52,22 +52,22 @@ module _ (w k c : ℕ) (starts children triples places : List ℕ) where
       ∙ ap (λ (b : Bool). b && allBelow k (blockPasses rows l)) (both-below k (fallPasses rows l) (outerPasses rows l))
 
   pub labels-is :
-      (allBelow k (rankAndInner k (labellingIn w triples places k))
-      && (allBelow k (intervalsPass (childrenIn w starts children k c) (labellingIn w triples places k))
-      && walkEnds (labellingIn w triples places k) (nobodysChild (childrenIn w starts children k c)) k k 0))
-      ≡ labelsPass (childrenIn w starts children k c) (labellingIn w triples places k)
+      (allBelow k (rankAndInner k (labellingIn w z tuples places k))
+      && (allBelow k (intervalsPass (childrenIn w starts children k c) (labellingIn w z tuples places k))
+      && walkEnds (labellingIn w z tuples places k) (nobodysChild (childrenIn w starts children k c)) k k 0))
+      ≡ labelsPass (childrenIn w starts children k c) (labellingIn w z tuples places k)
   labels-is =
-      ap₂ (λ (a b : Bool). a && (b && roots)) (ranks-are k l (places-long w triples places k)) intervals-are
+      ap₂ (λ (a b : Bool). a && (b && roots)) (ranks-are k l (places-long w z tuples places k)) intervals-are
       ∙ reorder (allBelow k (rankPasses k l)) (allBelow k (innerPasses l)) (allBelow k (fallPasses rows l)) (allBelow k (outerPasses rows l)) (allBelow k (blockPasses rows l)) roots
       ∙ whole-is
 
 -- a function answers a to the test of ranks and inner intervals, and its caller has gone past `!a`
-pub ranked-after : {w k : ℕ} {triples places : List ℕ} {a : Bool} → Labels w triples places k
-    → a ≡ allBelow k (rankAndInner k (labellingIn w triples places k))
+pub ranked-after : {w z k : ℕ} {tuples places : List ℕ} {a : Bool} → Labels w z tuples places k
+    → a ≡ allBelow k (rankAndInner k (labellingIn w z tuples places k))
     → not a ≡ false
-    → Ranked w triples places k
-ranked-after {w} {k} {triples} {places} L e t =
-    let R = allBelow k (rankPasses k (labellingIn w triples places k)) in
-    let I = allBelow k (innerPasses (labellingIn w triples places k)) in
-    let passed = told-true (e ∙ ranks-are k (labellingIn w triples places k) (places-long w triples places k)) t in
+    → Ranked w z tuples places k
+ranked-after {w} {z} {k} {tuples} {places} L e t =
+    let R = allBelow k (rankPasses k (labellingIn w z tuples places k)) in
+    let I = allBelow k (innerPasses (labellingIn w z tuples places k)) in
+    let passed = told-true (e ∙ ranks-are k (labellingIn w z tuples places k) (places-long w z tuples places k)) t in
     record { labels = L; ranks = and-left R I passed; inners = and-right R I passed }

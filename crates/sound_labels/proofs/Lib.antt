@@ -1,5 +1,3 @@
--- Laws for the tests of labellings: marks that tell who is nobody's child, and the tests of one and of all put together.
-pub mod Marks
+-- Laws for the tests of labellings: the tests of one and of all put together.
 pub mod Labels
 pub mod Labellings
-pub mod Nobody

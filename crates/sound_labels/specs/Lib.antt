@@ -1,3 +1,2 @@
--- What the test of one labelling among several computes, and what is asked of the stretches that the tests are lent.
-pub mod Fit
+-- What the test of one labelling among several computes.
 pub mod Tests

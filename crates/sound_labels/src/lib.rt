@@ -1,60 +1,47 @@
 // The tests of labellings: with those of the groups they decide whether contents are sound. Each labelling is tested by its ranks, its intervals and its roots, while
-// marks tell who is somebody's child.
+// marks tell who is somebody's child; and a plain hierarchy by who has two parents.
+ghost use mathlib.Core.Bool.{not, _&&_, _||_};
 ghost use mathlib.Core.Path.{_≡_};
 ghost use Prim.Native.Nat.{_≤_, _<_};
+ghost use lib.Dec.{eqb};
 ghost use lib.ListN.{length};
 ghost use Rattle.lineage.specs.Lists.{allOf, cleared};
-ghost use Rattle.lineage.specs.Numbers.{numbers};
-ghost use Rattle.lineage.specs.Sound.{labelsPass};
-ghost use Rattle.numbers.specs.Marks.{markAll};
+ghost use Rattle.lineage.specs.Sound.{isTree, labelsPass};
 ghost use Rattle.stored.specs.Sections.{childrenIn, labellingIn, Labellings, labelsIn};
 ghost use Rattle.stored.specs.Rows.{Places};
 ghost use Rattle.sound_ranks.specs.Fit.{Labels};
 ghost use Rattle.sound_blocks.specs.Marks.{Tells};
 ghost use Rattle.sound_labels.specs.Tests.{labellingPasses};
-ghost use Rattle.sound_labels.specs.Fit.{Within};
 use numbers::clear_marks;
-use numbers::num;
 use sound_blocks::intervals_pass;
 use sound_blocks::roots_pass;
+use sound_parents::parents_pass;
 use sound_ranks::ranks_pass;
-
-// Marks every child: sets the mark of each of the c child entries to 1.
-fn mark_children(children: &[u8], marks: &mut [u8], w: usize, c: usize)
-    requires { ⌜ Within w (now children) c (length (now marks)) ⌝ }
-    ensures { λ _. ⌜ now (marks .exit) ≡ markAll (numbers w (now (children .entry)) c) (now (marks .entry)) ⌝ }
-{
-    let mut j = 0;
-    while j < c {
-        let q = num(children, w, j);
-        marks[q] = 1;
-        j += 1;
-    }
-}
 
 // Whether one labelling is by the rules over the children, marks telling who is nobody's child.
 fn labels_pass(
     starts: &[u8],
     children: &[u8],
-    triples: &[u8],
+    tuples: &[u8],
     places: &[u8],
     marks: &[u8],
     w: usize,
+    z: usize,
     k: usize,
     c: usize,
 ) -> bool
     requires { ⌜ Places w (now starts) (now children) k c ⌝ }
-    requires { ⌜ Labels w (now triples) (now places) k ⌝ }
+    requires { ⌜ Labels w z (now tuples) (now places) k ⌝ }
     requires { ⌜ Tells (childrenIn w (now starts) (now children) k c) (now marks) k ⌝ }
-    ensures { λ a. ⌜ a ≡ labelsPass (childrenIn w (now (starts .entry)) (now (children .entry)) k c) (labellingIn w (now (triples .entry)) (now (places .entry)) k) ⌝ }
+    ensures { λ a. ⌜ a ≡ labelsPass (childrenIn w (now (starts .entry)) (now (children .entry)) k c) (labellingIn w z (now (tuples .entry)) (now (places .entry)) k) ⌝ }
 {
-    if !ranks_pass(triples, places, w, k) {
+    if !ranks_pass(tuples, places, w, z, k) {
         return false;
     }
-    if !intervals_pass(starts, children, triples, places, w, k, c) {
+    if !intervals_pass(starts, children, tuples, places, w, z, k, c) {
         return false;
     }
-    roots_pass(triples, places, marks, w, k)
+    roots_pass(tuples, places, marks, w, z, k)
 }
 
 // Whether labelling j of d is by the rules over the children.
@@ -64,20 +51,21 @@ fn labelling_passes(
     labels: &[u8],
     marks: &[u8],
     w: usize,
+    z: usize,
     k: usize,
     c: usize,
     d: usize,
     j: usize,
 ) -> bool
     requires { ⌜ Places w (now starts) (now children) k c ⌝ }
-    requires { ⌜ Labellings w (now labels) k d ⌝ }
+    requires { ⌜ Labellings w z (now labels) k d ⌝ }
     requires { ⌜ Tells (childrenIn w (now starts) (now children) k c) (now marks) k ⌝ }
     requires { ⌜ j < d ⌝ }
-    ensures { λ a. ⌜ a ≡ labellingPasses w (childrenIn w (now (starts .entry)) (now (children .entry)) k c) (now (labels .entry)) k j ⌝ }
+    ensures { λ a. ⌜ a ≡ labellingPasses w z (childrenIn w (now (starts .entry)) (now (children .entry)) k c) (now (labels .entry)) k j ⌝ }
 {
-    let triples = stored::parts::triples(labels, w, k, d, j);
-    let places = stored::parts::by_rank(labels, w, k, d, j);
-    labels_pass(starts, children, triples, places, marks, w, k, c)
+    let tuples = stored::parts::tuples(labels, w, z, k, d, j);
+    let places = stored::parts::by_rank(labels, w, z, k, d, j);
+    labels_pass(starts, children, tuples, places, marks, w, z, k, c)
 }
 
 // Whether each of d labellings is by the rules over the children.
@@ -87,18 +75,19 @@ fn labellings_pass(
     labels: &[u8],
     marks: &[u8],
     w: usize,
+    z: usize,
     k: usize,
     c: usize,
     d: usize,
 ) -> bool
     requires { ⌜ Places w (now starts) (now children) k c ⌝ }
-    requires { ⌜ Labellings w (now labels) k d ⌝ }
+    requires { ⌜ Labellings w z (now labels) k d ⌝ }
     requires { ⌜ Tells (childrenIn w (now starts) (now children) k c) (now marks) k ⌝ }
-    ensures { λ a. ⌜ a ≡ allOf (labelsPass (childrenIn w (now (starts .entry)) (now (children .entry)) k c)) (labelsIn w (now (labels .entry)) k d) ⌝ }
+    ensures { λ a. ⌜ a ≡ allOf (labelsPass (childrenIn w (now (starts .entry)) (now (children .entry)) k c)) (labelsIn w z (now (labels .entry)) k d) ⌝ }
 {
     let mut j = 0;
     while j < d {
-        if !labelling_passes(starts, children, labels, marks, w, k, c, d, j) {
+        if !labelling_passes(starts, children, labels, marks, w, z, k, c, d, j) {
             return false;
         }
         j += 1;
@@ -106,27 +95,29 @@ fn labellings_pass(
     true
 }
 
-// The same, whatever the marks hold: meanwhile they tell who is somebody's child, and those below n are 0 afterwards.
+// The same, whatever the marks hold; and where labels are in pairs, whether no group is a child of two others. Meanwhile the marks tell who is somebody's child, and those
+// below n are 0 afterwards.
 pub fn labels_sound(
     starts: &[u8],
     children: &[u8],
     labels: &[u8],
     marks: &mut [u8],
     w: usize,
+    z: usize,
     n: usize,
     k: usize,
     c: usize,
     d: usize,
 ) -> bool
     requires { ⌜ Places w (now starts) (now children) k c ⌝ }
-    requires { ⌜ Labellings w (now labels) k d ⌝ }
+    requires { ⌜ Labellings w z (now labels) k d ⌝ }
     requires { ⌜ (k ≤ n) × (n ≤ length (now marks)) ⌝ }
-    ensures { λ a. ⌜ a ≡ allOf (labelsPass (childrenIn w (now (starts .entry)) (now (children .entry)) k c)) (labelsIn w (now (labels .entry)) k d) ⌝ }
+    ensures { λ a. ⌜ a ≡ (allOf (labelsPass (childrenIn w (now (starts .entry)) (now (children .entry)) k c)) (labelsIn w z (now (labels .entry)) k d)
+        && (not (eqb z 2) || isTree (childrenIn w (now (starts .entry)) (now (children .entry)) k c))) ⌝ }
     ensures { λ _. ⌜ now (marks .exit) ≡ cleared n (now (marks .entry)) ⌝ }
 {
+    let single = parents_pass(children, marks, w, z, n, k, c);
+    let passed = labellings_pass(starts, children, labels, marks, w, z, k, c, d);
     clear_marks(marks, n);
-    mark_children(children, marks, w, c);
-    let passed = labellings_pass(starts, children, labels, marks, w, k, c, d);
-    clear_marks(marks, n);
-    passed
+    passed & single
 }

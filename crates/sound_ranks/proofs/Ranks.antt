@@ -3,7 +3,7 @@
 use mathlib.Core.Bool.{Bool, true, false, _&&_, cond}
 use mathlib.Core.Path.{_≡_, refl, sym, _∙_}
 use mathlib.Core.List.{List}
-use Prim.Native.Nat.{ℕ, suc, _+_, _*_, _≤_, _<_}
+use Prim.Native.Nat.{ℕ, suc, _+_, _-_, _*_, _≤_, _<_}
 use native.Mathlib.Omega.{arith}
 use native.Mathlib.Numerals.{add-one}
 use lib.Dec.{eqb, leb, ltb}
@@ -22,13 +22,13 @@ use Rattle.sound_ranks.specs.Fit.{Labels}
 use Rattle.sound_ranks.specs.Tests.{rankAndInner}
 use Rattle.sound_ranks.proofs.Read.{m-was, e-was, place-was}
 
-module _ {w k : ℕ} {triples places : List ℕ} (L : Labels w triples places k) {r p : ℕ} (low : r < k) (read : p ≡ numAt w places r) where
-  pub rank-beyond : k ≤ p → false ≡ rankAndInner k (labellingIn w triples places k) r
+module _ {w z k : ℕ} {tuples places : List ℕ} (L : Labels w z tuples places k) {r p : ℕ} (low : r < k) (read : p ≡ numAt w places r) where
+  pub rank-beyond : k ≤ p → false ≡ rankAndInner k (labellingIn w z tuples places k) r
   rank-beyond h = rw (← (place-was L low read), le-ltb p k h)
 
-  pub rank-is : {m e : ℕ} → p < k → m ≡ numAt w triples (3 * p + 1) → e ≡ numAt w triples (3 * p + 2)
-      → (eqb e (r + 1) && (leb 1 m && leb m e)) ≡ rankAndInner k (labellingIn w triples places k) r
-  rank-is h im ie = rw (add-one r, ← (place-was L low read), lt-ltb p k h, ← (m-was (L .triples-held) places h im), ← (e-was (L .triples-held) places h ie))
+  pub rank-is : {m e : ℕ} → p < k → m ≡ numAt w tuples (z * p + (z - 2)) → e ≡ numAt w tuples (z * p + (z - 1))
+      → (eqb e (r + 1) && (leb 1 m && leb m e)) ≡ rankAndInner k (labellingIn w z tuples places k) r
+  rank-is h im ie = rw (add-one r, ← (place-was L low read), lt-ltb p k h, ← (m-was (L .tuples-held) places h im), ← (e-was (L .tuples-held) places h ie))
 
 module _ (k : ℕ) (l : Labelling) where
   abbrev at : ℕ → ℕ

@@ -8,9 +8,9 @@ use Rattle.lineage.specs.Labels.{Labelling}
 use Rattle.lineage.specs.Sound.{rankPasses, fallPasses, outerPasses, innerPasses}
 use Rattle.stored.specs.Sections.{labellingIn}
 
--- a labelling of which only the triples are told: the tests of s, m and e look at nothing else
-abbrev pub triplesAlone : ℕ → List ℕ → ℕ → Labelling
-triplesAlone w triples k = labellingIn w triples [] k
+-- a labelling of which only the numbers by place are told: the tests of s, m and e look at nothing else
+abbrev pub tuplesAlone : ℕ → ℕ → List ℕ → ℕ → Labelling
+tuplesAlone w z tuples k = labellingIn w z tuples [] k
 
 -- e falls from p to child i of its row
 abbrev pub fallsTo : List (List ℕ) → Labelling → ℕ → ℕ → Bool

@@ -20,49 +20,53 @@ use Rattle.laws.proofs.Starts.{pass-laid, rows-joined, starts-again}
 use Rattle.numbers.proofs.Numbers.{numbers-long, numbers-part}
 use Rattle.numbers.proofs.Written.{Bytes, bytes-part, written-numbers}
 use Rattle.stored_header.specs.declared.Layout.{Layout}
-use Rattle.stored_header.specs.Header.{layoutIn, Laid}
+use Rattle.stored_header.specs.Header.{Stride, layoutIn, Laid}
+use Rattle.stored_header.proofs.Forms.{form-within}
 use Rattle.stored.proofs.LabelNumbers.{labels-written}
 use Rattle.stored.proofs.Offsets.{cut, cut-joined, offsets-within}
 
--- The index that bytes hold at a width has the sections that are read, and their counts, where the child starts pass.
-module _ (w : ℕ) (b : List ℕ) where
+-- The index that bytes of a form hold has the sections that are read, and their counts, where the child starts pass.
+module _ (G : Form) (b : List ℕ) where
+  abbrev at : ℕ → List ℕ
+  at i = section (G .width) (G .byPlace) (countsIn b) b i
+
   abbrev counts : Counts
   counts = countsIn b
 
   abbrev pub sectionsIn : List (List ℕ)
-  sectionsIn = section w counts b 0 ∷ section w counts b 1 ∷ section w counts b 2 ∷ section w counts b 3 ∷ section w counts b 4 ∷ section w counts b 5 ∷ []
+  sectionsIn = at 0 ∷ at 1 ∷ at 2 ∷ at 3 ∷ at 4 ∷ at 5 ∷ []
 
-  pub section-long : (i : ℕ) → length (section w counts b i) ≡ getD (sizes (counts .n) (counts .k) (counts .c) (counts .d)) i 0
+  pub section-long : (i : ℕ) → length (at i) ≡ getD (sizes (G .byPlace) (counts .n) (counts .k) (counts .c) (counts .d)) i 0
   unfolding section
-  section-long i = numbers-long w (stretch w counts b i) (getD (sizes (counts .n) (counts .k) (counts .c) (counts .d)) i 0)
+  section-long i = numbers-long (G .width) (stretch (G .width) (G .byPlace) counts b i) (getD (sizes (G .byPlace) (counts .n) (counts .k) (counts .c) (counts .d)) i 0)
 
-  module _ (starts : startsPass (section w counts b 3) (counts .k) (counts .c) ≡ true) where
-    laid : LaidRows (section w counts b 3) (section w counts b 4) (counts .k)
-    laid = pass-laid (section w counts b 3) (counts .k) (counts .c) starts (section w counts b 4) (section-long 4)
+  module _ (starts : startsPass (at 3) (counts .k) (counts .c) ≡ true) where
+    laid : LaidRows (at 3) (at 4) (counts .k)
+    laid = pass-laid (at 3) (counts .k) (counts .c) starts (at 4) (section-long 4)
 
-    starts-are : startsFrom 0 (decode w b .children) ≡ section w counts b 3
+    starts-are : startsFrom 0 (decode G b .children) ≡ at 3
     unfolding decode
     starts-are = starts-again laid (omega (arith, section-long 3))
 
-    children-are : joined (decode w b .children) ≡ section w counts b 4
+    children-are : joined (decode G b .children) ≡ at 4
     unfolding decode
     children-are = rows-joined laid
 
-    labels-are : joined (map (labelNumbers (length (decode w b .groups))) (decode w b .labels)) ≡ section w counts b 5
+    labels-are : Stride (G .byPlace) → joined (map (labelNumbers (G .byPlace) (length (decode G b .groups))) (decode G b .labels)) ≡ at 5
     unfolding decode
-    labels-are =
-        ap (λ (k : ℕ). joined (map (labelNumbers k) (decode w b .labels))) (section-long 1)
-        ∙ labels-written (counts .k) (counts .d) (section w counts b 5) (section-long 5)
+    labels-are Z =
+        ap (λ (k : ℕ). joined (map (labelNumbers (G .byPlace) k) (decode G b .labels))) (section-long 1)
+        ∙ labels-written Z (counts .k) (counts .d) (at 5) (section-long 5)
 
-    pub sections-are : sections (decode w b) ≡ sectionsIn
+    pub sections-are : Stride (G .byPlace) → sections (G .byPlace) (decode G b) ≡ sectionsIn
     unfolding decode
-    sections-are = rw (starts-are, children-are, labels-are)
+    sections-are Z = rw (starts-are, children-are, labels-are Z)
 
-    pub counts-are : countsOf (decode w b) ≡ counts
+    pub counts-are : countsOf (decode G b) ≡ counts
     unfolding decode
     counts-are =
-        let c : length (joined (decode w b .children)) ≡ counts .c = ap length children-are ∙ section-long 4 in
-        let d : length (decode w b .labels) ≡ counts .d = table-long (labellingAt (counts .k) (section w counts b 5)) (counts .d) in
+        let c : length (joined (decode G b .children)) ≡ counts .c = ap length children-are ∙ section-long 4 in
+        let d : length (decode G b .labels) ≡ counts .d = table-long (labellingAt (G .byPlace) (counts .k) (at 5)) (counts .d) in
         rw (section-long 0, section-long 1, c, d)
 
 -- Bytes of a layout: header and sections, written, are the bytes.
@@ -73,6 +77,9 @@ module _ {b : List ℕ} {l : Layout} (L : Laid b l) (small : Bytes b) where
   abbrev w : ℕ
   w = F .width
 
+  abbrev z : ℕ
+  z = F .byPlace
+
   abbrev a : Counts
   a = countsIn b
 
@@ -80,19 +87,19 @@ module _ {b : List ℕ} {l : Layout} (L : Laid b l) (small : Bytes b) where
   M = subst (Laid b) (L .is) L
 
   -- the numbers of a section, written, are its stretch
-  stretch-long : (i : ℕ) → i < 6 → length (stretch w a b i) ≡ w * getD (sizes (a .n) (a .k) (a .c) (a .d)) i 0
+  stretch-long : (i : ℕ) → i < 6 → length (stretch w z a b i) ≡ w * getD (sizes z (a .n) (a .k) (a .c) (a .d)) i 0
   unfolding stretch
   stretch-long i h =
-      let o : List ℕ = offsets w (a .n) (a .k) (a .c) (a .d) in
-      let s : List ℕ = sizes (a .n) (a .k) (a .c) (a .d) in
+      let o : List ℕ = offsets w z (a .n) (a .k) (a .c) (a .d) in
+      let s : List ℕ = sizes z (a .n) (a .k) (a .c) (a .d) in
       part-length b (getD o i 0) (w * getD s i 0) (omega (arith, offsets-within w b 48 s i h, M .long))
 
-  pub section-written : (i : ℕ) → i < 6 → written w (section w a b i) ≡ stretch w a b i
+  pub section-written : (i : ℕ) → i < 6 → written w (section w z a b i) ≡ stretch w z a b i
   unfolding section stretch
   section-written i h =
-      let o : List ℕ = offsets w (a .n) (a .k) (a .c) (a .d) in
-      let s : List ℕ = sizes (a .n) (a .k) (a .c) (a .d) in
-      written-numbers w (stretch w a b i) (getD s i 0) (bytes-part b (getD o i 0) (w * getD s i 0) small) (stretch-long i h)
+      let o : List ℕ = offsets w z (a .n) (a .k) (a .c) (a .d) in
+      let s : List ℕ = sizes z (a .n) (a .k) (a .c) (a .d) in
+      written-numbers w (stretch w z a b i) (getD s i 0) (bytes-part b (getD o i 0) (w * getD s i 0) small) (stretch-long i h)
 
   -- the header, written, is the first 48 bytes
   header-is : header F a ≡ numbers 4 (part b 0 48) 12
@@ -107,20 +114,20 @@ module _ {b : List ℕ} {l : Layout} (L : Laid b l) (small : Bytes b) where
       ap (written 4) header-is
       ∙ written-numbers 4 (part b 0 48) 12 (bytes-part b 0 48 small) (part-length b 0 48 (omega (arith, M .long)))
 
-  sections-written : map (written w) (sectionsIn w b) ≡ cut w b 48 (sizes (a .n) (a .k) (a .c) (a .d))
+  sections-written : map (written w) (sectionsIn F b) ≡ cut w b 48 (sizes z (a .n) (a .k) (a .c) (a .d))
   unfolding stretch
   sections-written =
       rw (section-written 0 (omega arith), section-written 1 (omega arith), section-written 2 (omega arith), section-written 3 (omega arith), section-written 4 (omega arith), section-written 5 (omega arith))
 
-  pub bytes-written : written 4 (header F a) ++ joined (map (written w) (sectionsIn w b)) ≡ b
+  pub bytes-written : written 4 (header F a) ++ joined (map (written w) (sectionsIn F b)) ≡ b
   bytes-written =
       ap₂ (λ (h : List ℕ) (s : List (List ℕ)). h ++ joined s) header-written sections-written
-      ∙ cut-joined w b 48 (sizes (a .n) (a .k) (a .c) (a .d))
+      ∙ cut-joined w b 48 (sizes z (a .n) (a .k) (a .c) (a .d))
       ∙ take-all (layoutIn b .total) b (omega (arith, M .long))
 
   -- where the child starts pass, the bytes are written again from the index that they hold
-  pub encode-decode : startsPass (section w a b 3) (a .k) (a .c) ≡ true → encode F (indexIn b) ≡ b
+  pub encode-decode : startsPass (section w z a b 3) (a .k) (a .c) ≡ true → encode F (indexIn b) ≡ b
   unfolding encode
   encode-decode starts =
-      ap₂ (λ (z : Counts) (s : List (List ℕ)). written 4 (header F z) ++ joined (map (written w) s)) (counts-are w b starts) (sections-are w b starts)
+      ap₂ (λ (x : Counts) (s : List (List ℕ)). written 4 (header F x) ++ joined (map (written w) s)) (counts-are F b starts) (sections-are F b starts (form-within (headerAt b 0) .stride))
       ∙ bytes-written

@@ -107,11 +107,15 @@ module _ (w : ℕ) (b : List ℕ) where
   offsets-within at (size ∷ sizes) (suc i) h = offsets-within (at + w * size) sizes i (omega arith)
 
 -- the total length
-pub total-length : (w n k c d : ℕ) → totalLength w n k c d ≡ 48 + w + w * n + 3 * (w * k) + w * c + 4 * (w * (d * k))
-total-length w n k c d = omega arith
+pub total-length : (w z n k c d : ℕ) → totalLength w z n k c d ≡ 48 + w + w * n + 3 * (w * k) + w * c + w * (d * ((z + 1) * k))
+total-length w z n k c d = omega arith
 
-pub total-at-2 : (n k c d : ℕ) → totalLength 2 n k c d ≡ 50 + 2 * n + 6 * k + 2 * c + 8 * (d * k)
-total-at-2 n k c d = omega (arith, total-length 2 n k c d)
+pub total-at-2 : (n k c d : ℕ) → totalLength 2 3 n k c d ≡ 50 + 2 * n + 6 * k + 2 * c + 8 * (d * k)
+total-at-2 n k c d = omega (arith, total-length 2 3 n k c d)
 
-pub total-at-4 : (n k c d : ℕ) → totalLength 4 n k c d ≡ 52 + 4 * n + 12 * k + 4 * c + 16 * (d * k)
-total-at-4 n k c d = omega (arith, total-length 4 n k c d)
+pub total-at-4 : (n k c d : ℕ) → totalLength 4 3 n k c d ≡ 52 + 4 * n + 12 * k + 4 * c + 16 * (d * k)
+total-at-4 n k c d = omega (arith, total-length 4 3 n k c d)
+
+-- that of form 4, of one labelling
+pub total-in-pairs : (n k c : ℕ) → totalLength 4 2 n k c 1 ≡ 52 + 4 * n + 24 * k + 4 * c
+total-in-pairs n k c = omega (arith, total-length 4 2 n k c 1)

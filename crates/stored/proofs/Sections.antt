@@ -5,6 +5,7 @@ use mathlib.Core.Path.{_≡_, refl, sym, ap, _∙_}
 use mathlib.Core.List.{List, [], map}
 use Prim.Native.Nat.{ℕ, suc, _+_, _-_, _*_, _≤_, _<_}
 use native.Mathlib.Omega.{arith}
+use native.Mathlib.Nat.{add-zero}
 use native.Mathlib.Numerals.{add-one}
 use lib.ListN.{length, getD}
 use lib.Seq.{ext-getD}
@@ -12,13 +13,14 @@ use Rattle.lineage.specs.Lists.{upto, part}
 use Rattle.lineage.specs.Labels.{Labelling}
 use Rattle.lineage.specs.Numbers.{numAt, numbers}
 use Rattle.lineage.specs.Sound.{startsPass}
-use Rattle.lineage.specs.Stored.{Counts, countsIn, stretch, section, rowAt, labellingAt, decode}
+use Rattle.lineage.specs.Stored.{Form, Counts, countsIn, stretch, section, rowAt, labellingAt, decode}
 use Rattle.laws.proofs.Starts.{pass-rises, pass-low}
 use Rattle.laws.proofs.Parts.{part-length, part-at}
 use Rattle.laws.proofs.Lists.{table-long, table-at, table-same}
 use Rattle.numbers.proofs.Numbers.{num-part, numbers-long, numbers-at}
-use Rattle.stored.specs.Sections.{childrenIn, labellingIn, triplesOf, placesOf, labelsIn, indexFrom}
-use Rattle.stored.proofs.Held.{labelling-within}
+use Rattle.stored.specs.Sections.{childrenIn, labellingIn, tuplesOf, placesOf, labelsIn, indexFrom}
+use Rattle.stored_header.specs.Header.{Stride}
+use Rattle.stored.proofs.Held.{labelling-within, number-low}
 
 -- child starts, by what is read of them; where they pass, none is above the next, nor above c
 module _ (w : ℕ) (starts : List ℕ) (k : ℕ) where
@@ -63,43 +65,43 @@ module _ (w : ℕ) (starts children : List ℕ) (k c : ℕ) where
           (sym (part-at (numbers w children c) (numAt w starts p) (numAt w starts (p + 1) - numAt w starts p) i h)
           ∙ numbers-at w children c (numAt w starts p + i) (omega arith))
 
-module _ (w : ℕ) (triples places : List ℕ) (k : ℕ) where
-  pub s-long : length (labellingIn w triples places k .s) ≡ k
+module _ (w z : ℕ) (tuples places : List ℕ) (k : ℕ) where
+  pub s-long : length (labellingIn w z tuples places k .s) ≡ k
   unfolding labellingIn
-  s-long = table-long (λ p. numAt w triples (3 * p)) k
+  s-long = table-long (λ p. numAt w tuples (z * p)) k
 
-  pub m-long : length (labellingIn w triples places k .m) ≡ k
+  pub m-long : length (labellingIn w z tuples places k .m) ≡ k
   unfolding labellingIn
-  m-long = table-long (λ p. numAt w triples (3 * p + 1)) k
+  m-long = table-long (λ p. numAt w tuples (z * p + (z - 2))) k
 
-  pub e-long : length (labellingIn w triples places k .e) ≡ k
+  pub e-long : length (labellingIn w z tuples places k .e) ≡ k
   unfolding labellingIn
-  e-long = table-long (λ p. numAt w triples (3 * p + 2)) k
+  e-long = table-long (λ p. numAt w tuples (z * p + (z - 1))) k
 
-  pub places-long : length (labellingIn w triples places k .byRank) ≡ k
+  pub places-long : length (labellingIn w z tuples places k .byRank) ≡ k
   unfolding labellingIn
   places-long = numbers-long w places k
 
   module _ (p : ℕ) (low : p < k) where
-    pub s-at : getD (labellingIn w triples places k .s) p 0 ≡ numAt w triples (3 * p)
+    pub s-at : getD (labellingIn w z tuples places k .s) p 0 ≡ numAt w tuples (z * p)
     unfolding labellingIn
-    s-at = table-at (λ q. numAt w triples (3 * q)) k p 0 low
+    s-at = table-at (λ q. numAt w tuples (z * q)) k p 0 low
 
-    pub m-at : getD (labellingIn w triples places k .m) p 0 ≡ numAt w triples (3 * p + 1)
+    pub m-at : getD (labellingIn w z tuples places k .m) p 0 ≡ numAt w tuples (z * p + (z - 2))
     unfolding labellingIn
-    m-at = table-at (λ q. numAt w triples (3 * q + 1)) k p 0 low
+    m-at = table-at (λ q. numAt w tuples (z * q + (z - 2))) k p 0 low
 
-    pub e-at : getD (labellingIn w triples places k .e) p 0 ≡ numAt w triples (3 * p + 2)
+    pub e-at : getD (labellingIn w z tuples places k .e) p 0 ≡ numAt w tuples (z * p + (z - 1))
     unfolding labellingIn
-    e-at = table-at (λ q. numAt w triples (3 * q + 2)) k p 0 low
+    e-at = table-at (λ q. numAt w tuples (z * q + (z - 1))) k p 0 low
 
-    pub place-at : getD (labellingIn w triples places k .byRank) p 0 ≡ numAt w places p
+    pub place-at : getD (labellingIn w z tuples places k .byRank) p 0 ≡ numAt w places p
     unfolding labellingIn
     place-at = numbers-at w places k p low
 
-pub labels-long : (w : ℕ) (labels : List ℕ) (k d : ℕ) → length (labelsIn w labels k d) ≡ d
+pub labels-long : (w z : ℕ) (labels : List ℕ) (k d : ℕ) → length (labelsIn w z labels k d) ≡ d
 unfolding labelsIn
-labels-long w labels k d = table-long (λ j. labellingIn w (triplesOf w labels k j) (placesOf w labels k j) k) d
+labels-long w z labels k d = table-long (λ j. labellingIn w z (tuplesOf w z labels k j) (placesOf w z labels k j) k) d
 
 same-labelling :
     {s s' m m' e e' r r' : List ℕ} → s ≡ s' → m ≡ m' → e ≡ e' → r ≡ r'
@@ -107,60 +109,72 @@ same-labelling :
 same-labelling a b c d = cc
 
 -- labelling j of a labels section is what its two stretches hold
-module _ (w : ℕ) (labels : List ℕ) (k d j : ℕ) (low : j < d) where
-  own-at : (i : ℕ) → i < 4 * k → getD (part (numbers w labels (d * (4 * k))) (j * (4 * k)) (4 * k)) i 0 ≡ numAt w labels (j * (4 * k) + i)
+module _ (w : ℕ) {z : ℕ} (Z : Stride z) (labels : List ℕ) (k d j : ℕ) (low : j < d) where
+  abbrev size : ℕ
+  size = (z + 1) * k
+
+  abbrev all : List ℕ
+  all = numbers w labels (d * size)
+
+  own-at : (i : ℕ) → i < size → getD (part all (j * size) size) i 0 ≡ numAt w labels (j * size + i)
   own-at i h =
-      sym (part-at (numbers w labels (d * (4 * k))) (j * (4 * k)) (4 * k) i h)
-      ∙ numbers-at w labels (d * (4 * k)) (j * (4 * k) + i) (omega (arith, labelling-within k d j low))
+      sym (part-at all (j * size) size i h) ∙ numbers-at w labels (d * size) (j * size + i) (omega (arith, labelling-within size d j low))
 
-  triple-at : (i : ℕ) → i < 3 * k → getD (part (numbers w labels (d * (4 * k))) (j * (4 * k)) (4 * k)) i 0 ≡ numAt w (triplesOf w labels k j) i
-  unfolding triplesOf
-  triple-at i h = own-at i (omega arith) ∙ sym (num-part w labels (j * (4 * k)) (3 * k) i h)
+  number-at : (p i : ℕ) → p < k → i < z → getD (part all (j * size) size) (z * p + i) 0 ≡ numAt w (tuplesOf w z labels k j) (z * p + i)
+  unfolding tuplesOf
+  number-at p i h t =
+      let few : z * p + i < z * k = number-low z k p i h t in
+      own-at (z * p + i) (omega arith) ∙ sym (num-part w labels (j * size) (z * k) (z * p + i) few)
 
-  places-are : part (part (numbers w labels (d * (4 * k))) (j * (4 * k)) (4 * k)) (3 * k) k ≡ numbers w (placesOf w labels k j) k
+  first-at : (p : ℕ) → p < k → getD (part all (j * size) size) (z * p) 0 ≡ numAt w (tuplesOf w z labels k j) (z * p)
+  first-at p h = rw add-zero at (number-at p 0 h (omega (arith, Z .low)))
+
+  places-are : part (part all (j * size) size) (z * k) k ≡ numbers w (placesOf w z labels k j) k
   unfolding placesOf
   places-are =
-      ext-getD 0 _ _ (own-long ∙ sym (numbers-long w (part labels (w * (j * (4 * k) + 3 * k)) (w * k)) k))
+      ext-getD 0 _ _ (own-long ∙ sym (numbers-long w (part labels (w * (j * size + z * k)) (w * k)) k))
       (λ i h. let b : i < k = rw own-long at h in
-      sym (part-at (part (numbers w labels (d * (4 * k))) (j * (4 * k)) (4 * k)) (3 * k) k i b)
-      ∙ own-at (3 * k + i) (omega arith)
+      sym (part-at (part all (j * size) size) (z * k) k i b)
+      ∙ own-at (z * k + i) (omega arith)
       ∙ moved i
-      ∙ sym (num-part w labels (j * (4 * k) + 3 * k) k i b)
-      ∙ sym (numbers-at w (part labels (w * (j * (4 * k) + 3 * k)) (w * k)) k i b))
+      ∙ sym (num-part w labels (j * size + z * k) k i b)
+      ∙ sym (numbers-at w (part labels (w * (j * size + z * k)) (w * k)) k i b))
     where
-      own-long : length (part (part (numbers w labels (d * (4 * k))) (j * (4 * k)) (4 * k)) (3 * k) k) ≡ k
+      own-long : length (part (part all (j * size) size) (z * k) k) ≡ k
       own-long =
-          part-length (part (numbers w labels (d * (4 * k))) (j * (4 * k)) (4 * k)) (3 * k) k
-          (omega (arith, part-length (numbers w labels (d * (4 * k))) (j * (4 * k)) (4 * k) (omega (arith, labelling-within k d j low, numbers-long w labels (d * (4 * k))))))
+          part-length (part all (j * size) size) (z * k) k
+          (omega (arith, part-length all (j * size) size (omega (arith, labelling-within size d j low, numbers-long w labels (d * size)))))
 
-      moved : (i : ℕ) → numAt w labels (j * (4 * k) + (3 * k + i)) ≡ numAt w labels (j * (4 * k) + 3 * k + i)
+      moved : (i : ℕ) → numAt w labels (j * size + (z * k + i)) ≡ numAt w labels (j * size + z * k + i)
       moved i = ap (numAt w labels) (omega arith)
 
-  pub labelling-is : labellingAt k (numbers w labels (d * (4 * k))) j ≡ labellingIn w (triplesOf w labels k j) (placesOf w labels k j) k
+  pub labelling-is : labellingAt z k (numbers w labels (d * ((z + 1) * k))) j ≡ labellingIn w z (tuplesOf w z labels k j) (placesOf w z labels k j) k
   unfolding labellingAt labellingIn
   labelling-is =
       same-labelling
-      (table-same (λ p. getD own (3 * p) 0) (λ p. numAt w triples (3 * p)) k (λ p h. triple-at (3 * p) (omega arith)))
-      (table-same (λ p. getD own (3 * p + 1) 0) (λ p. numAt w triples (3 * p + 1)) k (λ p h. triple-at (3 * p + 1) (omega arith)))
-      (table-same (λ p. getD own (3 * p + 2) 0) (λ p. numAt w triples (3 * p + 2)) k (λ p h. triple-at (3 * p + 2) (omega arith)))
+      (table-same (λ p. getD own (z * p) 0) (λ p. numAt w tuples (z * p)) k first-at)
+      (table-same (λ p. getD own (z * p + (z - 2)) 0) (λ p. numAt w tuples (z * p + (z - 2))) k (λ p h. number-at p (z - 2) h (omega (arith, Z .low))))
+      (table-same (λ p. getD own (z * p + (z - 1)) 0) (λ p. numAt w tuples (z * p + (z - 1))) k (λ p h. number-at p (z - 1) h (omega (arith, Z .low))))
       places-are
     where
       own : List ℕ
-      own = part (numbers w labels (d * (4 * k))) (j * (4 * k)) (4 * k)
+      own = part all (j * size) size
 
-      triples : List ℕ
-      triples = triplesOf w labels k j
+      tuples : List ℕ
+      tuples = tuplesOf w z labels k j
 
-pub labels-are : (w : ℕ) (labels : List ℕ) (k d : ℕ) → map (labellingAt k (numbers w labels (d * (4 * k)))) (upto d) ≡ labelsIn w labels k d
+pub labels-are : (w : ℕ) {z : ℕ} → Stride z → (labels : List ℕ) (k d : ℕ)
+    → map (labellingAt z k (numbers w labels (d * ((z + 1) * k)))) (upto d) ≡ labelsIn w z labels k d
 unfolding labelsIn
-labels-are w labels k d =
-    table-same (labellingAt k (numbers w labels (d * (4 * k)))) (λ j. labellingIn w (triplesOf w labels k j) (placesOf w labels k j) k) d
-    (λ j h. labelling-is w labels k d j h)
+labels-are w {z} Z labels k d =
+    table-same (labellingAt z k (numbers w labels (d * ((z + 1) * k)))) (λ j. labellingIn w z (tuplesOf w z labels k j) (placesOf w z labels k j) k) d
+    (λ j h. labelling-is w Z labels k d j h)
 
 -- what `decode` reads of an image is what its six stretches hold
 pub decode-is :
-    (w : ℕ) (b : List ℕ)
+    (F : Form) → Stride (F .byPlace) → (b : List ℕ)
     → (let a : Counts = countsIn b in
-    decode w b ≡ indexFrom w (a .n) (a .k) (a .c) (a .d) (stretch w a b 0) (stretch w a b 1) (stretch w a b 2) (stretch w a b 3) (stretch w a b 4) (stretch w a b 5))
+    let at : ℕ → List ℕ = stretch (F .width) (F .byPlace) a b in
+    decode F b ≡ indexFrom (F .width) (F .byPlace) (a .n) (a .k) (a .c) (a .d) (at 0) (at 1) (at 2) (at 3) (at 4) (at 5))
 unfolding decode indexFrom section childrenIn
-decode-is w b = rw (labels-are w (stretch w (countsIn b) b 5) (countsIn b .k) (countsIn b .d))
+decode-is F Z b = rw (labels-are (F .width) Z (stretch (F .width) (F .byPlace) (countsIn b) b 5) (countsIn b .k) (countsIn b .d))

@@ -15,7 +15,7 @@ use Rattle.stored.proofs.Offsets.{offsets-next, offsets-within}
 
 -- the numbers in section i of a layout
 abbrev sizeIn : Layout → ℕ → ℕ
-sizeIn l i = getD (sizes (l .n) (l .k) (l .c) (l .d)) i 0
+sizeIn l i = getD (sizes (l .stride) (l .n) (l .k) (l .c) (l .d)) i 0
 
 -- where section i starts
 abbrev startOf : Layout → ℕ → ℕ
@@ -31,7 +31,7 @@ section-at : (b : List ℕ) (i : ℕ) → i < 6 → length b ≡ layoutIn b .tot
 unfolding stretch part
 section-at b i h total =
     let l : Layout = layoutIn b in
-    let all : List ℕ = sizes (l .n) (l .k) (l .c) (l .d) in
+    let all : List ℕ = sizes (l .stride) (l .n) (l .k) (l .c) (l .d) in
     let next : startOf l (i + 1) ≡ startOf l i + l .width * sizeIn l i = rw (add-one i) (offsets-next (l .width) b 48 all i h) in
     let within : startOf l (i + 1) ≤ length b = omega (arith, next, offsets-within (l .width) b 48 all i h) in
     let size : startOf l (i + 1) - startOf l i ≡ l .width * sizeIn l i = omega arith in

@@ -12,11 +12,12 @@ use Rattle.lineage.specs.Stored.{sizes, countsIn, stretch, rowAt, mostLabelling
 use Rattle.numbers.specs.Bounds.{vertexBound}
 use Rattle.numbers.specs.Regions.{Part}
 use Rattle.stored_header.specs.declared.Layout.{Layout}
+use Rattle.stored_header.specs.Header.{Stride}
 
 -- r is section i of the bytes, whole
 pub record Section (b : List ℕ) (l : Layout) (i : ℕ) (r : List ℕ) : Type 0 where
-  pub is : r ≡ stretch (l .width) (countsIn b) b i
-  pub long : length r ≡ l .width * getD (sizes (l .n) (l .k) (l .c) (l .d)) i 0
+  pub is : r ≡ stretch (l .width) (l .stride) (countsIn b) b i
+  pub long : length r ≡ l .width * getD (sizes (l .stride) (l .n) (l .k) (l .c) (l .d)) i 0
 
 -- all six
 pub record Six (b : List ℕ) (l : Layout) (names groups levels starts children labels : List ℕ) : Type 0 where
@@ -37,49 +38,50 @@ unfoldable pub childrenIn : ℕ → List ℕ → List ℕ → ℕ → ℕ → Li
 unfolding numbers rowAt
 childrenIn w starts children k c = map (rowAt (numbers w starts (k + 1)) (numbers w children c)) (upto k)
 
--- one labelling of k groups: triples s, m, e by place, and places by rank
-unfoldable pub labellingIn : ℕ → List ℕ → List ℕ → ℕ → Labelling
+-- one labelling of k groups: z numbers of each by place, triples s, m, e or pairs s, e, and places by rank
+unfoldable pub labellingIn : ℕ → ℕ → List ℕ → List ℕ → ℕ → Labelling
 unfolding numbers
-labellingIn w triples places k = record {
-  s = map (λ p. numAt w triples (3 * p)) (upto k);
-  m = map (λ p. numAt w triples (3 * p + 1)) (upto k);
-  e = map (λ p. numAt w triples (3 * p + 2)) (upto k);
+labellingIn w z tuples places k = record {
+  s = map (λ p. numAt w tuples (z * p)) (upto k);
+  m = map (λ p. numAt w tuples (z * p + (z - 2))) (upto k);
+  e = map (λ p. numAt w tuples (z * p + (z - 1))) (upto k);
   byRank = numbers w places k;
 }
 
 -- labels hold d labellings of k groups, within the bounds of every form
-pub record Labellings (w : ℕ) (labels : List ℕ) (k d : ℕ) : Type 0 where
+pub record Labellings (w z : ℕ) (labels : List ℕ) (k d : ℕ) : Type 0 where
   pub width : Width w
+  pub stride : Stride z
   pub groups-few : k ≤ vertexBound
   pub labellings-few : d ≤ mostLabellings
-  pub long : w * (d * (4 * k)) ≤ length labels
+  pub long : w * (d * ((z + 1) * k)) ≤ length labels
 
--- the triples of labelling j, and its places by rank, as stretches of the labels
-unfoldable pub triplesOf : ℕ → List ℕ → ℕ → ℕ → List ℕ
+-- the numbers by place of labelling j, and its places by rank, as stretches of the labels
+unfoldable pub tuplesOf : ℕ → ℕ → List ℕ → ℕ → ℕ → List ℕ
 unfolding part
-triplesOf w labels k j = part labels (w * (j * (4 * k))) (w * (3 * k))
+tuplesOf w z labels k j = part labels (w * (j * ((z + 1) * k))) (w * (z * k))
 
-unfoldable pub placesOf : ℕ → List ℕ → ℕ → ℕ → List ℕ
+unfoldable pub placesOf : ℕ → ℕ → List ℕ → ℕ → ℕ → List ℕ
 unfolding part
-placesOf w labels k j = part labels (w * (j * (4 * k) + 3 * k)) (w * k)
+placesOf w z labels k j = part labels (w * (j * ((z + 1) * k) + z * k)) (w * k)
 
 -- all d labellings
-unfoldable pub labelsIn : ℕ → List ℕ → ℕ → ℕ → List Labelling
-unfolding labellingIn triplesOf placesOf
-labelsIn w labels k d = map (λ j. labellingIn w (triplesOf w labels k j) (placesOf w labels k j) k) (upto d)
+unfoldable pub labelsIn : ℕ → ℕ → List ℕ → ℕ → ℕ → List Labelling
+unfolding labellingIn tuplesOf placesOf
+labelsIn w z labels k d = map (λ j. labellingIn w z (tuplesOf w z labels k j) (placesOf w z labels k j) k) (upto d)
 
 -- the index that six stretches hold
-unfoldable pub indexFrom : (w n k c d : ℕ) → (names groups levels starts children labels : List ℕ) → Index
+unfoldable pub indexFrom : (w z n k c d : ℕ) → (names groups levels starts children labels : List ℕ) → Index
 unfolding numbers childrenIn labelsIn
-indexFrom w n k c d names groups levels starts children labels = record {
+indexFrom w z n k c d names groups levels starts children labels = record {
   names = numbers w names n;
   groups = numbers w groups k;
   levels = numbers w levels k;
   children = childrenIn w starts children k c;
-  labels = labelsIn w labels k d;
+  labels = labelsIn w z labels k d;
 }
 
--- the same at the width and the counts of a layout
+-- the same at the width, the stride and the counts of a layout
 abbrev pub indexAt : Layout → (names groups levels starts children labels : List ℕ) → Index
 indexAt l names groups levels starts children labels =
-    indexFrom (l .width) (l .n) (l .k) (l .c) (l .d) names groups levels starts children labels
+    indexFrom (l .width) (l .stride) (l .n) (l .k) (l .c) (l .d) names groups levels starts children labels

@@ -8,7 +8,7 @@ ghost use Rattle.lineage.specs.Numbers.{Width, numAt};
 ghost use Rattle.lineage.specs.Stored.{sizes, mostLabellings};
 ghost use Rattle.numbers.specs.Bounds.{vertexBound};
 ghost use Rattle.numbers.specs.Regions.{Part};
-ghost use Rattle.stored_header.specs.Header.{offsetsOf, Laid};
+ghost use Rattle.stored_header.specs.Header.{Stride, offsetsOf, Laid};
 ghost use Rattle.stored.specs.Sections.{Section, ChildrenOf, Labellings};
 
 // Where section i starts; behind the last of them, where the bytes end.
@@ -30,11 +30,12 @@ pub fn offset(l: Layout, i: usize) -> usize
 
 // How many numbers section i has.
 pub fn size(l: Layout, i: usize) -> usize
+    requires { ⌜ Stride (l .stride) ⌝ }
     requires { ⌜ (l .k ≤ vertexBound) × (l .d ≤ mostLabellings) ⌝ }
     requires { ⌜ i < 6 ⌝ }
-    ensures { λ r. ⌜ r ≡ getD (sizes (l .n) (l .k) (l .c) (l .d)) i 0 ⌝ }
+    ensures { λ r. ⌜ r ≡ getD (sizes (l .stride) (l .n) (l .k) (l .c) (l .d)) i 0 ⌝ }
 {
-    let sizes = [l.n, l.k, l.k, l.k + 1, l.c, label_count(l.k, l.d)];
+    let sizes = [l.n, l.k, l.k, l.k + 1, l.c, label_count(l.stride, l.k, l.d)];
     sizes[i]
 }
 
@@ -104,22 +105,22 @@ pub const M: usize = 1;
 
 pub const E: usize = 2;
 
-// The k triples s, m, e of labelling j, by place.
-pub fn triples(labels: &[u8], w: usize, k: usize, d: usize, j: usize) -> &[u8]
-    requires { ⌜ Labellings w (now labels) k d ⌝ }
+// The numbers by place of labelling j: k triples s, m, e, or k pairs s, e.
+pub fn tuples(labels: &[u8], w: usize, z: usize, k: usize, d: usize, j: usize) -> &[u8]
+    requires { ⌜ Labellings w z (now labels) k d ⌝ }
     requires { ⌜ j < d ⌝ }
-    ensures { λ r. ⌜ Part (now (labels .entry)) (w * (j * (4 * k))) (w * (3 * k)) (now r) ⌝ }
+    ensures { λ r. ⌜ Part (now (labels .entry)) (w * (j * ((z + 1) * k))) (w * (z * k)) (now r) ⌝ }
 {
-    numbers::numbers_from(labels, w, label_count(k, j), 3 * k)
+    numbers::numbers_from(labels, w, label_count(z, k, j), z * k)
 }
 
 // The k places by rank of labelling j.
-pub fn by_rank(labels: &[u8], w: usize, k: usize, d: usize, j: usize) -> &[u8]
-    requires { ⌜ Labellings w (now labels) k d ⌝ }
+pub fn by_rank(labels: &[u8], w: usize, z: usize, k: usize, d: usize, j: usize) -> &[u8]
+    requires { ⌜ Labellings w z (now labels) k d ⌝ }
     requires { ⌜ j < d ⌝ }
-    ensures { λ r. ⌜ Part (now (labels .entry)) (w * (j * (4 * k) + 3 * k)) (w * k) (now r) ⌝ }
+    ensures { λ r. ⌜ Part (now (labels .entry)) (w * (j * ((z + 1) * k) + z * k)) (w * k) (now r) ⌝ }
 {
-    numbers::numbers_from(labels, w, label_count(k, j) + 3 * k, k)
+    numbers::numbers_from(labels, w, label_count(z, k, j) + z * k, k)
 }
 
 // One group's children, from child start to next child start: the very bytes of the stored form.

@@ -14,14 +14,14 @@ use Rattle.laws.proofs.Tests.{or-left, or-right}
 use Rattle.stored_header.specs.declared.Row.{Row}
 use Rattle.stored_header.specs.declared.Layout.{Layout}
 use Rattle.laws.specs.Checks.{Pass}
-use Rattle.stored_header.specs.Header.{rowOf, counts, layoutBy, layoutIn, wordsOf, offsetsAgree, headerChecks}
+use Rattle.stored_header.specs.Header.{Stride, rowOf, counts, layoutBy, layoutIn, wordsOf, offsetsAgree, headerChecks}
 use Rattle.laws.proofs.Checks.{stops-outcome}
 
 -- the tests of the counts at a form's row
 pub fit-by : (row : Row) (form n k c d : ℕ)
     → row ≡ rowOf form
-    → (leb n (row .vertices) && (leb k n && (leb c (row .entries) && (leb 1 d && leb d 5)))) ≡ countsFit (formOf form) (counts n k c d)
-fit-by row form n k c d e = ap (λ (r : Row). leb n (r .vertices) && (leb k n && (leb c (r .entries) && (leb 1 d && leb d 5)))) e
+    → (leb n (row .vertices) && (leb k n && (leb c (row .entries) && (leb 1 d && leb d (row .labellings))))) ≡ countsFit (formOf form) (counts n k c d)
+fit-by row form n k c d e = ap (λ (r : Row). leb n (r .vertices) && (leb k n && (leb c (r .entries) && (leb 1 d && leb d (r .labellings))))) e
 
 -- the tests of the offsets one by one
 pub agree-by : (b : List ℕ) (l : Layout) (names groups levels starts children labels total : Bool)
@@ -36,16 +36,17 @@ pub agree-by : (b : List ℕ) (l : Layout) (names groups levels starts children 
 agree-by b l names groups levels starts children labels total e f g h i j k = rw (e, f, g, h, i, j, k, and-true)
 
 -- a layout from the bytes of each section
-pub laid-by : (w n k c d q names groups levels starts children labels : ℕ)
+pub laid-by : (w z n k c d q names groups levels starts children labels : ℕ)
     → names ≡ w * n
     → groups ≡ w * k
     → levels ≡ w * k
     → starts ≡ w * (k + 1)
     → children ≡ w * c
-    → q ≡ d * (4 * k)
+    → q ≡ d * ((z + 1) * k)
     → labels ≡ w * q
     → record {
       width = w;
+      stride = z;
       n = n;
       k = k;
       c = c;
@@ -57,8 +58,8 @@ pub laid-by : (w n k c d q names groups levels starts children labels : ℕ)
       children = 48 + names + groups + levels + starts;
       labels = 48 + names + groups + levels + starts + children;
       total = 48 + names + groups + levels + starts + children + labels;
-    } ≡ layoutBy w (counts n k c d)
-laid-by w n k c d q names groups levels starts children labels e f g h i j m = rw (e, f, g, h, i, m, j)
+    } ≡ layoutBy w z (counts n k c d)
+laid-by w z n k c d q names groups levels starts children labels e f g h i j m = rw (e, f, g, h, i, m, j)
 
 -- a header as code reads it: its form with that form's row, and its counts
 pub record Read (b : List ℕ) (form : ℕ) (row : Row) (n k c d : ℕ) : Type 0 where
@@ -72,6 +73,9 @@ pub record Read (b : List ℕ) (form : ℕ) (row : Row) (n k c d : ℕ) : Type 0
 
 pub width-in : {b : List ℕ} {form : ℕ} {row : Row} {n k c d : ℕ} → Read b form row n k c d → Width (formOf form .width) → Width (row .width)
 width-in R h = subst⁻¹ (λ (r : Row). Width (r .width)) (R .row-is) h
+
+pub stride-in : {b : List ℕ} {form : ℕ} {row : Row} {n k c d : ℕ} → Read b form row n k c d → Stride (formOf form .byPlace) → Stride (row .stride)
+stride-in R h = subst⁻¹ (λ (r : Row). Stride (r .stride)) (R .row-is) h
 
 module _ (T : FormsTaken) (b : List ℕ) (marks words : ℕ) where
   abbrev checks : List Check
@@ -104,12 +108,12 @@ module _ (T : FormsTaken) (b : List ℕ) (marks words : ℕ) where
     pub header-counts : countsFit (formOf form) (counts n k c d) ≡ false → refused 12 0 ≡ outcome checks (layoutIn b)
     header-counts h = sym (stops-outcome (layoutIn b) checks 2 (long, (formed, or-left _ (ap not (fit-in ∙ h)))))
 
-    module _ (fit : countsFit (formOf form) (counts n k c d) ≡ true) {l : Layout} (l-is : l ≡ layoutBy (row .width) (counts n k c d)) where
+    module _ (fit : countsFit (formOf form) (counts n k c d) ≡ true) {l : Layout} (l-is : l ≡ layoutBy (row .width) (row .stride) (counts n k c d)) where
       layout-in : l ≡ layoutIn b
       layout-in =
           l-is
-          ∙ ap (λ (r : Row). layoutBy (r .width) (counts n k c d)) (R .row-is)
-          ∙ ap₂ (λ (f : ℕ) (a : Counts). layoutBy (formOf f .width) a) (R .form-is) counts-in
+          ∙ ap (λ (r : Row). layoutBy (r .width) (r .stride) (counts n k c d)) (R .row-is)
+          ∙ ap₂ (λ (f : ℕ) (a : Counts). layoutBy (formOf f .width) (formOf f .byPlace) a) (R .form-is) counts-in
 
       agree-in : offsetsFit F (countsIn b) b ≡ offsetsAgree b l
       agree-in = sym (ap (offsetsAgree b) layout-in)

@@ -16,12 +16,13 @@ use Rattle.laws.proofs.Tests.{neither, both}
 use Rattle.laws.proofs.Lists.{same-list}
 use Rattle.numbers.specs.Bounds.{vertexBound, entryBound}
 use Rattle.stored_header.specs.declared.Layout.{Layout}
-use Rattle.stored_header.specs.Header.{layoutBy, layoutIn, wordsOf, offsetsIn, offsetsOf, offsetsAgree, headerChecks, Sited, Laid}
+use Rattle.stored_header.specs.Header.{Stride, layoutBy, layoutIn, wordsOf, offsetsIn, offsetsOf, offsetsAgree, headerChecks, Sited, Laid}
 use Rattle.stored_header.proofs.Forms.{Within, form-within}
 
 -- counts that fit a form
 pub record Bounded (F : Form) (a : Counts) : Type 0 where
   pub width : Width (F .width)
+  pub stride : Stride (F .byPlace)
   pub vertices : a .n ≤ vertexBound
   pub groups : a .k ≤ a .n
   pub entries : a .c ≤ entryBound
@@ -38,21 +39,22 @@ fit-bounds form a fit =
     let d = both (leb 1 (a .d)) _ (c .1) in
     record {
       width = W .width;
+      stride = W .stride;
       vertices = omega (arith, leb-true (a .n) (F .vertices) (n .0), W .vertices);
       groups = leb-true (a .k) (a .n) (k .0);
       entries = omega (arith, leb-true (a .c) (F .entries) (c .0), W .entries);
       least = leb-true 1 (a .d) (d .0);
-      most = leb-true (a .d) mostLabellings (d .1);
+      most = omega (arith, leb-true (a .d) (F .labellings) (d .1), W .labellings);
     }
 
 -- the bounds of a layout that such counts give
-pub laid-bounds : {F : Form} {a : Counts} {l : Layout} {w : ℕ} → Bounded F a → l ≡ layoutBy w a
+pub laid-bounds : {F : Form} {a : Counts} {l : Layout} {w z : ℕ} → Bounded F a → l ≡ layoutBy w z a
     → (l .n ≤ vertexBound) × ((l .k ≤ l .n) × (l .c ≤ entryBound))
 laid-bounds B e = subst⁻¹ (λ (l : Layout). (l .n ≤ vertexBound) × ((l .k ≤ l .n) × (l .c ≤ entryBound))) e (B .vertices, (B .groups, B .entries))
 
--- a layout that a width and counts give
-pub sited-by : (l : Layout) (w : ℕ) (a : Counts) → l ≡ layoutBy w a → Sited l
-sited-by l w a e =
+-- a layout that a width, numbers by place and counts give
+pub sited-by : (l : Layout) (w z : ℕ) (a : Counts) → l ≡ layoutBy w z a → Sited l
+sited-by l w z a e =
     subst⁻¹ Sited e (record {
       names-at = refl;
       groups-at = refl;
@@ -81,12 +83,13 @@ module _ (b : List ℕ) where
         is = refl;
         offsets = same-list (offsetsIn b) (offsetsOf (layoutIn b)) (o .0);
         width = B .width;
+        stride = B .stride;
         vertices = B .vertices;
         groups = B .groups;
         entries = B .entries;
         least = B .least;
         most = B .most;
-        sited = sited-by (layoutIn b) (formOf (headerAt b 0) .width) (countsIn b) refl;
+        sited = sited-by (layoutIn b) (formOf (headerAt b 0) .width) (formOf (headerAt b 0) .byPlace) (countsIn b) refl;
         long = eqb-true (length b) (layoutIn b .total) (o .1);
       }
 
@@ -101,6 +104,9 @@ module _ (b : List ℕ) where
 module _ {b : List ℕ} {l : Layout} (L : Laid b l) where
   pub width-is : l .width ≡ formOf (headerAt b 0) .width
   width-is = ap (λ (z : Layout). z .width) (L .is)
+
+  pub stride-is : l .stride ≡ formOf (headerAt b 0) .byPlace
+  stride-is = ap (λ (z : Layout). z .stride) (L .is)
 
   pub n-is : l .n ≡ countsIn b .n
   n-is = ap (λ (z : Layout). z .n) (L .is)

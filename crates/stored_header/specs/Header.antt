@@ -15,6 +15,11 @@ use Rattle.stored_header.specs.declared.Layout.{Layout}
 use Rattle.stored_header.specs.declared.Header.{Header}
 use Rattle.stored_header.specs.declared.Header.the-variants.{Passed, Refused}
 
+-- the numbers of one group by place: s, m and e, or s and e
+pub record Stride (z : ℕ) : Type 0 where
+  pub low : 2 ≤ z
+  pub high : z ≤ 3
+
 -- the row of the form with this number; where there is none, the first form's
 abbrev pub rowOf : ℕ → Row
 rowOf number = record {
@@ -23,18 +28,36 @@ rowOf number = record {
   vertices = formOf number .vertices;
   edges = formOf number .edges;
   entries = formOf number .entries;
+  labellings = formOf number .labellings;
+  stride = formOf number .byPlace;
+  tree = formOf number .tree;
 }
+
+-- the row of a form of 32-bit numbers, which all have the same bounds but for their labellings
+abbrev pub wideRow : ℕ → ℕ → Bool → Row
+wideRow labellings stride tree =
+    record {
+      known = true;
+      width = 4;
+      vertices = 200000;
+      edges = 1000000;
+      entries = 1000000;
+      labellings = labellings;
+      stride = stride;
+      tree = tree;
+    }
 
 -- n, k, c and d together
 abbrev pub counts : ℕ → ℕ → ℕ → ℕ → Counts
 counts n k c d = record { n = n; k = k; c = c; d = d }
 
--- the layout that a width and counts give
-abbrev pub layoutBy : ℕ → Counts → Layout
-layoutBy w a =
-    let o : List ℕ = offsets w (a .n) (a .k) (a .c) (a .d) in
+-- the layout that a width, the numbers by place and counts give
+abbrev pub layoutBy : ℕ → ℕ → Counts → Layout
+layoutBy w z a =
+    let o : List ℕ = offsets w z (a .n) (a .k) (a .c) (a .d) in
     record {
       width = w;
+      stride = z;
       n = a .n;
       k = a .k;
       c = a .c;
@@ -50,7 +73,7 @@ layoutBy w a =
 
 -- the layout of bytes whose header passes
 abbrev pub layoutIn : List ℕ → Layout
-layoutIn b = layoutBy (formOf (headerAt b 0) .width) (countsIn b)
+layoutIn b = layoutBy (formOf (headerAt b 0) .width) (formOf (headerAt b 0) .byPlace) (countsIn b)
 
 -- the offsets and the total that a header gives, and those of a layout
 abbrev pub offsetsIn : List ℕ → List ℕ
@@ -88,7 +111,7 @@ pub record Sited (l : Layout) : Type 0 where
   pub starts-at : l .starts ≡ l .levels + l .width * l .k
   pub children-at : l .children ≡ l .starts + l .width * (l .k + 1)
   pub labels-at : l .labels ≡ l .children + l .width * l .c
-  pub total-at : l .total ≡ l .labels + l .width * (l .d * (4 * l .k))
+  pub total-at : l .total ≡ l .labels + l .width * (l .d * ((l .stride + 1) * l .k))
 
 -- the bytes have this layout, whose counts are within the bounds of every form: what a header that passes gives, and all that the calls above need of it
 pub record Laid (b : List ℕ) (l : Layout) : Type 0 where
@@ -96,6 +119,7 @@ pub record Laid (b : List ℕ) (l : Layout) : Type 0 where
   pub is : l ≡ layoutIn b
   pub offsets : offsetsIn b ≡ offsetsOf l
   pub width : Width (l .width)
+  pub stride : Stride (l .stride)
   pub vertices : l .n ≤ vertexBound
   pub groups : l .k ≤ l .n
   pub entries : l .c ≤ entryBound

@@ -10,7 +10,7 @@ ghost use Rattle.lineage.specs.Stored.{headerAt, formOf, countsFit, mostLabelli
 ghost use Rattle.lineage.specs.Calls.{outcome, formsTaken, takes, formChecks};
 ghost use Rattle.numbers.specs.Bounds.{vertexBound, entryBound};
 ghost use Rattle.numbers.specs.Put.{put};
-ghost use Rattle.stored_header.specs.Header.{rowOf, counts, layoutBy, layoutIn, wordsOf, offsetsAgree, headerOf, headerOutcome};
+ghost use Rattle.stored_header.specs.Header.{Stride, rowOf, wideRow, counts, layoutBy, layoutIn, wordsOf, offsetsAgree, headerOf, headerOutcome};
 use refusals::BAD_HEADER;
 use refusals::BYTES_SHORT;
 use refusals::MARKS_SHORT;
@@ -21,18 +21,24 @@ const HEADER_LENGTH: usize = 48;
 
 pub const MOST_LABELLINGS: usize = 5;
 
-// A row of the table of forms: whether a form has this number, its width and its bounds.
+// A row of the table of forms: whether a form has this number, its width and its bounds, how many numbers a labelling has of each group by place, and whether it
+// is of plain hierarchies.
 pub struct Row {
     pub known: bool,
     pub width: usize,
     pub vertices: usize,
     pub edges: usize,
     pub entries: usize,
+    pub labellings: usize,
+    pub stride: usize,
+    pub tree: bool,
 }
 
-// The numbers n, k, c and d, the width of the sections' numbers, and where each section starts.
+// The numbers n, k, c and d, the width of the sections' numbers, how many of them a labelling has of each group by place, and where each
+// section starts.
 pub struct Layout {
     pub width: usize,
+    pub stride: usize,
     pub n: usize,
     pub k: usize,
     pub c: usize,
@@ -52,9 +58,9 @@ pub enum Header {
     Refused { number: u32, extra: u32 },
 }
 
-// The row that forms 2 and 3 have.
-fn wide_row() -> Row
-    ensures { λ r. ⌜ r ≡ rowOf 2 ⌝ }
+// The row of a form of 32-bit numbers.
+fn wide_row(labellings: usize, stride: usize, tree: bool) -> Row
+    ensures { λ r. ⌜ r ≡ wideRow labellings stride tree ⌝ }
 {
     Row {
         known: true,
@@ -62,6 +68,9 @@ fn wide_row() -> Row
         vertices: 200000,
         edges: 1000000,
         entries: 1000000,
+        labellings,
+        stride,
+        tree,
     }
 }
 
@@ -69,18 +78,20 @@ fn wide_row() -> Row
 pub fn form_row(number: usize) -> Row
     ensures { λ r. ⌜ r ≡ rowOf number ⌝ }
 {
-    if number == 2 {
-        return wide_row();
-    }
-    if number == 3 {
-        return wide_row();
-    }
-    Row {
-        known: 1 == number,
-        width: 2,
-        vertices: 4096,
-        edges: 16384,
-        entries: 16384,
+    match number {
+        2 => wide_row(MOST_LABELLINGS, 3, false),
+        3 => wide_row(MOST_LABELLINGS, 3, false),
+        4 => wide_row(1, 2, true),
+        _ => Row {
+            known: 1 == number,
+            width: 2,
+            vertices: 4096,
+            edges: 16384,
+            entries: 16384,
+            labellings: MOST_LABELLINGS,
+            stride: 3,
+            tree: false,
+        },
     }
 }
 
@@ -97,22 +108,24 @@ fn counts_fit(form: usize, n: usize, k: usize, c: usize, d: usize) -> bool
     ensures { λ r. ⌜ r ≡ countsFit (formOf form) (counts n k c d) ⌝ }
 {
     let row = form_row(form);
-    (n <= row.vertices) & ((k <= n) & ((c <= row.entries) & ((1 <= d) & (d <= MOST_LABELLINGS))))
+    (n <= row.vertices) & ((k <= n) & ((c <= row.entries) & ((1 <= d) & (d <= row.labellings))))
 }
 
-// The numbers of the labels: four for each group and labelling.
-pub fn label_count(k: usize, d: usize) -> usize
+// The numbers of the labels: for each group and labelling z by place and one by rank.
+pub fn label_count(z: usize, k: usize, d: usize) -> usize
+    requires { ⌜ Stride z ⌝ }
     requires { ⌜ (k ≤ vertexBound) × (d ≤ mostLabellings) ⌝ }
-    ensures { λ r. ⌜ (r ≡ d * (4 * k)) × (r ≤ mostLabellings * (4 * vertexBound)) ⌝ }
+    ensures { λ r. ⌜ (r ≡ d * ((z + 1) * k)) × (r ≤ mostLabellings * (4 * vertexBound)) ⌝ }
 {
-    d * (4 * k)
+    d * ((z + 1) * k)
 }
 
 // Sections of these sizes follow the header without gaps.
-pub fn lay_out(width: usize, n: usize, k: usize, c: usize, d: usize) -> Layout
+pub fn lay_out(width: usize, stride: usize, n: usize, k: usize, c: usize, d: usize) -> Layout
     requires { ⌜ Width width ⌝ }
+    requires { ⌜ Stride stride ⌝ }
     requires { ⌜ (n ≤ vertexBound) × ((k ≤ n) × ((c ≤ entryBound) × (d ≤ mostLabellings))) ⌝ }
-    ensures { λ r. ⌜ r ≡ layoutBy width (counts n k c d) ⌝ }
+    ensures { λ r. ⌜ r ≡ layoutBy width stride (counts n k c d) ⌝ }
 {
     let names = HEADER_LENGTH;
     let groups = names + numbers::bytes_of(width, n);
@@ -120,9 +133,10 @@ pub fn lay_out(width: usize, n: usize, k: usize, c: usize, d: usize) -> Layout
     let starts = levels + numbers::bytes_of(width, k);
     let children = starts + numbers::bytes_of(width, k + 1);
     let labels = children + numbers::bytes_of(width, c);
-    let total = labels + numbers::bytes_of(width, label_count(k, d));
+    let total = labels + numbers::bytes_of(width, label_count(stride, k, d));
     Layout {
         width,
+        stride,
         n,
         k,
         c,
@@ -199,7 +213,7 @@ pub fn admit(least: usize, most: usize, index: &[u8], marks: usize, words: usize
             extra: 0,
         };
     }
-    let l = lay_out(row.width, n, k, c, d);
+    let l = lay_out(row.width, row.stride, n, k, c, d);
     if !offsets_fit(index, l) {
         return Header::Refused {
             number: BAD_HEADER,

@@ -188,6 +188,26 @@ pub extern "C" fn trial_convert_down(
 }
 
 #[no_mangle]
+pub extern "C" fn trial_to_hierarchy(
+    index: &[u8],
+    marks: &mut [u8],
+    work: &mut [u32],
+    out: &mut [u8],
+) -> Counted {
+    converted_of(hierarchy::to_hierarchy(index, marks, work, out))
+}
+
+#[no_mangle]
+pub extern "C" fn trial_from_hierarchy(
+    index: &[u8],
+    marks: &mut [u8],
+    work: &mut [u32],
+    out: &mut [u8],
+) -> Counted {
+    converted_of(hierarchy::from_hierarchy(index, marks, work, out))
+}
+
+#[no_mangle]
 pub extern "C" fn trial_open(index: &[u8], marks: &mut [u8], work: &mut [u32]) -> Counts {
     counts_of(open::open(index, marks, work))
 }
@@ -195,6 +215,11 @@ pub extern "C" fn trial_open(index: &[u8], marks: &mut [u8], work: &mut [u32]) -
 #[no_mangle]
 pub extern "C" fn trial_open_turned(index: &[u8], marks: &mut [u8], work: &mut [u32]) -> Counts {
     counts_of(turned::open_turned(index, marks, work))
+}
+
+#[no_mangle]
+pub extern "C" fn trial_open_hierarchy(index: &[u8], marks: &mut [u8], work: &mut [u32]) -> Counts {
+    counts_of(hierarchy::open_hierarchy(index, marks, work))
 }
 
 #[no_mangle]
@@ -217,6 +242,17 @@ pub extern "C" fn trial_ask_turned(
     target: u32,
 ) -> Answer {
     answer_of(turned::ask_turned(index, source, target, marks, work))
+}
+
+#[no_mangle]
+pub extern "C" fn trial_ask_hierarchy(
+    index: &[u8],
+    marks: &mut [u8],
+    work: &mut [u32],
+    source: u32,
+    target: u32,
+) -> Answer {
+    answer_of(hierarchy::ask_hierarchy(index, source, target, marks, work))
 }
 
 #[no_mangle]
@@ -476,16 +512,20 @@ pub extern "C" fn trial_write_matrix(
 }
 
 #[no_mangle]
-pub extern "C" fn trial_build_exceptions(index: &[u8], marks: &mut [u8], out: &mut [u8]) -> Pairs {
+pub extern "C" fn trial_build_exceptions(
+    index: &[u8],
+    marks: &mut [u8],
+    out: &mut [u8],
+) -> Counted {
     match exceptions::build_exceptions(index, marks, out) {
-        Written::Length(count) => Pairs {
+        Written::Length(count) => Counted {
             refusal: 0,
             extra: 0,
             count,
         },
-        Written::Refused { number, extra } => Pairs {
+        Written::Refused { number, extra } => Counted {
             refusal: number,
-            extra: extra as usize,
+            extra,
             count: 0,
         },
     }
@@ -565,6 +605,19 @@ pub extern "C" fn trial_ask_all_exceptions(
             count: 0,
         },
     }
+}
+
+#[no_mangle]
+pub extern "C" fn trial_build_hierarchy(
+    sources: &[u32],
+    targets: &[u32],
+    orders: &[u32],
+    work: &mut [u32],
+    out: &mut [u8],
+    n: u32,
+    d: u32,
+) -> Counted {
+    built_of(build::build_hierarchy(n, sources, targets, orders, d, work, out))
 }
 
 #[no_mangle]

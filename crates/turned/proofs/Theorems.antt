@@ -11,11 +11,11 @@ use Rattle.lineage.specs.Lists.{among}
 use Rattle.lineage.specs.Graph.{Graph, turnedGraph, Ends, Reaches}
 use Rattle.lineage.specs.Index.{Index, indexOf, Made}
 use Rattle.lineage.specs.Stored.{Form, form3}
-use Rattle.lineage.specs.Calls.{Outcome, answered, outcome, FormsTaken, turned, Input, turnedInput, ordersOf, built, workNeeded, buildEarly, buildAnswer, buildWork, buildOutput, indexIn, Said, askAnswer, listAnswer, listOutput}
+use Rattle.lineage.specs.Calls.{Outcome, answered, outcome, FormsTaken, turned, Input, turnedInput, workNeeded, buildEarly, buildAnswer, buildWork, buildOutput, indexIn, Said, askAnswer, listAnswer, listOutput}
 use Rattle.open.proofs.Fits.{form-wide}
 use Rattle.build.specs.declared.Built.{Built}
 use Rattle.build.specs.Answers.{builtOf}
-use Rattle.build.proofs.Theorems.{Finished, built-one, input-right, orders-right, stored-index}
+use Rattle.build.proofs.Theorems.{Finished, built-one, build-made}
 use Rattle.ask.proofs.Theorems.{asked-right}
 use Rattle.list.proofs.Theorems.{listed-right}
 use Rattle.laws_answers.specs.Answers.{Downstream}
@@ -80,16 +80,6 @@ module _ (G : Graph) (b b' : List ℕ) (M : Made (indexIn b)) (given : M .graph 
       (subst (λ (H : Graph). (among v (take count (listOutput turned b' u (length marks) (length work) out)) ≡ true) ↔ Downstream H u v) back
       (listed-right turned b' u marks work out count e M' v))
       (downstream-turned G u v)
-
--- what a finished build stores is an index of its edge list
-abbrev pub build-made : {F : Form} {B : Input} (D : Finished F B) → Made (indexIn (take (D .total) (D .out')))
-build-made {B = B} D = record {
-  graph = B .graph;
-  ends = input-right D .ends;
-  orders = ordersOf B;
-  permuted = orders-right D;
-  yields = sym (stored-index D);
-}
 
 -- so of two finished builds from one edge list, ordinary and turned, whatever the two sets of orders
 pub built-fed : {F : Form} {B B' : Input} (D : Finished F B) (D' : Finished form3 (turnedInput B')) → B' .graph ≡ B .graph

@@ -8,6 +8,7 @@ mod converting;
 mod desk;
 mod exceptions;
 mod given;
+mod hierarchies;
 mod labels;
 mod listing;
 mod questions;

@@ -4,7 +4,7 @@ use crate::given::{built, falling, lent_words, refused, rising, words_for, Lent}
 use independent::bounds::work_words;
 use independent::chance::{Chance, Kind};
 use independent::closure::{Closure, Search};
-use independent::{ask, list, open, Answer, Counts, Form, Graph, Index, FORM_1, FORM_2, ORDINARY};
+use independent::{ask, list, open, Answer, Counts, Form, Graph, Index, FORMS, FORM_1, FORM_2, FORM_4, ORDINARY};
 
 fn line(n: usize) -> Graph {
     let edges: Vec<(usize, usize)> = (1..n).map(|v| (v - 1, v)).collect();
@@ -16,13 +16,18 @@ fn the_forms_are_those_of_the_documents() {
     let numbers = |form: Form| (form.most_vertices, form.most_edges, form.most_child_entries);
     assert_eq!(numbers(FORM_1), (4_096, 16_384, 16_384));
     assert_eq!(numbers(FORM_2), (200_000, 1_000_000, 1_000_000));
+    assert_eq!((numbers(FORM_4), FORM_4.most_labellings), (numbers(FORM_2), 1));
     // The sections without gaps come to the total that the documents give.
     let mut chance = Chance::new(42);
     for _ in 0..1_000 {
-        let [n, k, c, d] = [4_000, 4_000, 16_000, 5].map(|most| chance.below(most));
+        let [n, k, c, d] = [4_000, 4_000, 16_000, 5].map(|most| chance.between(1, most));
         let counts = Counts { n, k, c, d };
-        for form in ORDINARY {
-            let sections: usize = counts.sections().iter().sum();
+        for form in FORMS {
+            let counts = Counts {
+                d: d.min(form.most_labellings),
+                ..counts
+            };
+            let sections: usize = counts.sections(&form).iter().sum();
             assert_eq!(form.total_length(&counts), 48 + form.width * sections);
             assert_eq!(counts.header(&form)[11], 48 + (form.width * sections) as u32);
         }

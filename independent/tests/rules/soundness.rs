@@ -1,13 +1,13 @@
-//! Soundness: the index made again from what the bytes say, against all images there are, in either form.
+//! Soundness: the index made again from what the bytes say, against all images there are, in each form.
 
 use crate::given::{built, falling, g, h, refused, rising, words_for, WORD};
 use independent::chance::{Chance, Damage, Fields, Kind};
 use independent::every::{every_graph, every_image, every_order};
-use independent::{ask, list, open, Form, Index, FORM_1, FORM_2, ORDINARY};
+use independent::{ask, list, open, open_hierarchy, Form, Index, FORM_1, FORM_2, FORM_4, ORDINARY};
 use std::collections::BTreeSet;
 
 fn is_sound(bytes: &[u8]) -> bool {
-    open(bytes, &mut [0; 8], &mut [WORD; 300]).is_ok()
+    open(bytes, &mut [0; 8], &mut [WORD; 300]).is_ok() || open_hierarchy(bytes, &mut [0; 8], &mut [WORD; 300]).is_ok()
 }
 
 /// The images, in a form, for so many vertices and each of these numbers of labellings.
@@ -54,7 +54,8 @@ fn agree_on_alterations(n: usize, known: &BTreeSet<Vec<u8>>) {
 fn soundness_agrees_with_every_image_of_no_vertex() {
     let known = ORDINARY.map(|form| images(&form, 0, &[1, 2, 3, 4, 5]));
     assert!(known.iter().all(|images| images.len() == 5));
-    agree_on_alterations(0, &known.into_iter().flatten().collect());
+    let of_form_4 = images(&FORM_4, 0, &[1]);
+    agree_on_alterations(0, &known.into_iter().flatten().chain(of_form_4).collect());
 }
 
 #[test]
@@ -73,6 +74,13 @@ fn soundness_agrees_with_every_image_of_four_vertices() {
 #[test]
 fn soundness_agrees_with_every_image_of_four_vertices_in_form_2() {
     agree_on_alterations(4, &images(&FORM_2, 4, &[1]));
+}
+
+#[test]
+fn soundness_agrees_with_every_plain_hierarchy_of_one_to_four_vertices() {
+    for n in 1..=4 {
+        agree_on_alterations(n, &images(&FORM_4, n, &[1]));
+    }
 }
 
 /// Checks every image with any two fields behind the header altered.
@@ -98,6 +106,7 @@ fn soundness_agrees_on_two_fields_altered() {
         agree_on_double_alterations(2, &images(&form, 2, &[1, 2]));
     }
     agree_on_double_alterations(3, &images(&FORM_1, 3, &[1]));
+    agree_on_double_alterations(3, &images(&FORM_4, 3, &[1]));
 }
 
 #[test]

@@ -7,7 +7,7 @@ use independent::closure::Closure;
 use independent::graph::flat;
 use independent::stored::image;
 use independent::{ask, ask_all, ask_turned, build, build_turned, host, list, list_turned, open, open_turned};
-use independent::{Counts, Graph, Refusal, FORMS, FORM_2, FORM_3};
+use independent::{Counts, Graph, Refusal, FORM_1, FORM_2, FORM_3};
 
 /// The turned index of a graph, in exact memory.
 fn built_turned(graph: &Graph, orders: &[Vec<usize>]) -> Vec<u8> {
@@ -121,7 +121,7 @@ fn refusals(index: &[u8]) -> ([Option<Refusal>; 7], [Option<Refusal>; 3]) {
 
 #[test]
 fn each_call_takes_its_own_forms() {
-    for form in FORMS {
+    for form in [FORM_1, FORM_2, FORM_3] {
         let good = image(&form, &g(), &[rising(6)]);
         for number in 0..6 {
             let mut index = good.clone();

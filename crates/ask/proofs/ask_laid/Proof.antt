@@ -44,7 +44,7 @@ six m = record {
 }
 
 contents-sound-requires : tie.Need-contents-sound-requires
-contents-sound-requires c κs = let s = c .before .before .before .before in (s .pre .0, s .pre .1 .1 .1 .0)
+contents-sound-requires c κs = let s = c .before .before .before .before in (s .pre .0, s .pre .1 .0 .1 .1 .0)
 
 same-length : tie.Need-same-length
 same-length c = search needs
@@ -75,7 +75,7 @@ labels-requires : tie.Need-labels-requires
 labels-requires c κs = start (checked (c .before .before .before .before .before)) .pre .0
 
 slice-relend-prefix-question : tie.Need-slice-relend-prefix-question
-slice-relend-prefix-question c = let s = checked (sound c) in omega (arith, start s .pre .1 .1 .1 .0, s .contents-sound .kept)
+slice-relend-prefix-question c = let s = checked (sound c) in omega (arith, start s .pre .1 .0 .1 .1 .0, s .contents-sound .kept)
 
 slice-aggregate-question : tie.Need-slice-aggregate-question
 slice-aggregate-question c = sym (ap length (cleared-front _ _ (checked (sound (c .before)) .contents-sound .ensures .1)) ∙ length-replicate _ 0)
@@ -88,15 +88,15 @@ question-requires c κs =
     let p = start s .pre in
     let n : ℕ = start s .args .l .n in
     let front = cleared-front _ _ (s .contents-sound .ensures .1) in (
-      lent (p .0) (six m) (sym (s .contents-sound .ensures .0) ∙ not-false _ (e .if1 .left)),
-      (p .1 .0, (p .1 .1 .0, (ap length front ∙ length-replicate n 0, (zero-under _ n _ (omega arith) front, p .1 .1 .1 .1)))),
+      record { lent = lent (p .0) (six m) (sym (s .contents-sound .ensures .0) ∙ not-false _ (e .if1 .left)); triples = p .1 .1 },
+      (p .1 .0 .0, (p .1 .0 .1 .0, (ap length front ∙ length-replicate n 0, (zero-under _ n _ (omega arith) front, p .1 .0 .1 .1 .1)))),
     )
 
 same-length-2 : tie.Need-same-length-2
 same-length-2 c =
     let q = c .before .before .before .before in
     let s = checked (sound (q .before .before .before)) in
-    simp (length-append, length-drop, q .question .kept .1 .1 .1 .1 .1 .1 .1 .1 .1 .0, length-take) (omega (arith, s .contents-sound .kept, start s .pre .1 .1 .1 .0))
+    simp (length-append, length-drop, q .question .kept .1 .1 .1 .1 .1 .1 .1 .1 .1 .0, length-take) (omega (arith, s .contents-sound .kept, start s .pre .1 .0 .1 .1 .0))
 
 same-length-3 : tie.Need-same-length-3
 same-length-3 c = search needs

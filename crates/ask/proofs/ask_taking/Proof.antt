@@ -8,6 +8,7 @@ use Rattle.lineage.specs.Calls.{formsTaken}
 use Rattle.stored_header.specs.Header.{headerOutcome}
 use Rattle.stored_header.proofs.Laid.{vertex-out, vertex-in}
 use Rattle.stored_header.proofs.Admitted.{Admits, admitted-laid, admitted-room, admitted-words}
+use Rattle.sound_places.proofs.Triples.{admitted-triples}
 use Rattle.ask.proofs.Refusals.{stack-fits, asks-refused, asks-source, asks-target, asks-rest}
 use Rattle.ask.proofs.ask_taking.Statement.{statement}
 use Rattle.ask.proofs.ask_taking.Tie as tie
@@ -59,8 +60,13 @@ returns-3 c =
 ask-laid-requires : tie.Need-ask-laid-requires
 ask-laid-requires c κs =
     let e = c .before .before in
-    let A = admits (through e) in
-    (admitted-laid A, (e .before .before .if1 .left, (e .if2 .left, (admitted-room A, omega (arith, admitted-words A, stack-fits (through e .l .given .0 .0))))))
+    let A = admits (through e) in (
+      admitted-laid A,
+      (
+        (e .before .before .if1 .left, (e .if2 .left, (admitted-room A, omega (arith, admitted-words A, stack-fits (through e .l .given .0 .0))))),
+        admitted-triples A (start (through e) .pre),
+      ),
+    )
 
 words-needed-requires : tie.Need-words-needed-requires
 words-needed-requires c κs =

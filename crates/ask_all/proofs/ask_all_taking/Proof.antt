@@ -7,6 +7,7 @@ use lib.ListN.{length}
 use Rattle.lineage.specs.Calls.{formsTaken}
 use Rattle.stored_header.specs.Header.{headerOutcome}
 use Rattle.stored_header.proofs.Admitted.{Admits, admitted-laid, admitted-room, admitted-words}
+use Rattle.sound_places.proofs.Triples.{admitted-triples}
 use Rattle.ask_all.proofs.Refusals.{all-refused, all-rest, small}
 use Rattle.ask_all.proofs.ask_all_taking.Statement.{statement}
 use Rattle.ask_all.proofs.ask_all_taking.Tie as tie
@@ -48,8 +49,9 @@ enum-known-l c = search needs
 
 ask-laid-requires : tie.Need-ask-laid-requires
 ask-laid-requires c κs =
-    let A = admits (c .before .before .before .before) in
-    ((admitted-laid A, admitted-room A), (small A, admitted-words A))
+    let a = c .before .before .before .before in
+    let A = admits a in
+    ((admitted-laid A, admitted-room A), ((small A, admitted-words A), admitted-triples A (start a .pre)))
 
 words-needed-requires : tie.Need-words-needed-requires
 words-needed-requires c κs =

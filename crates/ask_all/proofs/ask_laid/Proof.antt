@@ -66,13 +66,14 @@ ask-lent-requires c κs =
     let p = start s .pre in (
       record {
         laid = p .0 .0;
+        triples = p .1 .1;
         sound = sym (s .contents-sound .ensures .0) ∙ not-false _ (e .if1 .left);
         marked = omega (arith, p .0 .1, s .contents-sound .kept);
         none = cleared-front _ _ (s .contents-sound .ensures .1);
         same = t .before .if2 .left;
         room = six-room _ _ (t .if3 .left);
       },
-      p .1,
+      p .1 .0,
     )
 
 same-length-4 : tie.Need-same-length-4

@@ -71,7 +71,7 @@ ask-pairs-requires c κs =
     let m = c .before .before .before in
     let s = start m in
     let P = s .pre .0 in
-    (lent (P .laid) (six m) (P .sound), (s .pre .1, (P .none, (P .same, P .room))))
+    (record { lent = lent (P .laid) (six m) (P .sound); triples = P .triples }, (s .pre .1, (P .none, (P .same, P .room))))
 
 same-length : tie.Need-same-length
 same-length c = search needs

@@ -26,8 +26,8 @@ abbrev μ-labellings : tie.MeasureT-labellings
 labellings-holds : tie.Need-labellings-holds Inv-loop μ-loop Inv-labellings μ-labellings
 labellings-holds c = (refl, (refl, judging-none _ _ _ _ _ _))
 
-triples-requires : tie.Need-triples-requires Inv-loop μ-loop Inv-labellings μ-labellings
-triples-requires c κs = (c .before .before .before .pre .0, c .labellings-test .taken)
+tuples-requires : tie.Need-tuples-requires Inv-loop μ-loop Inv-labellings μ-labellings
+tuples-requires c κs = (c .before .before .before .pre .0, c .labellings-test .taken)
 
 loop-holds : tie.Need-loop-holds Inv-loop μ-loop Inv-labellings μ-labellings
 loop-holds c = let v = c .before .before .labellings .inv in (v .0, (v .1 .0, (omega arith, λ j h. absurd (omega arith))))
@@ -35,7 +35,7 @@ loop-holds c = let v = c .before .before .labellings .inv in (v .0, (v .1 .0, (o
 undecided-by-requires : tie.Need-undecided-by-requires Inv-loop μ-loop Inv-labellings μ-labellings
 undecided-by-requires c κs =
     let s = c .before .before .before .before .before .before in
-    let P = c .before .before .triples .ensures in
+    let P = c .before .before .tuples .ensures in
     (s .pre .0 .width, (in-triples _ _ _ _ _ P (s .pre .1 .0), in-triples _ _ _ _ _ P (s .pre .1 .1)))
 
 add-inside : tie.Need-add-inside Inv-loop μ-loop Inv-labellings μ-labellings
@@ -65,7 +65,7 @@ labellings-again : tie.Need-labellings-again Inv-loop μ-loop Inv-labellings μ-
 labellings-again c =
     let s = c .before .before .before .before .before .before in
     let v = c .before .loop .inv in
-    let neither = is-neither _ _ _ _ _ _ _ (s .pre .1 .0) (s .pre .1 .1) (c .before .before .triples .ensures) (λ b h. v .1 .1 .1 b (omega arith)) in
+    let neither = is-neither _ _ _ _ _ _ _ (s .pre .1 .0) (s .pre .1 .1) (c .before .before .tuples .ensures) (λ b h. v .1 .1 .1 b (omega arith)) in
     (v .0, (v .1 .0, judging-more _ _ _ _ _ _ _ (c .before .before .before .before .labellings .inv .1 .1) (c .before .before .before .labellings-test .taken) neither))
 
 returns : tie.Need-returns Inv-loop μ-loop Inv-labellings μ-labellings
@@ -75,7 +75,7 @@ returns-2 : tie.Need-returns-2 Inv-loop μ-loop Inv-labellings μ-labellings
 returns-2 c =
     let l = c .before .before .before .before in
     let s = l .before .before .before .before .before in
-    let hit = is-inside _ _ _ _ _ _ _ (s .pre .1 .0) (s .pre .1 .1) (l .before .triples .ensures) _ _ (l .loop .inv .1 .1 .1) (c .before .before .undecided-by .ensures)
+    let hit = is-inside _ _ _ _ _ _ _ (s .pre .1 .0) (s .pre .1 .1) (l .before .tuples .ensures) _ _ (l .loop .inv .1 .1 .1) (c .before .before .undecided-by .ensures)
     (not-true _ (c .before .if1 .taken)) (c .if2 .taken) in
     rw (l .loop .inv .1 .0) (judging-inside _ _ _ _ _ _ _ (l .before .before .before .labellings .inv .1 .1) (l .before .before .labellings-test .taken) hit)
 
@@ -83,7 +83,7 @@ returns-3 : tie.Need-returns-3 Inv-loop μ-loop Inv-labellings μ-labellings
 returns-3 c =
     let l = c .before .before .before .before in
     let s = l .before .before .before .before .before in
-    let cut = is-outside _ _ _ _ _ _ _ (s .pre .1 .0) (s .pre .1 .1) (l .before .triples .ensures) _ _ (l .loop .inv .1 .1 .1) (c .before .before .undecided-by .ensures)
+    let cut = is-outside _ _ _ _ _ _ _ (s .pre .1 .0) (s .pre .1 .1) (l .before .tuples .ensures) _ _ (l .loop .inv .1 .1 .1) (c .before .before .undecided-by .ensures)
     (not-true _ (c .before .if1 .taken)) (c .before .before .before .loop-test .taken) (c .if2 .left) in
     rw (l .loop .inv .0) (judging-outside _ _ _ _ _ _ _ (l .before .before .before .labellings .inv .1 .1) (l .before .before .labellings-test .taken) cut)
 
@@ -96,7 +96,7 @@ judge-spec =
     Inv-labellings
     μ-labellings
     labellings-holds
-    triples-requires
+    tuples-requires
     loop-holds
     undecided-by-requires
     add-inside

@@ -44,7 +44,7 @@ words : (o : tie.After-lay-out) → let s = start (based o) .args in Kept (s .wo
 words o = laid-kept (start (based o) .args .l .width) _ _ (based o .stack-words .ensures) _ (o .lay-out .last .1 .1 .1 .1 .1 .0) (room (based o)) (long o)
 
 stack-words-requires : tie.Need-stack-words-requires
-stack-words-requires c κs = omega (arith, c .before .before .before .before .before .before .before .before .before .before .before .pre .0 .vertices-few)
+stack-words-requires c κs = omega (arith, c .before .before .before .before .before .before .before .before .before .before .before .pre .0 .lent .vertices-few)
 
 add-lay-out : tie.Need-add-lay-out
 add-lay-out c = omega (arith, room c, start c .good)
@@ -62,7 +62,7 @@ part-lay-out-end : tie.Need-part-lay-out-end
 part-lay-out-end c = room c
 
 lay-out-requires : tie.Need-lay-out-requires
-lay-out-requires c κs = let s = start (c .before) in (listed (s .pre .0), (named (s .pre .0), omega (arith, room (c .before))))
+lay-out-requires c κs = let S = start (c .before) .pre .0 .lent in (listed S, (named S, omega (arith, room (c .before))))
 
 ask-each-requires : tie.Need-ask-each-requires
 ask-each-requires c κs =

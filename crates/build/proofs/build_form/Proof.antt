@@ -5,8 +5,8 @@ use Rattle.lineage.specs.Calls.{answered, outcome, Input, workNeeded, buildEarl
 use lib.ListN.{length}
 use Rattle.build.specs.Input.{inputOf, formBy, RowFit}
 use Rattle.build.specs.Answers.{checkedOf}
-use Rattle.build.proofs.Row.{row-fit, row-answered}
-use Rattle.build.proofs.Answered.{early-refused, admitted-within, needed-there, late-answered}
+use Rattle.build.proofs.Row.{number-small, row-fit, row-answered}
+use Rattle.build.proofs.Answered.{early-refused, admitted-row, needed-there, late-answered}
 use Rattle.build.proofs.build_form.Statement.{statement}
 use Rattle.build.proofs.build_form.Tie as tie
 
@@ -16,7 +16,7 @@ start c = c .before .before .before .before .before .before
 abbrev input : tie.Start → Input
 input s = inputOf (s .args .n) (s .args .sources .now) (s .args .targets .now) (s .args .d) (s .args .orders .now)
 
-fit : (s : tie.Start) → RowFit (s .args .form) (s .args .row)
+fit : (s : tie.Start) → RowFit (s .args .row)
 fit s = row-fit (s .args .form) (s .args .row) (s .pre .0) (s .pre .1)
 
 -- what checks 1 to 7 let pass
@@ -26,7 +26,7 @@ passed : (c : tie.After-known-told2)
 passed c = ap checkedOf (sym (c .before .needed .given .1)) ∙ c .before .before .before .early .ensures
 
 early-requires : tie.Need-early-requires
-early-requires c κs = let s = c .before .before .before .before .before in (fit s .vertices, fit s .edges)
+early-requires c κs = fit (c .before .before .before .before .before)
 
 enum-known-number : tie.Need-enum-known-number
 enum-known-number c = search needs
@@ -38,14 +38,14 @@ late-requires : tie.Need-late-requires
 late-requires c κs =
     let p = c .before .before in
     let s = start (p .before .before .before) in
-    (fit s .number-small, (fit s .width, admitted-within (s .args .form) (s .args .row) (input s) (s .args .work .now) (s .args .out .now) (passed p) (fit s)))
+    (number-small (s .args .form) (s .args .row) (s .pre .0) (s .pre .1), (fit s, admitted-row (s .args .form) (s .args .row) (input s) (s .args .work .now) (s .args .out .now) (passed p)))
 
 clear-words-requires : tie.Need-clear-words-requires
 clear-words-requires c κs =
     let b = c .before .before .before .before .before in
     let p = b .before .before .before in
     let s = start (p .before .before .before) in
-    needed-there (s .args .form) (s .args .row) (input s) (s .args .work .now) (s .args .out .now) (passed p) (b .late .ensures) (fit s)
+    needed-there (s .args .form) (s .args .row) (input s) (s .args .work .now) (s .args .out .now) (passed p) (b .late .ensures)
 
 returns : tie.Need-returns
 returns c =

@@ -9,12 +9,13 @@ use lib.Dec.{eqb}
 use lib.ListN.{length, drop}
 use borrow.Author.Needs.{needs}
 use borrow.Author.Tests.{lt-ltb, le-ltb, eq-eqb, ne-eqb}
+use Rattle.lineage.specs.Stored.{mostLabellings}
 use Rattle.lineage.specs.Calls.{Check, refused, outcome, Input, badEdge, workNeeded, buildEarly}
 use Rattle.laws.proofs.Tests.{or-left, or-right}
 use Rattle.laws.specs.Checks.{Stops, stopped}
 use Rattle.laws.proofs.Checks.{stops-outcome}
 use Rattle.numbers.specs.Bounds.{vertexBound}
-use Rattle.build.specs.Input.{inputOf, boundsOf}
+use Rattle.build.specs.Input.{inputOf, formBy}
 use Rattle.build.proofs.Checks.{any-found, none-found, first-found}
 use Rattle.build.proofs.early.Statement.{statement}
 use Rattle.build.proofs.early.Tie as tie
@@ -24,7 +25,7 @@ abbrev input : tie.Start → Input
 input s = inputOf (s .args .n) (s .args .sources .now) (s .args .targets .now) (s .args .d) (s .args .orders .now)
 
 abbrev checks : tie.Start → List Check
-checks s = buildEarly (boundsOf (s .args .most-vertices) (s .args .most-edges)) (input s) (s .args .work)
+checks s = buildEarly (formBy 0 (s .args .row)) (input s) (s .args .work)
 
 abbrev needed : tie.Start → ℕ
 needed s = workNeeded (input s .graph)
@@ -82,9 +83,10 @@ returns-5 c =
 mul-if6 : tie.Need-mul-if6
 mul-if6 c =
     let e = c .before .before .before .before in
-    let n = start e .args .n in
-    let low : n ≤ vertexBound = omega arith in
-    omega (arith, mul-le-mul (c .if5 .left) low)
+    let s = start e in
+    let few : s .args .d ≤ mostLabellings = omega (arith, c .if5 .left, s .pre .labellings) in
+    let low : s .args .n ≤ vertexBound = omega (arith, e .if1 .left, s .pre .vertices) in
+    omega (arith, mul-le-mul few low)
 
 returns-6 : tie.Need-returns-6
 returns-6 c = stop (start (c .before .before .before .before .before)) 4 (past₄ (c .before) 0 (ap not (ne-eqb _ _ (c .if6 .taken))))
@@ -101,8 +103,8 @@ add-needed c = search needs
 add-needed-2 : tie.Need-add-needed-2
 add-needed-2 c = search needs
 
-cast-t16 : tie.Need-cast-t16
-cast-t16 c = search needs
+cast-t18 : tie.Need-cast-t18
+cast-t18 c = search needs
 
 returns-7 : tie.Need-returns-7
 returns-7 c = stop (start (c .before .before .before .before .before .before)) 5 (past₅ (c .before) 0 (lt-ltb _ _ (c .if7 .taken)))
@@ -110,8 +112,8 @@ returns-7 c = stop (start (c .before .before .before .before .before .before)) 5
 bad-edge-requires : tie.Need-bad-edge-requires
 bad-edge-requires c κs = search needs
 
-cast-t17 : tie.Need-cast-t17
-cast-t17 c = search needs
+cast-t19 : tie.Need-cast-t19
+cast-t19 c = search needs
 
 returns-8 : tie.Need-returns-8
 returns-8 c =
@@ -143,9 +145,9 @@ early-spec =
     mul-needed-2
     add-needed
     add-needed-2
-    cast-t16
+    cast-t18
     returns-7
     bad-edge-requires
-    cast-t17
+    cast-t19
     returns-8
     returns-9)

@@ -1,7 +1,9 @@
 -- `build_indexed::write_labels` meets its contract. The invariant: j orders are gone through, their labellings are written, and the last of them is still there.
-use Prim.Native.Nat.{_-_}
+use Prim.Native.Nat.{_+_, _-_, _*_, _≤_}
+use native.Mathlib.Nat.{mul-le-mul}
 use native.Mathlib.Omega.{arith}
 use borrow.Author.Needs.{needs}
+use Rattle.numbers.specs.Bounds.{vertexBound}
 use Rattle.build_indexed.proofs.Turns.{Turns, turns-none, turns-ready, turns-within, turns-more, turns-all}
 use Rattle.build_indexed.proofs.write_labels.Statement.{statement}
 use Rattle.build_indexed.proofs.write_labels.Tie as tie
@@ -13,16 +15,27 @@ abbrev μ-loop : tie.MeasureT-loop
 μ-loop out₀ l edges orders work₀ step at₀ j₀ out work at j = l .d - j
 
 abbrev start : tie.At-loop Inv-loop μ-loop → tie.Start Inv-loop μ-loop
-start c = c .before .before .before .before .before .before
+start c = c .before .before .before .before .before .before .before
+
+-- a labelling has no more than four numbers for each group
+few : (s : tie.Start Inv-loop μ-loop) → (s .args .l .stride + 1) * s .args .l .k ≤ 4 * vertexBound
+few s =
+    let fit = s .pre .0 in
+    let by : s .args .l .stride + 1 ≤ 4 = omega (arith, fit .stride .high) in
+    let groups : s .args .l .k ≤ vertexBound = omega (arith, fit .vertices, fit .stored .few-groups) in
+    mul-le-mul by groups
+
+add-bytes-of : tie.Need-add-bytes-of Inv-loop μ-loop
+add-bytes-of c = omega (arith, c .before .before .before .before .pre .0 .stride .high)
 
 mul-bytes-of : tie.Need-mul-bytes-of Inv-loop μ-loop
-mul-bytes-of c = search needs
+mul-bytes-of c = omega (arith, few (c .before .before .before .before .before))
 
 bytes-of-requires : tie.Need-bytes-of-requires Inv-loop μ-loop
-bytes-of-requires c κs = search needs
+bytes-of-requires c κs = let s = c .before .before .before .before .before in (s .pre .0 .width, omega (arith, few s))
 
 loop-holds : tie.Need-loop-holds Inv-loop μ-loop
-loop-holds c = let s = c .before .before .before .before .before in turns-none (s .pre .0) (s .args .out .now)
+loop-holds c = let s = c .before .before .before .before .before .before in turns-none (s .pre .0) (s .args .out .now)
 
 write-order-requires : tie.Need-write-order-requires Inv-loop μ-loop
 write-order-requires c κs =
@@ -64,6 +77,7 @@ write-labels-spec =
     (tie.spec
     Inv-loop
     μ-loop
+    add-bytes-of
     mul-bytes-of
     bytes-of-requires
     loop-holds

@@ -5,6 +5,7 @@ use borrow.Author.Tests.{not-false}
 use lib.ListN.{length}
 use Rattle.stored_header.specs.Header.{headerOutcome}
 use Rattle.stored_header.proofs.Admitted.{Admits, admitted-laid, admitted-room, admitted-words}
+use Rattle.sound_places.proofs.Triples.{form-triples, admitted-triples}
 use Rattle.convert.specs.Convert.{only}
 use Rattle.convert.proofs.Refusals.{converts-refused, converts-unsound, converts-turned}
 use borrow.Author.Needs.{needs}
@@ -70,7 +71,10 @@ convert-sound-requires c κs =
     let e = c .before in
     let s = e .before .before .before in
     let A = admits (through (cleared-at s)) in
-    (record { laid = admitted-laid A; contents = sym (s .contents-sound .ensures .0) ∙ not-false _ (e .if1 .left) }, start (through (cleared-at s)) .pre)
+    let p = start (through (cleared-at s)) .pre in (
+      record { laid = admitted-laid A; contents = sym (s .contents-sound .ensures .0) ∙ not-false _ (e .if1 .left) },
+      (p .0, form-triples _ (p .1 .1) .stride ∙ sym (admitted-triples A (p .1 .0))),
+    )
 
 same-length-3 : tie.Need-same-length-3
 same-length-3 c = search needs

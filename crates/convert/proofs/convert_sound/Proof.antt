@@ -4,7 +4,7 @@ use native.Mathlib.Omega.{arith}
 use borrow.Author.Tests.{ltb-true, ltb-false}
 use Rattle.convert.specs.Fit.{Turns}
 use Rattle.convert.proofs.Written.{total-small}
-use Rattle.convert.proofs.Fitted.{Other, row-width, turns, turned-beyond, turned-short, turned-whole}
+use Rattle.convert.proofs.Fitted.{Other, row-width, row-stride, turns, turned-beyond, turned-short, turned-whole}
 use borrow.Author.Needs.{needs}
 use Rattle.convert.proofs.convert_sound.Statement.{statement}
 use Rattle.convert.proofs.convert_sound.Tie as tie
@@ -17,7 +17,7 @@ abbrev entry : tie.After-form-row → tie.Start
 entry c = c .before .before .before
 
 other : (c : tie.After-form-row) → let a = entry c .args in Other (a .index .now) (a .l) (a .form) (c .form-row .result)
-other c = record { sound = entry c .pre .0; known = entry c .pre .1; row-is = c .form-row .ensures }
+other c = record { sound = entry c .pre .0; known = entry c .pre .1 .0; alike = entry c .pre .1 .1; row-is = c .form-row .ensures }
 
 fits : (c : tie.After-lay-out) → let a = entry (c .before) .args in Turns (a .index .now) (a .l) (a .form) (c .lay-out .result)
 fits c = turns (other (c .before)) (c .lay-out .ensures)
@@ -33,7 +33,7 @@ lay-out-requires : tie.Need-lay-out-requires
 lay-out-requires c κs =
     let O = other c in
     let L = O .sound .laid in
-    (row-width O, (L .vertices, (L .groups, (L .entries, L .most))))
+    (row-width O, (row-stride O, (L .vertices, (L .groups, (L .entries, L .most)))))
 
 is-beyond-requires : tie.Need-is-beyond-requires
 is-beyond-requires c κs = search needs

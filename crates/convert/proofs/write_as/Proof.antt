@@ -8,7 +8,7 @@ use Rattle.convert.proofs.write_as.Statement.{statement}
 use Rattle.convert.proofs.write_as.Tie as tie
 
 abbrev Inv-loop : tie.InvT-loop
-Inv-loop index l form to out₀ i₀ out i = (i ≤ 6) × ((length out ≡ length out₀) × (out ≡ sectionsPut index l to out₀ i))
+Inv-loop index l form to out₀ i₀ out i = (i ≤ 6) × ((length out ≡ length out₀) × (out ≡ sectionsPut index to out₀ i))
 
 abbrev μ-loop : tie.MeasureT-loop
 μ-loop index l form to out₀ i₀ out i = 6 - i
@@ -55,7 +55,7 @@ returns c =
     let h = c .before .before .before .before in
     let a = entry h .args in
     sections-whole (entry h .pre .0) _ _ _ (h .write-header .ensures)
-    (l .inv .1 .1 ∙ ap (sectionsPut (a .index .now) (a .l) (a .to) (h .write-header .last .0)) (let e : l .i ≡ 6 = omega arith in e))
+    (l .inv .1 .1 ∙ ap (sectionsPut (a .index .now) (a .to) (h .write-header .last .0)) (let e : l .i ≡ 6 = omega arith in e))
 
 pub write-as-spec : {M : Type 1} → statement M
 write-as-spec =

@@ -35,8 +35,8 @@ add-needed-2 c = omega (arith, groups-few (counted c), entries-few (counted c))
 mul-needed : tie.Need-mul-needed
 mul-needed c = omega (arith, groups-few (counted c), entries-few (counted c))
 
-cast-t12 : tie.Need-cast-t12
-cast-t12 c = omega (arith, groups-few (counted (c .before)), entries-few (counted (c .before)))
+cast-total : tie.Need-cast-total
+cast-total c = omega (arith, groups-few (counted c), entries-few (counted c))
 
 same-length : tie.Need-same-length
 same-length c = search needs
@@ -79,7 +79,7 @@ build-sound-spec =
     add-needed
     add-needed-2
     mul-needed
-    cast-t12
+    cast-total
     same-length
     returns
     write-exceptions-requires

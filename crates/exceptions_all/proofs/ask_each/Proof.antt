@@ -10,10 +10,10 @@ use Rattle.exceptions_all.proofs.ask_each.Statement.{statement}
 use Rattle.exceptions_all.proofs.ask_each.Tie as tie
 
 abbrev Inv-loop : tie.InvT-loop
-Inv-loop labels lists places w n k d sources targets answers₀ i₀ answers i = Asking n (byPlace w k d labels lists places) sources targets answers₀ answers i
+Inv-loop labels lists places w z n k d sources targets answers₀ i₀ answers i = Asking n (byPlace w z k d labels lists places) sources targets answers₀ answers i
 
 abbrev μ-loop : tie.MeasureT-loop
-μ-loop labels lists places w n k d sources targets answers₀ i₀ answers i = length sources - i
+μ-loop labels lists places w z n k d sources targets answers₀ i₀ answers i = length sources - i
 
 -- what was lent
 abbrev lent : tie.At-loop Inv-loop μ-loop → tie.Start Inv-loop μ-loop

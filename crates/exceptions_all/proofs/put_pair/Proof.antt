@@ -19,7 +19,7 @@ lent a = a .before .before .before .before
 
 -- what the table, the labels and the lists tell of two vertices
 abbrev told : tie.Start → ℕ → ℕ → Bool
-told s = let a = s .args in byPlace (a .w) (a .k) (a .d) (a .labels .now) (a .lists .now) (a .places .now)
+told s = let a = s .args in byPlace (a .w) (a .z) (a .k) (a .d) (a .labels .now) (a .lists .now) (a .places .now)
 
 -- the cast makes 1 of yes and 0 of no
 yes-put : (a : List ℕ) (at : ℕ) (b : Bool) → put a at (0 ∷ 0 ∷ boolByte b ∷ []) ≡ put a at (0 ∷ 0 ∷ cond b 1 0 ∷ [])

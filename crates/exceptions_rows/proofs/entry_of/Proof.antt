@@ -20,7 +20,7 @@ add-result c = let p = lent (c .before) .pre in omega (arith, p .0 .labelled .gr
 returns : tie.Need-returns
 returns c =
     let s = lent (c .before) .args in
-    entry-odd (told (s .w) (s .k) (s .c) (s .d) (s .starts .now) (s .children .now) (s .labels .now)) (s .x) (s .y) (c .before .is-indirect .ensures) (c .if1 .taken)
+    entry-odd (told (s .w) (s .z) (s .k) (s .c) (s .d) (s .starts .now) (s .children .now) (s .labels .now)) (s .x) (s .y) (c .before .is-indirect .ensures) (c .if1 .taken)
 
 mul-result-2 : tie.Need-mul-result-2
 mul-result-2 c = let p = lent (c .before) .pre in omega (arith, p .0 .labelled .groups-few, p .1 .1)
@@ -28,7 +28,7 @@ mul-result-2 c = let p = lent (c .before) .pre in omega (arith, p .0 .labelled .
 returns-2 : tie.Need-returns-2
 returns-2 c =
     let s = lent (c .before) .args in
-    entry-even (told (s .w) (s .k) (s .c) (s .d) (s .starts .now) (s .children .now) (s .labels .now)) (s .x) (s .y) (c .before .is-indirect .ensures) (c .if1 .left)
+    entry-even (told (s .w) (s .z) (s .k) (s .c) (s .d) (s .starts .now) (s .children .now) (s .labels .now)) (s .x) (s .y) (c .before .is-indirect .ensures) (c .if1 .left)
 
 pub entry-of-spec : {M : Type 1} → statement M
 entry-of-spec = tie.close (tie.spec is-indirect-requires mul-result add-result returns mul-result-2 returns-2)

@@ -7,17 +7,17 @@ use Rattle.exceptions_rows.proofs.is_indirect.Statement.{statement}
 use Rattle.exceptions_rows.proofs.is_indirect.Tie as tie
 
 abbrev Inv-loop : tie.InvT-loop
-Inv-loop starts children labels w k c d x y from len i₀ i = Trying (told w k c d starts children labels) (childrenAt w k c starts children x) y i
+Inv-loop starts children labels w z k c d x y from len i₀ i = Trying (told w z k c d starts children labels) (childrenAt w k c starts children x) y i
 
 abbrev μ-loop : tie.MeasureT-loop
-μ-loop starts children labels w k c d x y from len i₀ i = len - i
+μ-loop starts children labels w z k c d x y from len i₀ i = len - i
 
 -- what was lent
 abbrev lent : tie.At-loop Inv-loop μ-loop → tie.Start Inv-loop μ-loop
 lent l = l .before .before .before .before .before .before
 
 returns : tie.Need-returns Inv-loop μ-loop
-returns c = kind-one _ _ _ _ _ _ _ _ _ (λ one. omega (arith, one, c .if1 .taken))
+returns c = kind-one _ _ _ _ _ _ _ _ _ _ (λ one. omega (arith, one, c .if1 .taken))
 
 row-span-requires : tie.Need-row-span-requires Inv-loop μ-loop
 row-span-requires c κs = let s = c .before .before .before .before in (s .pre .0 .below .entries .rows, s .pre .1 .0)
@@ -42,7 +42,7 @@ returns-2 c =
     let b = c .before in
     let n = b .before in
     let l = n .before .before in
-    trying-found _ _ _ _ _ _ _ _ _ (l .before .before .if1 .left) (lent l .pre .0) (l .before .row-span .ensures) (l .loop .inv) (n .before .loop-test .taken) (n .num .ensures .0)
+    trying-found _ _ _ _ _ _ _ _ _ _ (l .before .before .if1 .left) (lent l .pre .0) (l .before .row-span .ensures) (l .loop .inv) (n .before .loop-test .taken) (n .num .ensures .0)
     (b .contains .ensures) (c .if2 .taken)
 
 add-i : tie.Need-add-i Inv-loop μ-loop
@@ -56,13 +56,13 @@ loop-again c =
     let b = c .before in
     let n = b .before in
     let l = n .before .before in
-    trying-more _ _ _ _ _ _ _ _ _ (l .before .before .if1 .left) (lent l .pre .0) (l .before .row-span .ensures) (l .loop .inv) (n .before .loop-test .taken) (n .num .ensures .0)
+    trying-more _ _ _ _ _ _ _ _ _ _ (l .before .before .if1 .left) (lent l .pre .0) (l .before .row-span .ensures) (l .loop .inv) (n .before .loop-test .taken) (n .num .ensures .0)
     (b .contains .ensures) (c .if2 .left)
 
 returns-3 : tie.Need-returns-3 Inv-loop μ-loop
 returns-3 c =
     let l = c .before in
-    trying-all _ _ _ _ _ _ _ _ _ (l .before .before .if1 .left) (lent l .pre .0) (l .before .row-span .ensures) (l .loop .inv) (c .loop-test .left)
+    trying-all _ _ _ _ _ _ _ _ _ _ (l .before .before .if1 .left) (lent l .pre .0) (l .before .row-span .ensures) (l .loop .inv) (c .loop-test .left)
 
 pub is-indirect-spec : {M : Type 1} → statement M
 is-indirect-spec =

@@ -17,10 +17,10 @@ use Rattle.exceptions_rows.proofs.match_marked.Statement.{statement}
 use Rattle.exceptions_rows.proofs.match_marked.Tie as tie
 
 abbrev Inv-loop : tie.InvT-loop
-Inv-loop index marks x lists from w k c d groups starts children labels at₀ y₀ at y = (y ≤ k) × Comparing (indexIn index) x lists from y at
+Inv-loop index marks x lists from w z k c d groups starts children labels at₀ y₀ at y = (y ≤ k) × Comparing (indexIn index) x lists from y at
 
 abbrev μ-loop : tie.MeasureT-loop
-μ-loop index marks x lists from w k c d groups starts children labels at₀ y₀ at y = k - y
+μ-loop index marks x lists from w z k c d groups starts children labels at₀ y₀ at y = k - y
 
 -- what was lent, and the sections that were read, among the six
 abbrev lent : tie.After-labels Inv-loop μ-loop → tie.Start Inv-loop μ-loop

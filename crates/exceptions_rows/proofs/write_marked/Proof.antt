@@ -17,10 +17,10 @@ use Rattle.exceptions_rows.proofs.write_marked.Statement.{statement}
 use Rattle.exceptions_rows.proofs.write_marked.Tie as tie
 
 abbrev Inv-loop : tie.InvT-loop
-Inv-loop index marks x out₀ from w k c d groups starts children labels at₀ y₀ out at y = (y ≤ k) × Putting (indexIn index) x from y at out₀ out
+Inv-loop index marks x out₀ from w z k c d groups starts children labels at₀ y₀ out at y = (y ≤ k) × Putting (indexIn index) x from y at out₀ out
 
 abbrev μ-loop : tie.MeasureT-loop
-μ-loop index marks x out₀ from w k c d groups starts children labels at₀ y₀ out at y = k - y
+μ-loop index marks x out₀ from w z k c d groups starts children labels at₀ y₀ out at y = k - y
 
 -- what was lent, and the sections that were read, among the six
 abbrev lent : tie.After-labels Inv-loop μ-loop → tie.Start Inv-loop μ-loop

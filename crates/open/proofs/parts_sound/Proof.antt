@@ -23,7 +23,7 @@ same-length c = search needs
 returns : tie.Need-returns
 returns c =
     let t = c .before .before .before .before in
-    (and-fails (t .before .groups-pass .ensures) _ (t .if1 .taken) ∙ parts-is _ _ _ _ _ _ _ _ _ _ _, c .before .before .clear-marks .ensures)
+    (and-fails (t .before .groups-pass .ensures) _ (t .if1 .taken) ∙ parts-is _ _ _ _ _ _ _ _ _ _ _ _, c .before .before .clear-marks .ensures)
 
 labels-sound-requires : tie.Need-labels-sound-requires
 labels-sound-requires c κs =
@@ -39,7 +39,7 @@ returns-2 : tie.Need-returns-2
 returns-2 c =
     let l = c .before .before in
     let t = l .before .before in
-    (and-goes (t .before .groups-pass .ensures) (t .if1 .left) (l .labels-sound .ensures .0) ∙ parts-is _ _ _ _ _ _ _ _ _ _ _, l .labels-sound .ensures .1)
+    (and-goes (t .before .groups-pass .ensures) (t .if1 .left) (l .labels-sound .ensures .0) ∙ parts-is _ _ _ _ _ _ _ _ _ _ _ _, l .labels-sound .ensures .1)
 
 pub parts-sound-spec : {M : Type 1} → statement M
 parts-sound-spec =

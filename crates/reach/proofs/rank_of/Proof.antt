@@ -1,4 +1,4 @@
--- `reach::rank_of` meets its contract: the group's name and place are found, and e stands in the first labelling's triple at that place.
+-- `reach::rank_of` meets its contract: the group's name and place are found, and e stands among the first labelling's numbers at that place.
 use Prim.Native.Nat.{_<_}
 use native.Mathlib.Omega.{arith}
 use borrow.Author.Needs.{needs}
@@ -7,16 +7,16 @@ use Rattle.sound_places.proofs.Vertices.{list-rises, list-low, name-listed, ver
 use Rattle.stored.specs.Sections.{Six}
 use Rattle.sound_places.proofs.Lent.{lent}
 use Rattle.stored.proofs.Contents.{stretchOf, with-names}
-use Rattle.reach.proofs.Fitted.{rank-read, rank-is}
+use Rattle.reach.proofs.Fitted.{tuples-held, rank-is}
 use Rattle.reach.proofs.rank_of.Statement.{statement}
 use Rattle.reach.proofs.rank_of.Tie as tie
 
 -- what was lent
-abbrev entry : tie.After-triples → tie.Start
+abbrev entry : tie.After-tuples → tie.Start
 entry c = c .before .before .before .before .before
 
 -- the sections that were read, among the six
-given : (c : tie.After-triples) → let s = entry c in
+given : (c : tie.After-tuples) → let s = entry c in
     Six (s .args .index .now) (s .args .l) (c .before .before .before .names .result .now) (c .before .before .groups .result .now) (stretchOf (s .pre .0 .laid) 2)
     (stretchOf (s .pre .0 .laid) 3) (stretchOf (s .pre .0 .laid) 4) (c .before .labels .result .now)
 given c = with-names (entry c .pre .0 .laid) (c .before .before .groups .ensures) (c .before .labels .ensures) (c .before .before .before .names .ensures)
@@ -30,8 +30,8 @@ groups-requires c κs = search needs
 labels-requires : tie.Need-labels-requires
 labels-requires c κs = search needs
 
-triples-requires : tie.Need-triples-requires
-triples-requires c κs = search needs
+tuples-requires : tie.Need-tuples-requires
+tuples-requires c κs = search needs
 
 num-requires : tie.Need-num-requires
 num-requires c κs = let S = lent (entry c .pre .0 .laid) (given c) (entry c .pre .0 .contents) in (S .width, room _ _ _ _ (entry c .pre .1) (omega (arith, S .names-long)))
@@ -48,21 +48,15 @@ place-low c =
     let t = c .before .before in
     vertex-low (lent (entry t .pre .0 .laid) (given t) (entry t .pre .0 .contents)) (entry t .pre .1) (c .before .num .ensures .0) (c .place-of .ensures)
 
-mul-num : tie.Need-mul-num
-mul-num c = omega (arith, place-low c, entry (c .before .before) .pre .0 .laid)
-
-add-num : tie.Need-add-num
-add-num c = omega (arith, place-low c, entry (c .before .before) .pre .0 .laid)
-
-num-requires-2 : tie.Need-num-requires-2
-num-requires-2 c κs = let t = c .before .before in rank-read (entry t .pre .0) (given t) _ (t .triples .ensures) (place-low c)
+e-of-requires : tie.Need-e-of-requires
+e-of-requires c κs = let t = c .before .before in (tuples-held (entry t .pre .0) (given t) _ (t .tuples .ensures), place-low c)
 
 returns : tie.Need-returns
 returns c =
     let p = c .before in
     let t = p .before .before in
-    rank-is (entry t .pre .0) (given t) _ (t .triples .ensures) (place-low p) _
-    (vertex-placed (lent (entry t .pre .0 .laid) (given t) (entry t .pre .0 .contents)) (entry t .pre .1) (p .before .num .ensures .0) (p .place-of .ensures)) (c .num2 .ensures .0)
+    rank-is (entry t .pre .0) (given t) _ (t .tuples .ensures) (place-low p) _
+    (vertex-placed (lent (entry t .pre .0 .laid) (given t) (entry t .pre .0 .contents)) (entry t .pre .1) (p .before .num .ensures .0) (p .place-of .ensures)) (c .e-of .ensures .0)
 
 pub rank-of-spec : {M : Type 1} → statement M
 rank-of-spec =
@@ -71,10 +65,8 @@ rank-of-spec =
     names-requires
     groups-requires
     labels-requires
-    triples-requires
+    tuples-requires
     num-requires
     place-of-requires
-    mul-num
-    add-num
-    num-requires-2
+    e-of-requires
     returns)

@@ -14,30 +14,30 @@ use Rattle.sound_blocks.proofs.block_passes.Statement.{statement}
 use Rattle.sound_blocks.proofs.block_passes.Tie as tie
 
 abbrev Inv-loop : tie.InvT-loop
-Inv-loop starts children triples places w k c p low rank₀ rank =
-    Walks (labellingIn w triples places k) (childOf (childrenIn w starts children k c) p) k rank₀ low rank
+Inv-loop starts children tuples places w z k c p low rank₀ rank =
+    Walks (labellingIn w z tuples places k) (childOf (childrenIn w starts children k c) p) k rank₀ low rank
 
 abbrev μ-loop : tie.MeasureT-loop
-μ-loop starts children triples places w k c p low rank₀ rank = rank
+μ-loop starts children tuples places w z k c p low rank₀ rank = rank
 
 -- where the function starts, from its loop
 abbrev start : tie.At-loop Inv-loop μ-loop → tie.Start Inv-loop μ-loop
 start l = l .before .before .before .before .before .before .before
 
-label-requires : tie.Need-label-requires Inv-loop μ-loop
-label-requires c κs = (c .before .before .before .before .pre .1 .0 .labels .triples-held, omega arith)
+m-of-requires : tie.Need-m-of-requires Inv-loop μ-loop
+m-of-requires c κs = (c .before .before .before .before .pre .1 .0 .labels .tuples-held, c .before .before .before .before .pre .1 .1)
 
 sub-low : tie.Need-sub-low Inv-loop μ-loop
-sub-low c = let s = c .before .before .before .before .before in omega (arith, m-some (s .pre .1 .0) (s .pre .1 .1) (c .label .ensures .0))
+sub-low c = let s = c .before .before .before .before .before in omega (arith, m-some (s .pre .1 .0) (s .pre .1 .1) (c .m-of .ensures .0))
 
-label-requires-2 : tie.Need-label-requires-2 Inv-loop μ-loop
-label-requires-2 c κs = (c .before .before .before .before .before .pre .1 .0 .labels .triples-held, omega arith)
+e-of-requires : tie.Need-e-of-requires Inv-loop μ-loop
+e-of-requires c κs = (c .before .before .before .before .before .pre .1 .0 .labels .tuples-held, c .before .before .before .before .before .pre .1 .1)
 
 sub-rank : tie.Need-sub-rank Inv-loop μ-loop
-sub-rank c = let s = c .before .before .before .before .before .before in omega (arith, e-some (s .pre .1 .0) (s .pre .1 .1) (c .label2 .ensures .0))
+sub-rank c = let s = c .before .before .before .before .before .before in omega (arith, e-some (s .pre .1 .0) (s .pre .1 .1) (c .e-of .ensures .0))
 
 loop-holds : tie.Need-loop-holds Inv-loop μ-loop
-loop-holds c = let s = c .before .before .before .before .before .before in walks-none _ _ _ _ _ (omega (arith, e-most (s .pre .1 .0) (s .pre .1 .1) (c .label2 .ensures .0)))
+loop-holds c = let s = c .before .before .before .before .before .before in walks-none _ _ _ _ _ (omega (arith, e-most (s .pre .1 .0) (s .pre .1 .1) (c .e-of .ensures .0)))
 
 sub-num : tie.Need-sub-num Inv-loop μ-loop
 sub-num c = omega arith
@@ -56,19 +56,19 @@ returns c =
     let N = s .pre .1 .0 in
     walks-stop (l .loop .inv) (goes-left N) (n .before .loop-test .taken) (place-was (N .labels) (omega arith) (n .num .ensures .0))
     (told-false (c .before .child-in .ensures) (c .if1 .taken))
-    ∙ block-is (s .pre .0) N (s .pre .1 .1) (l .before .before .label .ensures .0) (l .before .label2 .ensures .0)
+    ∙ block-is (s .pre .0) N (s .pre .1 .1) (l .before .before .m-of .ensures .0) (l .before .e-of .ensures .0)
 
-label-requires-3 : tie.Need-label-requires-3 Inv-loop μ-loop
-label-requires-3 c κs =
+m-of-requires-2 : tie.Need-m-of-requires-2 Inv-loop μ-loop
+m-of-requires-2 c κs =
     let n = c .before .before in
     let N = start (n .before .before) .pre .1 .0 in
-    (N .labels .triples-held, (place-low N (omega arith) (n .num .ensures .0), omega arith))
+    (N .labels .tuples-held, place-low N (omega arith) (n .num .ensures .0))
 
 sub-rank-2 : tie.Need-sub-rank-2 Inv-loop μ-loop
 sub-rank-2 c =
     let n = c .before .before .before in
     let N = start (n .before .before) .pre .1 .0 in
-    omega (arith, m-some N (place-low N (omega arith) (n .num .ensures .0)) (c .label3 .ensures .0))
+    omega (arith, m-some N (place-low N (omega arith) (n .num .ensures .0)) (c .m-of2 .ensures .0))
 
 loop-less : tie.Need-loop-less Inv-loop μ-loop
 loop-less c =
@@ -76,7 +76,7 @@ loop-less c =
     let l = n .before .before in
     let N = start l .pre .1 .0 in
     walks-less (l .loop .inv) (goes-left N) (n .before .loop-test .taken) (place-was (N .labels) (omega arith) (n .num .ensures .0))
-    (m-was (N .labels .triples-held) _ (place-low N (omega arith) (n .num .ensures .0)) (c .label3 .ensures .0))
+    (m-was (N .labels .tuples-held) _ (place-low N (omega arith) (n .num .ensures .0)) (c .m-of2 .ensures .0))
 
 loop-again : tie.Need-loop-again Inv-loop μ-loop
 loop-again c =
@@ -84,7 +84,7 @@ loop-again c =
     let l = n .before .before in
     let N = start l .pre .1 .0 in
     walks-left (l .loop .inv) (goes-left N) (n .before .loop-test .taken) (place-was (N .labels) (omega arith) (n .num .ensures .0))
-    (m-was (N .labels .triples-held) _ (place-low N (omega arith) (n .num .ensures .0)) (c .label3 .ensures .0))
+    (m-was (N .labels .tuples-held) _ (place-low N (omega arith) (n .num .ensures .0)) (c .m-of2 .ensures .0))
     (told-true (c .before .before .child-in .ensures) (c .before .if1 .left))
 
 returns-2 : tie.Need-returns-2 Inv-loop μ-loop
@@ -92,7 +92,7 @@ returns-2 c =
     let l = c .before in
     let s = start l in
     walks-end (l .loop .inv) (c .loop-test .left)
-    ∙ block-is (s .pre .0) (s .pre .1 .0) (s .pre .1 .1) (l .before .before .label .ensures .0) (l .before .label2 .ensures .0)
+    ∙ block-is (s .pre .0) (s .pre .1 .0) (s .pre .1 .1) (l .before .before .m-of .ensures .0) (l .before .e-of .ensures .0)
 
 pub block-passes-spec : {M : Type 1} → statement M
 block-passes-spec =
@@ -100,16 +100,16 @@ block-passes-spec =
     (tie.spec
     Inv-loop
     μ-loop
-    label-requires
+    m-of-requires
     sub-low
-    label-requires-2
+    e-of-requires
     sub-rank
     loop-holds
     sub-num
     num-requires
     child-in-requires
     returns
-    label-requires-3
+    m-of-requires-2
     sub-rank-2
     loop-less
     loop-again

@@ -10,17 +10,17 @@ use Rattle.sound_blocks.proofs.intervals_pass.Statement.{statement}
 use Rattle.sound_blocks.proofs.intervals_pass.Tie as tie
 
 abbrev Inv-loop : tie.InvT-loop
-Inv-loop starts children triples places w k c p₀ p = Passed (intervalsPass (childrenIn w starts children k c) (labellingIn w triples places k)) k p
+Inv-loop starts children tuples places w z k c p₀ p = Passed (intervalsPass (childrenIn w starts children k c) (labellingIn w z tuples places k)) k p
 
 abbrev μ-loop : tie.MeasureT-loop
-μ-loop starts children triples places w k c p₀ p = k - p
+μ-loop starts children tuples places w z k c p₀ p = k - p
 
 -- where the function starts, from its loop
 abbrev start : tie.At-loop Inv-loop μ-loop → tie.Start Inv-loop μ-loop
 start l = l .before .before .before .before .before
 
 outer-passes-requires : tie.Need-outer-passes-requires Inv-loop μ-loop
-outer-passes-requires c κs = let s = start (c .before) in (record { below = s .pre .0; triples-held = s .pre .1 .labels .triples-held }, omega arith)
+outer-passes-requires c κs = let s = start (c .before) in (record { below = s .pre .0; tuples-held = s .pre .1 .labels .tuples-held }, omega arith)
 
 returns : tie.Need-returns Inv-loop μ-loop
 returns c =

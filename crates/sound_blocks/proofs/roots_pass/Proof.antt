@@ -12,10 +12,10 @@ use Rattle.sound_blocks.proofs.roots_pass.Tie as tie
 use Rattle.stored.specs.Sections.{labellingIn}
 
 abbrev Inv-loop : tie.InvT-loop
-Inv-loop triples places marks w k rank₀ rank = Walks (labellingIn w triples places k) (unmarked marks) k k 0 rank
+Inv-loop tuples places marks w z k rank₀ rank = Walks (labellingIn w z tuples places k) (unmarked marks) k k 0 rank
 
 abbrev μ-loop : tie.MeasureT-loop
-μ-loop triples places marks w k rank₀ rank = rank
+μ-loop tuples places marks w z k rank₀ rank = rank
 
 -- where the function starts, from its loop
 abbrev start : tie.At-loop Inv-loop μ-loop → tie.Start Inv-loop μ-loop
@@ -42,17 +42,17 @@ returns c =
     let N = start l .pre .0 in
     walks-stop (l .loop .inv) (goes-left N) (n .before .loop-test .taken) (place-was (N .labels) (omega arith) (n .num .ensures .0)) (ne-eqb _ _ (c .if1 .taken))
 
-label-requires : tie.Need-label-requires Inv-loop μ-loop
-label-requires c κs =
+m-of-requires : tie.Need-m-of-requires Inv-loop μ-loop
+m-of-requires c κs =
     let n = c .before .before in
     let N = start (n .before .before) .pre .0 in
-    (N .labels .triples-held, (place-low N (omega arith) (n .num .ensures .0), omega arith))
+    (N .labels .tuples-held, place-low N (omega arith) (n .num .ensures .0))
 
 sub-rank : tie.Need-sub-rank Inv-loop μ-loop
 sub-rank c =
     let n = c .before .before .before in
     let N = start (n .before .before) .pre .0 in
-    omega (arith, m-some N (place-low N (omega arith) (n .num .ensures .0)) (c .label .ensures .0))
+    omega (arith, m-some N (place-low N (omega arith) (n .num .ensures .0)) (c .m-of .ensures .0))
 
 loop-less : tie.Need-loop-less Inv-loop μ-loop
 loop-less c =
@@ -60,7 +60,7 @@ loop-less c =
     let l = n .before .before in
     let N = start l .pre .0 in
     walks-less (l .loop .inv) (goes-left N) (n .before .loop-test .taken) (place-was (N .labels) (omega arith) (n .num .ensures .0))
-    (m-was (N .labels .triples-held) _ (place-low N (omega arith) (n .num .ensures .0)) (c .label .ensures .0))
+    (m-was (N .labels .tuples-held) _ (place-low N (omega arith) (n .num .ensures .0)) (c .m-of .ensures .0))
 
 loop-again : tie.Need-loop-again Inv-loop μ-loop
 loop-again c =
@@ -68,7 +68,7 @@ loop-again c =
     let l = n .before .before in
     let N = start l .pre .0 in
     walks-left (l .loop .inv) (goes-left N) (n .before .loop-test .taken) (place-was (N .labels) (omega arith) (n .num .ensures .0))
-    (m-was (N .labels .triples-held) _ (place-low N (omega arith) (n .num .ensures .0)) (c .label .ensures .0)) (eq-eqb _ _ (c .before .if1 .left))
+    (m-was (N .labels .tuples-held) _ (place-low N (omega arith) (n .num .ensures .0)) (c .m-of .ensures .0)) (eq-eqb _ _ (c .before .if1 .left))
 
 returns-2 : tie.Need-returns-2 Inv-loop μ-loop
 returns-2 c = let l = c .before in sym (eq-eqb (l .loop .rank) 0 (omega arith)) ∙ walks-end (l .loop .inv) (c .loop-test .left)
@@ -84,7 +84,7 @@ roots-pass-spec =
     num-requires
     shared-slice-read-if1
     returns
-    label-requires
+    m-of-requires
     sub-rank
     loop-less
     loop-again

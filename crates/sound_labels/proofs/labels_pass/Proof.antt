@@ -16,7 +16,7 @@ ranks-pass-requires c κs = entry c .pre .1 .0
 returns : tie.Need-returns
 returns c =
     and-fails (c .before .ranks-pass .ensures) _ (c .if1 .taken)
-    ∙ labels-is _ _ _ _ _ _ _
+    ∙ labels-is _ _ _ _ _ _ _ _
 
 intervals-pass-requires : tie.Need-intervals-pass-requires
 intervals-pass-requires c κs = let s = entry (c .before .before) in (s .pre .0, ranked-after (s .pre .1 .0) (c .before .ranks-pass .ensures) (c .if1 .left))
@@ -26,7 +26,7 @@ returns-2 c =
     let one = c .before .before in
     and-goes (one .before .ranks-pass .ensures) (one .if1 .left)
     (and-fails (c .before .intervals-pass .ensures) _ (c .if2 .taken))
-    ∙ labels-is _ _ _ _ _ _ _
+    ∙ labels-is _ _ _ _ _ _ _ _
 
 roots-pass-requires : tie.Need-roots-pass-requires
 roots-pass-requires c κs =
@@ -42,7 +42,7 @@ returns-3 c =
     let N = ranked-after (s .pre .1 .0) (one .before .ranks-pass .ensures) (one .if1 .left) in
     and-goes (one .before .ranks-pass .ensures) (one .if1 .left)
     (and-goes (two .before .intervals-pass .ensures) (two .if2 .left) (c .roots-pass .ensures ∙ roots-are N (s .pre .1 .1)))
-    ∙ labels-is _ _ _ _ _ _ _
+    ∙ labels-is _ _ _ _ _ _ _ _
 
 pub labels-pass-spec : {M : Type 1} → statement M
 labels-pass-spec =

@@ -1,35 +1,30 @@
--- `sound_labels::labels_sound` meets its contract. Marks cleared and then set at every child entry tell who is nobody's child; cleared again, nothing of
--- that is left.
-use native.Mathlib.Omega.{arith}
+-- `sound_labels::labels_sound` meets its contract. Marks cleared and then told of every child entry tell who is nobody's child, and whether one is a child of two others;
+-- cleared again, nothing of that is left.
+use mathlib.Core.Bool.{_&&_}
+use mathlib.Core.Path.{ap₂, _∙_}
 use borrow.Author.Needs.{needs}
-use Rattle.sound_labels.proofs.Nobody.{entry-low, tells, told-cleared}
+use Rattle.sound_parents.proofs.Nobody.{entry-low, tells, told-cleared}
+use Rattle.sound_parents.proofs.Parents.{single-is}
 use Rattle.sound_labels.proofs.labels_sound.Statement.{statement}
 use Rattle.sound_labels.proofs.labels_sound.Tie as tie
 
--- where the marks are cleared at first, from where the children are to be marked; and where the function starts
-abbrev clearing : tie.After-mark-children-arg → tie.After-clear-marks
-clearing c = c .before .before .before
-
-abbrev entry : tie.After-clear-marks → tie.Start
+-- where the function starts, from where the children are told
+abbrev entry : tie.After-parents-pass → tie.Start
 entry c = c .before .before .before .before .before .before
 
-clear-marks-requires : tie.Need-clear-marks-requires
-clear-marks-requires c κs = search needs
-
-mark-children-requires : tie.Need-mark-children-requires
-mark-children-requires c κs =
-    let P = entry (clearing c) .pre .0 in
-    record { held = P .entries .held; low = λ j h. omega (arith, entry-low P j h) }
+parents-pass-requires : tie.Need-parents-pass-requires
+parents-pass-requires c κs =
+    let s = c .before .before .before .before .before in
+    (record { held = s .pre .0 .entries .held; low = entry-low (s .pre .0) }, s .pre .1 .1)
 
 labellings-pass-requires : tie.Need-labellings-pass-requires
 labellings-pass-requires c κs =
     let m = c .before .before .before in
-    let cleared = clearing (m .before) in
-    let s = entry cleared in
-    (s .pre .0, (s .pre .1 .0, tells (s .pre .0) _ (s .pre .1 .1 .0) (s .pre .1 .1 .1) (cleared .clear-marks .ensures) (m .mark-children .ensures)))
+    let s = entry m in
+    (s .pre .0, (s .pre .1 .0, tells (s .pre .0) (s .args .z) (s .args .marks .now) (s .pre .1 .1 .0) (s .pre .1 .1 .1) (m .parents-pass .ensures .1)))
 
-clear-marks-requires-2 : tie.Need-clear-marks-requires-2
-clear-marks-requires-2 c κs = search needs
+clear-marks-requires : tie.Need-clear-marks-requires
+clear-marks-requires c κs = search needs
 
 same-length : tie.Need-same-length
 same-length c = search needs
@@ -39,19 +34,17 @@ returns c =
     let last = c .before .before in
     let t = last .before .before in
     let m = t .before .before .before .before in
-    let cleared = clearing (m .before) in
-    let s = entry cleared in (
-      t .labellings-pass .ensures,
-      told-cleared (s .pre .0) _ (s .pre .1 .1 .0) (s .pre .1 .1 .1) (cleared .clear-marks .ensures) (m .mark-children .ensures) (last .clear-marks2 .ensures),
+    let s = entry m in (
+      ap₂ _&&_ (t .labellings-pass .ensures) (m .parents-pass .ensures .0 ∙ single-is (s .pre .0) (s .args .z)),
+      told-cleared (s .pre .0) (s .args .z) (s .args .marks .now) (s .pre .1 .1 .0) (s .pre .1 .1 .1) (m .parents-pass .ensures .1) (last .clear-marks .ensures),
     )
 
 pub labels-sound-spec : {M : Type 1} → statement M
 labels-sound-spec =
     tie.close
     (tie.spec
-    clear-marks-requires
-    mark-children-requires
+    parents-pass-requires
     labellings-pass-requires
-    clear-marks-requires-2
+    clear-marks-requires
     same-length
     returns)

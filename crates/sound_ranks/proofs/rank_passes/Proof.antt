@@ -11,17 +11,17 @@ num-requires c κs = can-read (c .before .before .pre .0 .places-held) (c .befor
 returns : tie.Need-returns
 returns c = let s = c .before .before .before .before in rank-beyond (s .pre .0) (s .pre .1) (c .before .num .ensures .0) (c .if1 .taken)
 
-label-requires : tie.Need-label-requires
-label-requires c κs = (c .before .before .before .before .pre .0 .triples-held, omega arith)
+m-of-requires : tie.Need-m-of-requires
+m-of-requires c κs = (c .before .before .before .before .pre .0 .tuples-held, omega arith)
 
-label-requires-2 : tie.Need-label-requires-2
-label-requires-2 c κs = (c .before .before .before .before .before .pre .0 .triples-held, omega arith)
+e-of-requires : tie.Need-e-of-requires
+e-of-requires c κs = (c .before .before .before .before .before .pre .0 .tuples-held, omega arith)
 
 returns-2 : tie.Need-returns-2
 returns-2 c =
     let left = c .before .before in
     let s = left .before .before .before .before in
-    rank-is (s .pre .0) (s .pre .1) (left .before .num .ensures .0) (left .if1 .left) (c .before .label .ensures .0) (c .label2 .ensures .0)
+    rank-is (s .pre .0) (s .pre .1) (left .before .num .ensures .0) (left .if1 .left) (c .before .m-of .ensures .0) (c .e-of .ensures .0)
 
 pub rank-passes-spec : {M : Type 1} → statement M
-rank-passes-spec = tie.close (tie.spec num-requires returns label-requires label-requires-2 (λ c. omega arith) returns-2)
+rank-passes-spec = tie.close (tie.spec num-requires returns m-of-requires e-of-requires (λ c. omega arith) returns-2)

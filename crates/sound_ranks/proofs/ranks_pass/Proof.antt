@@ -8,10 +8,10 @@ use Rattle.sound_ranks.proofs.ranks_pass.Statement.{statement}
 use Rattle.sound_ranks.proofs.ranks_pass.Tie as tie
 
 abbrev Inv-loop : tie.InvT-loop
-Inv-loop triples places w k r₀ passed₀ r passed = Told (rankAndInner k (labellingIn w triples places k)) k r passed
+Inv-loop tuples places w z k r₀ passed₀ r passed = Told (rankAndInner k (labellingIn w z tuples places k)) k r passed
 
 abbrev μ-loop : tie.MeasureT-loop
-μ-loop triples places w k r₀ passed₀ r passed = k - r
+μ-loop tuples places w z k r₀ passed₀ r passed = k - r
 
 rank-passes-requires : tie.Need-rank-passes-requires Inv-loop μ-loop
 rank-passes-requires c κs = (c .before .before .before .before .pre, c .loop-test .taken)

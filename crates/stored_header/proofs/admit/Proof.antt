@@ -12,7 +12,7 @@ use Rattle.lineage.specs.Calls.{FormsTaken, formsTaken, takes}
 use Rattle.stored_header.specs.declared.Row.{Row}
 use Rattle.stored_header.specs.Header.{counts, offsetsAgree}
 use Rattle.stored_header.proofs.Laid.{fit-bounds, laid-bounds}
-use Rattle.stored_header.proofs.Checked.{Read, width-in, header-short, header-untaken, header-counts, header-offsets, marks-short, words-short, header-passes}
+use Rattle.stored_header.proofs.Checked.{Read, width-in, stride-in, header-short, header-untaken, header-counts, header-offsets, marks-short, words-short, header-passes}
 use Rattle.stored_header.proofs.admit.Statement.{statement}
 use Rattle.stored_header.proofs.admit.Tie as tie
 
@@ -109,7 +109,7 @@ lay-out-requires : tie.Need-lay-out-requires
 lay-out-requires c κs =
     let r = c .before .before in
     let B = fit-bounds (form r) _ (fit c) in
-    (width-in (read r) (B .width), (B .vertices, (B .groups, (B .entries, B .most))))
+    (width-in (read r) (B .width), (stride-in (read r) (B .stride), (B .vertices, (B .groups, (B .entries, B .most)))))
 
 offsets-fit-requires : tie.Need-offsets-fit-requires
 offsets-fit-requires c κs = search needs

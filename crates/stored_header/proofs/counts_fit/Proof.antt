@@ -9,8 +9,8 @@ form-row-requires c κs = search needs
 
 returns : tie.Need-returns
 returns c =
-    let a = c .before .before .before .args in
-    fit-by _ (a .form) (a .n) (a .k) (a .c) (a .d) (c .before .before .form-row .ensures)
+    let a = c .before .before .before .before .args in
+    fit-by _ (a .form) (a .n) (a .k) (a .c) (a .d) (c .before .before .before .form-row .ensures)
 
 pub counts-fit-spec : {M : Type 1} → statement M
 counts-fit-spec = tie.close (tie.spec form-row-requires returns)

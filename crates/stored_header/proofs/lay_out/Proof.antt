@@ -48,7 +48,7 @@ add-total c = search needs
 
 returns : tie.Need-returns
 returns c =
-    laid-by _ _ _ _ _ _ _ _ _ _ _ _
+    laid-by _ _ _ _ _ _ _ _ _ _ _ _ _
     (c .before .before .before .before .before .before .bytes-of .ensures .0)
     (c .before .before .before .before .before .bytes-of2 .ensures .0)
     (c .before .before .before .before .bytes-of3 .ensures .0)

@@ -17,25 +17,25 @@ entry c = c .before .before .before .before .before .before .before .before
 num-requires : tie.Need-num-requires
 num-requires c κs =
     let s = entry c in
-    let S = s .pre .0 in
+    let S = s .pre .0 .lent in
     (S .width, room _ _ _ _ (s .pre .1 .0) (omega (arith, S .names-long)))
 
 place-of-requires : tie.Need-place-of-requires
 place-of-requires c κs =
     let s = entry (c .before) in
-    let S = s .pre .0 in
+    let S = s .pre .0 .lent in
     (S .width, ((omega (arith, S .groups-long), S .groups-few), (list-rises S, (list-low S, name-listed S (s .pre .1 .0) (c .num .ensures .0)))))
 
 num-requires-2 : tie.Need-num-requires-2
 num-requires-2 c κs =
     let s = entry (c .before .before) in
-    let S = s .pre .0 in
+    let S = s .pre .0 .lent in
     (S .width, room _ _ _ _ (s .pre .1 .1 .0) (omega (arith, S .names-long)))
 
 place-of-requires-2 : tie.Need-place-of-requires-2
 place-of-requires-2 c κs =
     let s = entry (c .before .before .before) in
-    let S = s .pre .0 in
+    let S = s .pre .0 .lent in
     (S .width, ((omega (arith, S .groups-long), S .groups-few), (list-rises S, (list-low S, name-listed S (s .pre .1 .1 .0) (c .num2 .ensures .0)))))
 
 decide-requires : tie.Need-decide-requires
@@ -43,11 +43,11 @@ decide-requires c κs =
     let t = c .before .before in
     let x = t .before .before in
     let s = entry (x .before .before) in
-    let S = s .pre .0 in
+    let S = s .pre .0 .lent in
     let long = s .pre .1 .1 .1 .0 in
     let x-low = vertex-low S (s .pre .1 .0) (x .before .num .ensures .0) (x .place-of .ensures) in
     let t-low = vertex-low S (s .pre .1 .1 .0) (t .before .num2 .ensures .0) (t .place-of2 .ensures) in
-    (fit-marks S (s .args .marks .now) long _ t-low, (x-low, (marks-few S (s .args .marks .now) long, (s .pre .1 .1 .1 .1 .0, rw long (s .pre .1 .1 .1 .1 .1)))))
+    (fit-marks (s .pre .0) (s .args .marks .now) long _ t-low, (x-low, (marks-few (s .pre .0) (s .args .marks .now) long, (s .pre .1 .1 .1 .1 .0, rw long (s .pre .1 .1 .1 .1 .1)))))
 
 same-length : tie.Need-same-length
 same-length c = search needs
@@ -61,9 +61,9 @@ returns c =
     let t = a .before .before .before in
     let x = t .before .before in
     let s = entry (x .before .before) in
-    let S = s .pre .0 in (
+    let S = s .pre .0 .lent in (
       a .decide .ensures .0
-          ∙ question-is S _ _ _ _ _
+          ∙ question-is (s .pre .0) _ _ _ _ _
           (vertex-placed S (s .pre .1 .0) (x .before .num .ensures .0) (x .place-of .ensures))
           (vertex-placed S (s .pre .1 .1 .0) (t .before .num2 .ensures .0) (t .place-of2 .ensures))
           (seen-new _ _ (s .pre .1 .1 .1 .1 .0) ∙ ap (λ (z : ℕ). replicate z 0) (s .pre .1 .1 .1 .0)),

@@ -1,8 +1,8 @@
--- `stored::parts::by_rank` meets its contract: the places by rank stand behind the triples of their labelling.
+-- `stored::parts::by_rank` meets its contract: the places by rank stand behind the numbers by place of their labelling.
 use native.Mathlib.Omega.{arith}
 use borrow.Author.Needs.{needs}
 use Rattle.numbers.proofs.Numbers.{part-from}
-use Rattle.stored.proofs.Held.{labelling-fits}
+use Rattle.stored.proofs.Held.{tuples-few, labelling-fits}
 use Rattle.stored.proofs.parts.by_rank.Statement.{statement}
 use Rattle.stored.proofs.parts.by_rank.Tie as tie
 
@@ -10,15 +10,15 @@ label-count-requires : tie.Need-label-count-requires
 label-count-requires c κs = search needs
 
 mul-numbers-from : tie.Need-mul-numbers-from
-mul-numbers-from c = search needs
+mul-numbers-from c = omega (arith, tuples-few (c .before .before .pre .0))
 
 add-numbers-from : tie.Need-add-numbers-from
-add-numbers-from c = search needs
+add-numbers-from c = omega (arith, tuples-few (c .before .before .pre .0), c .label-count .ensures .1)
 
 numbers-from-requires : tie.Need-numbers-from-requires
 numbers-from-requires c κs =
     let s = c .before .before in
-    (s .pre .0 .width, labelling-fits (s .pre .0) _ _ _ (s .pre .1) (omega (arith, c .label-count .ensures .0)))
+    (s .pre .0 .width, labelling-fits (s .pre .0) _ _ _ (s .pre .1) (omega (arith, c .label-count .ensures .0, tuples-few (s .pre .0))))
 
 returns : tie.Need-returns
 returns c = part-from _ _ _ _ _ _ (omega (arith, c .before .label-count .ensures .0)) (c .numbers-from .ensures)
