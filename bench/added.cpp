@@ -1,4 +1,4 @@
-// Measures questions over an index and the edges added beside it, beside a plain C++ search over both lists. All answers are compared: the first difference ends it with an
+// Measures questions over an index and the drobisten_added added beside it, beside a plain C++ search over both lists. All answers are compared: the first difference ends it with an
 // error.
 //
 //     added all | quick
@@ -8,18 +8,12 @@
 // Climbing edges each open the next one from below, and are added the other way round, so that a round over them finds one: the worst that there is.
 #include "measure.hpp"
 #include "peers.hpp"
+#include <drobisten.h>
 #include <pthread.h>
 
 extern "C" {
-struct edges {
-    uint32_t sources[256], targets[256], count;
-};
-struct over {
-    uint32_t refusal, extra, yes;
-};
-over trial_ask_added(const uint8_t *index, size_t index_len, uint8_t *marks, size_t marks_len, uint32_t *work, size_t work_len, edges added, uint32_t source, uint32_t target);
-// the same in a copy whose check of the contents says yes and does nothing (bench/run makes it)
-over unchecked_ask_added(const uint8_t *index, size_t index_len, uint8_t *marks, size_t marks_len, uint32_t *work, size_t work_len, edges added, uint32_t source, uint32_t target);
+// drobisten_ask_added in a copy whose check of the contents says yes and does nothing (bench/run makes it)
+drobisten_said unchecked_ask_added(const uint8_t *index, size_t index_len, uint8_t *marks, size_t marks_len, uint32_t *work, size_t work_len, drobisten_added added, uint32_t source, uint32_t target);
 }
 
 // Breadth-first search over the edges of a graph and the added ones, which are hung at their sources for each question.
@@ -33,7 +27,7 @@ struct Both {
         next.resize(256);
     }
 
-    bool reaches(const edges &added, uint32_t u, uint32_t v) {
+    bool reaches(const drobisten_added &added, uint32_t u, uint32_t v) {
         for (uint32_t i = 0; i < added.count; i++) next[i] = head[added.sources[i]], head[added.sources[i]] = i;
         bool yes = u == v || found(added, u, v);
         for (uint32_t i = 0; i < added.count; i++) head[added.sources[i]] = -1;
@@ -41,7 +35,7 @@ struct Both {
     }
 
   private:
-    bool found(const edges &added, int u, int v) {
+    bool found(const drobisten_added &added, int u, int v) {
         Ints &queue = search.queue, &stamp = search.stamp;
         int first = 0, last = 0, now = ++search.now;
         auto meet = [&](int y) {
@@ -61,7 +55,7 @@ struct Both {
 };
 
 // How many sweeps a question makes: one, and one more for each round over the added edges in which one leads out.
-static int sweeps(const Groups &g, const edges &added, uint32_t u, uint32_t v) {
+static int sweeps(const Groups &g, const drobisten_added &added, uint32_t u, uint32_t v) {
     Ints marked(g.k), stack;
     auto mark = [&](int p) {
         if (!marked[p]) marked[p] = 1, stack.push_back(p);
@@ -81,7 +75,7 @@ static int sweeps(const Groups &g, const edges &added, uint32_t u, uint32_t v) {
 }
 
 struct Questions {
-    edges added;
+    drobisten_added added;
     Numbers sources, targets;
 };
 
@@ -121,13 +115,13 @@ template <class Number> static void ask(Where w, const Grail &grail, const Bytes
             for (size_t i = 0; i < count; i++) sink = question(i);
         };
     };
-    measure(w, count, {{"ours", all([&](size_t i) { return by(trial_ask_added, i).yes; })},
+    measure(w, count, {{"ours", all([&](size_t i) { return by(drobisten_ask_added, i).yes; })},
                        {"check", all([&](size_t i) { return Stored<Number>(index.data()).sound(scratch) && search(i); })},
                        {"alone", all([&](size_t i) { return alone(i).yes; })},
                        {"search", all(search)}});
     double made = 0;
     for (size_t i = 0; i < count; i++) {
-        over a = by(trial_ask_added, i), b = alone(i);
+        drobisten_said a = by(drobisten_ask_added, i), b = alone(i);
         must(a.refusal == 0 && b.refusal == 0 && a.yes == b.yes, "the copy without the check answers otherwise");
         must(search(i) == (a.yes == 1), "the search answers otherwise");
         made += sweeps(grail.groups, q.added, q.sources[i], q.targets[i]);

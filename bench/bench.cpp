@@ -11,11 +11,6 @@
 #include <map>
 
 extern "C" {
-struct counted {
-    uint32_t refusal, extra, count;
-};
-__attribute__((weak)) counted trial_build(const uint32_t *sources, size_t sources_len, const uint32_t *targets, size_t targets_len, const uint32_t *orders, size_t orders_len,
-                                          uint32_t *work, size_t work_len, uint8_t *out, size_t out_len, uint32_t form, uint32_t n, uint32_t d);
 // the library's own drobisten_ask_all and drobisten_ask, in a copy whose check of the contents says yes and does nothing (bench/run makes it)
 drobisten_asked_all unchecked_ask_all(const uint8_t *index, size_t index_len, uint8_t *marks, size_t marks_len, const uint32_t *sources, size_t sources_len,
                                       const uint32_t *targets, size_t targets_len, uint32_t *answers, size_t answers_len);
@@ -53,7 +48,7 @@ static void build(Where w, Cases &cases, const Numbers &orders) {
     auto ours = [&](const Case &c) {
         const Numbers &from = c.graph.from, &to = c.graph.to;
         size_t needed = 16 * n + 4 * from.size() + 64;
-        counted r = trial_build(from.data(), from.size(), to.data(), to.size(), orders.data(), orders.size(), work.data(), needed, out.data(), out.size(), 1, n, w.d);
+        drobisten_counted r = drobisten_build(from.data(), from.size(), to.data(), to.size(), orders.data(), orders.size(), work.data(), needed, out.data(), out.size(), 1, n, w.d);
         must(r.refusal == 0, "a build is refused");
         return r.count;
     };

@@ -6,16 +6,12 @@
 // prints the figures (measure.hpp) of one conversion with its check, and without it, at 4,096 vertices, the most of form 1.
 #include "measure.hpp"
 #include "peers.hpp"
+#include <drobisten.h>
 
 extern "C" {
-struct counted {
-    uint32_t refusal, extra, count;
-};
-counted trial_convert_up(const uint8_t *index, size_t index_len, uint8_t *marks, size_t marks_len, uint8_t *out, size_t out_len);
-counted trial_convert_down(const uint8_t *index, size_t index_len, uint8_t *marks, size_t marks_len, uint32_t *work, size_t work_len, uint8_t *out, size_t out_len);
-// the same in a copy whose check of the contents says yes and does nothing (bench/run makes it)
-counted unchecked_convert_up(const uint8_t *index, size_t index_len, uint8_t *marks, size_t marks_len, uint8_t *out, size_t out_len);
-counted unchecked_convert_down(const uint8_t *index, size_t index_len, uint8_t *marks, size_t marks_len, uint32_t *work, size_t work_len, uint8_t *out, size_t out_len);
+// drobisten_convert_up and drobisten_convert_down in a copy whose check of the contents says yes and does nothing (bench/run makes it)
+drobisten_counted unchecked_convert_up(const uint8_t *index, size_t index_len, uint8_t *marks, size_t marks_len, uint8_t *out, size_t out_len);
+drobisten_counted unchecked_convert_down(const uint8_t *index, size_t index_len, uint8_t *marks, size_t marks_len, uint32_t *work, size_t work_len, uint8_t *out, size_t out_len);
 }
 
 // An index of one width written in the other, unchecked: the header, then number after number.
@@ -58,11 +54,11 @@ static void *measure_all(void *) {
             };
             auto check = [&](bool sound) { must(sound, "the peer refuses an index"); };
             Where w{"convert", kind.c_str(), n, d, "up"};
-            measure(w, 1, {{"ours", up(trial_convert_up)}, {"check", [&] { check(Stored<uint16_t>(one.data()).sound(scratch)), plain<uint16_t, uint32_t>(one, 2, theirs); }},
+            measure(w, 1, {{"ours", up(drobisten_convert_up)}, {"check", [&] { check(Stored<uint16_t>(one.data()).sound(scratch)), plain<uint16_t, uint32_t>(one, 2, theirs); }},
                            {"alone", up(unchecked_convert_up)}, {"plain", [&] { plain<uint16_t, uint32_t>(one, 2, theirs); }}, {"copy", copy}});
             must(wide == two && theirs == two, "another form 2 is written");
             w.pairs = "down";
-            measure(w, 1, {{"ours", down(trial_convert_down)}, {"check", [&] { check(Stored<uint32_t>(two.data()).sound(scratch)), plain<uint32_t, uint16_t>(two, 1, theirs); }},
+            measure(w, 1, {{"ours", down(drobisten_convert_down)}, {"check", [&] { check(Stored<uint32_t>(two.data()).sound(scratch)), plain<uint32_t, uint16_t>(two, 1, theirs); }},
                            {"alone", down(unchecked_convert_down)}, {"plain", [&] { plain<uint32_t, uint16_t>(two, 1, theirs); }}, {"copy", copy}});
             must(narrow == one, "another form 1 is written");
         }

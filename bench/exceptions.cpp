@@ -10,22 +10,10 @@
 #include <drobisten.h>
 
 extern "C" {
-struct lists_opened {
-    uint32_t refusal, extra, groups, entries;
-};
-struct counted {
-    uint32_t refusal, extra, count;
-};
-counted trial_build_exceptions(const uint8_t *index, size_t index_len, uint8_t *marks, size_t marks_len, uint8_t *out, size_t out_len);
-lists_opened trial_open_exceptions(const uint8_t *index, size_t index_len, const uint8_t *lists, size_t lists_len, uint8_t *marks, size_t marks_len);
-counted trial_ask_exceptions(const uint8_t *index, size_t index_len, const uint8_t *lists, size_t lists_len, uint8_t *marks, size_t marks_len, uint32_t source,
-                             uint32_t target);
-drobisten_asked_all trial_ask_all_exceptions(const uint8_t *index, size_t index_len, const uint8_t *lists, size_t lists_len, uint8_t *marks, size_t marks_len,
-                                             const uint32_t *sources, size_t sources_len, const uint32_t *targets, size_t targets_len, uint32_t *answers, size_t answers_len);
-// the same with the checks cut, and the call for all pairs by the walk
+// drobisten_ask_all_exceptions with the checks cut, and drobisten_batch, all pairs by the walk
 drobisten_asked_all unchecked_ask_all_exceptions(const uint8_t *index, size_t index_len, const uint8_t *lists, size_t lists_len, uint8_t *marks, size_t marks_len,
                                                  const uint32_t *sources, size_t sources_len, const uint32_t *targets, size_t targets_len, uint32_t *answers, size_t answers_len);
-drobisten_asked_all unchecked_ask_all(const uint8_t *index, size_t index_len, uint8_t *marks, size_t marks_len, uint32_t *work, size_t work_len, const uint32_t *sources,
+drobisten_asked_all unchecked_batch(const uint8_t *index, size_t index_len, uint8_t *marks, size_t marks_len, uint32_t *work, size_t work_len, const uint32_t *sources,
                                       size_t sources_len, const uint32_t *targets, size_t targets_len, uint32_t *answers, size_t answers_len);
 }
 
@@ -90,10 +78,10 @@ static void lists(Where w, Case &c) {
     theirs.build(c.grail);
     c.lists.assign(4 * theirs.numbers.size(), 0);
     auto ours = [&] {
-        counted r = trial_build_exceptions(c.index.data(), c.index.size(), c.marks.data(), w.n, c.lists.data(), c.lists.size());
+        drobisten_counted r = drobisten_build_exceptions(c.index.data(), c.index.size(), c.marks.data(), w.n, c.lists.data(), c.lists.size());
         must(r.refusal == 0 && r.count == c.lists.size(), "building lists is refused");
     };
-    auto open = [&] { must(trial_open_exceptions(c.index.data(), c.index.size(), c.lists.data(), c.lists.size(), c.marks.data(), w.n).refusal == 0, "lists are refused"); };
+    auto open = [&] { must(drobisten_open_exceptions(c.index.data(), c.index.size(), c.lists.data(), c.lists.size(), c.marks.data(), w.n).refusal == 0, "lists are refused"); };
     auto bare = [&] { must(drobisten_open(c.index.data(), c.index.size(), c.marks.data(), w.n).refusal == 0, "an index is refused"); };
     w.measure = "lists", w.pairs = "-";
     measure(w, 1, {{"ours", ours}, {"peer", [&] { theirs.build(c.grail); }}, {"open", open}, {"index", bare}});
@@ -104,7 +92,7 @@ static void lists(Where w, Case &c) {
     for (int i = 0; i < 20; i++) {
         Bytes bad = c.lists;
         bad[i * 37 % bad.size()] ^= 1 << i % 8;
-        must(trial_open_exceptions(c.index.data(), c.index.size(), bad.data(), bad.size(), c.marks.data(), w.n).refusal == 20, "damaged lists are taken");
+        must(drobisten_open_exceptions(c.index.data(), c.index.size(), bad.data(), bad.size(), c.marks.data(), w.n).refusal == 20, "damaged lists are taken");
     }
 }
 
@@ -118,17 +106,17 @@ static void pairs(Where w, Case &c, const Numbers &sources, const Numbers &targe
     };
     auto by_walk = [&] {
         std::fill(c.marks.begin(), c.marks.end(), 0);
-        sink = unchecked_ask_all(c.index.data(), c.index.size(), c.marks.data(), w.n, nullptr, 0, sources.data(), count, targets.data(), count, six.data(), six.size()).count;
+        sink = unchecked_batch(c.index.data(), c.index.size(), c.marks.data(), w.n, nullptr, 0, sources.data(), count, targets.data(), count, six.data(), six.size()).count;
     };
     w.measure = "pairs";
     measure(w, count, {{"lists", by_lists}, {"walk", by_walk}});
-    drobisten_asked_all whole = trial_ask_all_exceptions(c.index.data(), c.index.size(), c.lists.data(), c.lists.size(), c.marks.data(), w.n, sources.data(), count, targets.data(),
+    drobisten_asked_all whole = drobisten_ask_all_exceptions(c.index.data(), c.index.size(), c.lists.data(), c.lists.size(), c.marks.data(), w.n, sources.data(), count, targets.data(),
                                                          count, checked.data(), checked.size());
     must(whole.refusal == 0 && checked == three, "the call answers otherwise with its checks");
     for (size_t i = 0; i < count; i++) must(three[3 * i] == 0 && three[3 * i + 2] == six[6 * i + 2], "the lists answer otherwise than the walk");
     for (size_t i = 0; i < 3; i++) {
-        counted one = trial_ask_exceptions(c.index.data(), c.index.size(), c.lists.data(), c.lists.size(), c.marks.data(), w.n, sources[i], targets[i]);
-        must(one.refusal == 0 && one.count == three[3 * i + 2], "a single question by the lists is answered otherwise");
+        drobisten_said one = drobisten_ask_exceptions(c.index.data(), c.index.size(), c.lists.data(), c.lists.size(), c.marks.data(), w.n, sources[i], targets[i]);
+        must(one.refusal == 0 && one.yes == three[3 * i + 2], "a single question by the lists is answered otherwise");
     }
 }
 

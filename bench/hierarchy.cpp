@@ -10,15 +10,10 @@
 #include <drobisten.h>
 
 extern "C" {
-struct counted {
-    uint32_t refusal, extra, count;
-};
-drobisten_asked trial_ask(const uint8_t *index, size_t index_len, uint8_t *marks, size_t marks_len, uint32_t *work, size_t work_len, uint32_t source, uint32_t target);
-drobisten_asked trial_ask_hierarchy(const uint8_t *index, size_t index_len, uint8_t *marks, size_t marks_len, uint32_t *work, size_t work_len, uint32_t source, uint32_t target);
-counted trial_to_hierarchy(const uint8_t *index, size_t index_len, uint8_t *marks, size_t marks_len, uint32_t *work, size_t work_len, uint8_t *out, size_t out_len);
-// the same two in a copy that neither checks the contents nor clears words (bench/run makes it)
-drobisten_asked unchecked_ask(const uint8_t *index, size_t index_len, uint8_t *marks, size_t marks_len, uint32_t *work, size_t work_len, uint32_t source, uint32_t target);
-drobisten_asked unchecked_ask_hierarchy(const uint8_t *index, size_t index_len, uint8_t *marks, size_t marks_len, uint32_t *work, size_t work_len, uint32_t source, uint32_t target);
+// drobisten_question and drobisten_question_hierarchy in a copy that neither checks the contents nor clears words (bench/run)
+drobisten_asked unchecked_question(const uint8_t *index, size_t index_len, uint8_t *marks, size_t marks_len, uint32_t *work, size_t work_len, uint32_t source, uint32_t target);
+drobisten_asked unchecked_question_hierarchy(const uint8_t *index, size_t index_len, uint8_t *marks, size_t marks_len, uint32_t *work, size_t work_len, uint32_t source,
+                                             uint32_t target);
 // what that copy calls to clear words; no question on a hierarchy leaves a mark or a word, so nothing is to be cleared
 void *unchecked_memset(void *at, int, size_t) { return at; }
 }
@@ -64,7 +59,7 @@ int main(int words, char **word) {
             const Bytes two = stored_form(grail, 2);
             Bytes marks(n), four(two.size());
             Numbers work(16 * n + 4 * grail.groups.children.item.size() + 64);
-            counted turned = trial_to_hierarchy(two.data(), two.size(), marks.data(), n, work.data(), work.size(), four.data(), four.size());
+            drobisten_counted turned = drobisten_to_hierarchy(two.data(), two.size(), marks.data(), n, work.data(), work.size(), four.data(), four.size());
             must(turned.refusal == 0, "a hierarchy is refused");
             four.resize(turned.count);
             Where w{"size", kind, n, 1, "-"};
@@ -98,18 +93,18 @@ int main(int words, char **word) {
                 };
                 for (uint32_t i = 0; i < count; i++) {
                     std::fill(marks.begin(), marks.end(), 0);
-                    auto a = unchecked_ask(two.data(), two.size(), marks.data(), n, work.data(), work.size(), sources[i], targets[i]);
-                    auto b = unchecked_ask_hierarchy(four.data(), four.size(), marks.data(), n, work.data(), work.size(), sources[i], targets[i]);
+                    auto a = unchecked_question(two.data(), two.size(), marks.data(), n, work.data(), work.size(), sources[i], targets[i]);
+                    auto b = unchecked_question_hierarchy(four.data(), four.size(), marks.data(), n, work.data(), work.size(), sources[i], targets[i]);
                     must(a.refusal == 0 && b.refusal == 0 && a.yes == b.yes && a.reason == b.reason && a.opened == 0 && b.opened == 0 && a.labelling == b.labelling, "the forms answer differently");
                     must(b.yes == plain.reaches(sources[i], targets[i]), "the peer answers differently");
                 }
                 w = Where{"loop", kind, n, 1, pairs};
-                measure(w, count, {{"two", loop(unchecked_ask, two)}, {"four", loop(unchecked_ask_hierarchy, four)}, {"plain", test}});
+                measure(w, count, {{"two", loop(unchecked_question, two)}, {"four", loop(unchecked_question_hierarchy, four)}, {"plain", test}});
                 w.measure = "whole";
                 auto once = [&](auto call, const Bytes &index) {
                     return [&, call] { sink = call(index.data(), index.size(), marks.data(), n, work.data(), work.size(), sources[0], targets[0]).yes; };
                 };
-                measure(w, 1, {{"two", once(trial_ask, two)}, {"four", once(trial_ask_hierarchy, four)}});
+                measure(w, 1, {{"two", once(drobisten_question, two)}, {"four", once(drobisten_question_hierarchy, four)}});
             }
         }
 }

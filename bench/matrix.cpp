@@ -8,17 +8,8 @@
 #include "measure.hpp"
 #include <charconv>
 #include <cstring>
+#include <drobisten.h>
 #include <string>
-
-extern "C" {
-struct edges_of {
-    uint32_t refusal;
-    size_t extra;
-    uint32_t n;
-    size_t edges;
-};
-edges_of trial_read_matrix(const uint8_t *text, size_t text_len, uint32_t *sources, size_t sources_len, uint32_t *targets, size_t targets_len);
-}
 
 static const std::string HEADER = "%%MatrixMarket matrix coordinate pattern general\n";
 
@@ -95,7 +86,7 @@ int main(int words, char **word) {
         for (uint32_t i = 0; i < edges; i++) text += std::to_string(chance.below(n) + 1) + " " + std::to_string(chance.below(n) + 1) + "\n";
         Numbers sources(edges), targets(edges), us(edges), vs(edges), ks(edges), ls(edges);
         auto ours = [&] {
-            edges_of r = trial_read_matrix((const uint8_t *)text.data(), text.size(), sources.data(), edges, targets.data(), edges);
+            drobisten_matrix r = drobisten_read_matrix((const uint8_t *)text.data(), text.size(), sources.data(), edges, targets.data(), edges);
             must(r.refusal == 0 && r.n == n && r.edges == edges, "a text is refused");
         };
         Where w{"matrix", "read", n, 1, "entries"};

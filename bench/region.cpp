@@ -14,20 +14,10 @@
 #include <new>
 
 extern "C" {
-struct counted {
-    uint32_t refusal, extra, count;
-};
-counted trial_build(const uint32_t *sources, size_t sources_len, const uint32_t *targets, size_t targets_len, const uint32_t *orders, size_t orders_len, uint32_t *work,
-                    size_t work_len, uint8_t *out, size_t out_len, uint32_t form, uint32_t n, uint32_t d);
-drobisten_opened trial_open(const uint8_t *index, size_t index_len, uint8_t *marks, size_t marks_len, uint32_t *work, size_t work_len);
-drobisten_asked trial_ask(const uint8_t *index, size_t index_len, uint8_t *marks, size_t marks_len, uint32_t *work, size_t work_len, uint32_t source, uint32_t target);
-drobisten_asked_all trial_ask_all(const uint8_t *index, size_t index_len, uint8_t *marks, size_t marks_len, uint32_t *work, size_t work_len, const uint32_t *sources,
-                                  size_t sources_len, const uint32_t *targets, size_t targets_len, uint32_t *answers, size_t answers_len);
-counted trial_list(const uint8_t *index, size_t index_len, uint8_t *marks, size_t marks_len, uint32_t *work, size_t work_len, uint32_t *out, size_t out_len, uint32_t vertex);
-// the same two in a copy whose check of the contents says yes and does nothing (bench/run makes it)
-drobisten_asked_all unchecked_ask_all(const uint8_t *index, size_t index_len, uint8_t *marks, size_t marks_len, uint32_t *work, size_t work_len, const uint32_t *sources,
+// drobisten_batch and drobisten_list in a copy whose check of the contents says yes and does nothing (bench/run makes it)
+drobisten_asked_all unchecked_batch(const uint8_t *index, size_t index_len, uint8_t *marks, size_t marks_len, uint32_t *work, size_t work_len, const uint32_t *sources,
                                       size_t sources_len, const uint32_t *targets, size_t targets_len, uint32_t *answers, size_t answers_len);
-counted unchecked_list(const uint8_t *index, size_t index_len, uint8_t *marks, size_t marks_len, uint32_t *work, size_t work_len, uint32_t *out, size_t out_len,
+drobisten_counted unchecked_list(const uint8_t *index, size_t index_len, uint8_t *marks, size_t marks_len, uint32_t *work, size_t work_len, uint32_t *out, size_t out_len,
                        uint32_t vertex);
 }
 
@@ -108,7 +98,7 @@ static void build(Where w, Region &r, const Numbers &orders) {
     Bytes out(52 + 16 * n + 4 * from.size() + 16 * w.d * n);
     uint32_t total = 0;
     auto ours = [&] {
-        counted a = trial_build(from.data(), from.size(), to.data(), to.size(), orders.data(), orders.size(), work.data(), work.size(), out.data(), out.size(), FORM, n, w.d);
+        drobisten_counted a = drobisten_build(from.data(), from.size(), to.data(), to.size(), orders.data(), orders.size(), work.data(), work.size(), out.data(), out.size(), FORM, n, w.d);
         must(a.refusal == 0, "a build is refused");
         total = a.count;
     };
@@ -127,7 +117,7 @@ static void open(Where w, Region &r) {
     Bytes scratch;
     Grail loaded;
     auto ours = [&] {
-        must(trial_open(r.index.data(), r.index.size(), r.marks.data(), w.n, r.words.data(), r.words.size()).refusal == 0, "an index is refused");
+        must(drobisten_inspect(r.index.data(), r.index.size(), r.marks.data(), w.n, r.words.data(), r.words.size()).refusal == 0, "an index is refused");
     };
     auto check = [&] { must(Index(r.index.data()).sound(scratch), "the peer refuses an index"); };
     auto load = [&] { Index(r.index.data()).load(loaded); };
@@ -160,7 +150,7 @@ static void damage(Region &r, Chance &chance) {
     for (int i = 0; i < (quick ? 100 : 10); i++) {
         uint32_t *field = (uint32_t *)&bad[48 + 4 * chance.below((bad.size() - 48) / 4)], old = *field;
         *field = chance.below(2) ? chance.below(r.graph.n) : *field + 1 - 2 * chance.below(2);
-        uint32_t refusal = trial_open(bad.data(), bad.size(), r.marks.data(), r.marks.size(), r.words.data(), r.words.size()).refusal;
+        uint32_t refusal = drobisten_inspect(bad.data(), bad.size(), r.marks.data(), r.marks.size(), r.words.data(), r.words.size()).refusal;
         must(refusal == (Index(bad.data()).sound(scratch) ? 0 : 15), "the peer judges damaged contents otherwise");
         *field = old;
     }
@@ -173,7 +163,7 @@ static void ask(Where w, Region &r) {
     size_t turn = 0;
     auto ours = [&] {
         size_t i = turn++ % pairs.sources.size();
-        sink = trial_ask(r.index.data(), r.index.size(), r.marks.data(), w.n, r.words.data(), r.words.size(), pairs.sources[i], pairs.targets[i]).yes;
+        sink = drobisten_question(r.index.data(), r.index.size(), r.marks.data(), w.n, r.words.data(), r.words.size(), pairs.sources[i], pairs.targets[i]).yes;
     };
     auto check = [&] {
         size_t i = turn++ % pairs.sources.size();
@@ -183,7 +173,7 @@ static void ask(Where w, Region &r) {
     measure(w, 1, {{"ours", ours}, {"check", check}});
     for (size_t i = 0; i < 3; i++) {
         uint32_t u = pairs.sources[i], v = pairs.targets[i];
-        drobisten_asked a = trial_ask(r.index.data(), r.index.size(), r.marks.data(), w.n, r.words.data(), r.words.size(), u, v);
+        drobisten_asked a = drobisten_question(r.index.data(), r.index.size(), r.marks.data(), w.n, r.words.data(), r.words.size(), u, v);
         must(a.refusal == 0 && r.grail.reaches(u, v) == (a.yes == 1), "GRAIL answers otherwise");
         must(r.search.reaches(u, v) == (a.yes == 1), "breadth-first search answers otherwise");
     }
@@ -196,7 +186,7 @@ static void list(Where w, Region &r) {
     Bytes scratch;
     size_t turn = 0;
     auto next = [&] { return vertices[turn++ % 16]; };
-    auto ours = [&] { sink = trial_list(r.index.data(), r.index.size(), r.marks.data(), w.n, r.words.data(), r.words.size(), out.data(), w.n, next()).count; };
+    auto ours = [&] { sink = drobisten_list(r.index.data(), r.index.size(), r.marks.data(), w.n, r.words.data(), r.words.size(), out.data(), w.n, next()).count; };
     auto check = [&] { sink = Index(r.index.data()).sound(scratch) ? r.grail.list(next(), theirs.data()) : 0; };
     auto listed = [&](uint32_t vertex) {
         memset(r.marks.data(), 0, w.n); // as the check would leave them
@@ -210,7 +200,7 @@ static void list(Where w, Region &r) {
     measure(w, 1, {{"ours", alone}, {"grail", grail}});
     for (uint32_t i = 0; i < 16; i++) {
         out.assign(w.n, 7), theirs.assign(w.n, 7);
-        counted a = listed(vertices[i]);
+        drobisten_counted a = listed(vertices[i]);
         must(a.refusal == 0 && a.count == r.grail.list(vertices[i], theirs.data()), "GRAIL lists more or fewer");
         must(std::equal(out.begin(), out.begin() + a.count, theirs.begin()), "GRAIL lists others");
     }
@@ -227,11 +217,11 @@ static void monday(Where w, Region &r) {
     answers.resize(6 * count);
     auto ours = [&](size_t pairs) {
         memset(r.marks.data(), 0, w.n); // as the check would leave them
-        drobisten_asked_all a = unchecked_ask_all(r.index.data(), r.index.size(), r.marks.data(), w.n, r.words.data(), r.words.size(), sources.data(), pairs, targets.data(),
+        drobisten_asked_all a = unchecked_batch(r.index.data(), r.index.size(), r.marks.data(), w.n, r.words.data(), r.words.size(), sources.data(), pairs, targets.data(),
                                                   pairs, answers.data(), 6 * pairs);
         must(a.refusal == 0, "pairs are refused");
     };
-    auto call = [&] { sink = trial_ask_all(r.index.data(), r.index.size(), r.marks.data(), w.n, r.words.data(), r.words.size(), sources.data(), 0, targets.data(), 0, answers.data(), 0).refusal; };
+    auto call = [&] { sink = drobisten_batch(r.index.data(), r.index.size(), r.marks.data(), w.n, r.words.data(), r.words.size(), sources.data(), 0, targets.data(), 0, answers.data(), 0).refusal; };
     const size_t searched = std::min<size_t>(count, 50);
     auto search = [&] {
         for (size_t i = 0; i < searched; i++) sink = r.search.reaches(sources[i], targets[i]);
@@ -255,9 +245,9 @@ static void monday(Where w, Region &r) {
 static void check_is_cut(Region &r) {
     uint32_t zero = 0, answer[6];
     r.index.back() ^= 0x80;
-    must(trial_ask_all(r.index.data(), r.index.size(), r.marks.data(), r.marks.size(), r.words.data(), r.words.size(), &zero, 1, &zero, 1, answer, 6).refusal == 15,
+    must(drobisten_batch(r.index.data(), r.index.size(), r.marks.data(), r.marks.size(), r.words.data(), r.words.size(), &zero, 1, &zero, 1, answer, 6).refusal == 15,
          "unsound contents are answered");
-    must(unchecked_ask_all(r.index.data(), r.index.size(), r.marks.data(), r.marks.size(), r.words.data(), r.words.size(), &zero, 1, &zero, 1, answer, 6).refusal == 0,
+    must(unchecked_batch(r.index.data(), r.index.size(), r.marks.data(), r.marks.size(), r.words.data(), r.words.size(), &zero, 1, &zero, 1, answer, 6).refusal == 0,
          "the copy without the check checks");
     r.index.back() ^= 0x80;
 }

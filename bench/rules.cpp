@@ -10,9 +10,7 @@
 #include <drobisten.h>
 
 extern "C" {
-drobisten_rules_settled trial_settle_lists(const uint8_t *index, size_t index_len, const uint32_t *changed, size_t changed_len, uint8_t *marks, size_t marks_len, uint32_t *work,
-                                           size_t work_len, const uint32_t *vertices, size_t vertices_len, uint32_t *states, size_t states_len);
-// the same in a copy whose check of the contents says yes and does nothing (bench/run makes it; the call on records has its check within itself, so it cannot be cut there)
+// drobisten_settle_lists in a copy whose check of the contents says yes and does nothing (bench/run makes it; the call on records has its check within itself, so it cannot be cut there)
 drobisten_rules_settled unchecked_settle_lists(const uint8_t *index, size_t index_len, const uint32_t *changed, size_t changed_len, uint8_t *marks, size_t marks_len,
                                                uint32_t *work, size_t work_len, const uint32_t *vertices, size_t vertices_len, uint32_t *states, size_t states_len);
 }
@@ -95,7 +93,7 @@ static void settle(Where w, Desk &desk, const Numbers &changed, const Table &tab
 static void check_is_cut(Desk &desk) {
     Lists none({});
     desk.index.back() ^= 0x80;
-    must(desk.settle(trial_settle_lists, {}, none) == DROBISTEN_CONTENTS, "unsound contents are taken");
+    must(desk.settle(drobisten_settle_lists, {}, none) == DROBISTEN_CONTENTS, "unsound contents are taken");
     must(desk.settle(unchecked_settle_lists, {}, none) == 0, "the copy without the check checks");
     desk.index.back() ^= 0x80;
 }

@@ -10,68 +10,6 @@
 #include <sys/mman.h>
 #include <unistd.h>
 
-/* the calls that take stored forms 1 and 2, those on a turned index and on exception lists or a plain hierarchy, list, chain, those on added edges, build, the rule desk's over parallel lists, Matrix Market files and the text program's run are exported for
- * these tests alone (crate trial); where one is not linked, a request for it ends this process */
-typedef struct { uint32_t refusal, extra, count; } counted;
-typedef struct { uint32_t refusal, extra, yes, steps; } chain_of;
-typedef struct { uint32_t sources[256], targets[256], count; } edges;
-typedef struct { uint32_t refusal, extra; edges after; } more;
-typedef struct { uint32_t refusal, extra, yes; } over;
-typedef struct { uint32_t refusal; size_t extra; uint32_t n; size_t edges; } edges_of;
-typedef struct { uint32_t refusal, extra, groups, entries; } list_counts;
-
-__attribute__((weak)) drobisten_opened trial_open(const uint8_t *index, size_t index_len, uint8_t *marks, size_t marks_len, uint32_t *work, size_t work_len);
-__attribute__((weak)) drobisten_asked trial_ask(const uint8_t *index, size_t index_len, uint8_t *marks, size_t marks_len, uint32_t *work, size_t work_len,
-                                                uint32_t source, uint32_t target);
-__attribute__((weak)) drobisten_asked_all trial_ask_all(const uint8_t *index, size_t index_len, uint8_t *marks, size_t marks_len, uint32_t *work, size_t work_len,
-                                                        const uint32_t *sources, size_t sources_len, const uint32_t *targets, size_t targets_len,
-                                                        uint32_t *answers, size_t answers_len);
-__attribute__((weak)) counted trial_list(const uint8_t *index, size_t index_len, uint8_t *marks, size_t marks_len, uint32_t *work, size_t work_len, uint32_t *out,
-                                         size_t out_len, uint32_t vertex);
-__attribute__((weak)) counted trial_build(const uint32_t *sources, size_t sources_len, const uint32_t *targets, size_t targets_len,
-                                          const uint32_t *orders, size_t orders_len, uint32_t *work, size_t work_len, uint8_t *out, size_t out_len,
-                                          uint32_t form, uint32_t n, uint32_t d);
-__attribute__((weak)) drobisten_opened trial_open_turned(const uint8_t *index, size_t index_len, uint8_t *marks, size_t marks_len, uint32_t *work, size_t work_len);
-__attribute__((weak)) drobisten_asked trial_ask_turned(const uint8_t *index, size_t index_len, uint8_t *marks, size_t marks_len, uint32_t *work, size_t work_len,
-                                                       uint32_t source, uint32_t target);
-__attribute__((weak)) counted trial_list_turned(const uint8_t *index, size_t index_len, uint8_t *marks, size_t marks_len, uint32_t *work, size_t work_len,
-                                                uint32_t *out, size_t out_len, uint32_t vertex);
-__attribute__((weak)) counted trial_build_turned(const uint32_t *sources, size_t sources_len, const uint32_t *targets, size_t targets_len,
-                                                 const uint32_t *orders, size_t orders_len, uint32_t *work, size_t work_len, uint8_t *out, size_t out_len,
-                                                 uint32_t n, uint32_t d);
-__attribute__((weak)) drobisten_opened trial_open_hierarchy(const uint8_t *index, size_t index_len, uint8_t *marks, size_t marks_len, uint32_t *work, size_t work_len);
-__attribute__((weak)) drobisten_asked trial_ask_hierarchy(const uint8_t *index, size_t index_len, uint8_t *marks, size_t marks_len, uint32_t *work, size_t work_len,
-                                                          uint32_t source, uint32_t target);
-__attribute__((weak)) counted trial_build_hierarchy(const uint32_t *sources, size_t sources_len, const uint32_t *targets, size_t targets_len,
-                                                    const uint32_t *orders, size_t orders_len, uint32_t *work, size_t work_len, uint8_t *out, size_t out_len,
-                                                    uint32_t n, uint32_t d);
-__attribute__((weak)) counted trial_to_hierarchy(const uint8_t *index, size_t index_len, uint8_t *marks, size_t marks_len, uint32_t *work, size_t work_len, uint8_t *out,
-                                                 size_t out_len);
-__attribute__((weak)) counted trial_from_hierarchy(const uint8_t *index, size_t index_len, uint8_t *marks, size_t marks_len, uint32_t *work, size_t work_len, uint8_t *out,
-                                                   size_t out_len);
-__attribute__((weak)) chain_of trial_chain(const uint8_t *index, size_t index_len, uint8_t *marks, size_t marks_len, uint32_t *work, size_t work_len, uint32_t *steps,
-                                           size_t steps_len, uint32_t source, uint32_t target);
-__attribute__((weak)) more trial_add(edges added, uint32_t n, uint32_t from, uint32_t to);
-__attribute__((weak)) over trial_ask_added(const uint8_t *index, size_t index_len, uint8_t *marks, size_t marks_len, uint32_t *work, size_t work_len, edges added,
-                                           uint32_t source, uint32_t target);
-__attribute__((weak)) counted trial_convert_up(const uint8_t *index, size_t index_len, uint8_t *marks, size_t marks_len, uint8_t *out, size_t out_len);
-__attribute__((weak)) counted trial_convert_down(const uint8_t *index, size_t index_len, uint8_t *marks, size_t marks_len, uint32_t *work, size_t work_len, uint8_t *out,
-                                                 size_t out_len);
-__attribute__((weak)) drobisten_rules_settled trial_settle_lists(const uint8_t *index, size_t index_len, const uint32_t *changed, size_t changed_len, uint8_t *marks,
-                                                                 size_t marks_len, uint32_t *work, size_t work_len, const uint32_t *vertices,
-                                                                 size_t vertices_len, uint32_t *states, size_t states_len);
-__attribute__((weak)) edges_of trial_read_matrix(const uint8_t *text, size_t text_len, uint32_t *sources, size_t sources_len, uint32_t *targets, size_t targets_len);
-__attribute__((weak)) counted trial_write_matrix(const uint32_t *sources, size_t sources_len, const uint32_t *targets, size_t targets_len, uint8_t *out, size_t out_len,
-                                                 uint32_t n);
-__attribute__((weak)) counted trial_build_exceptions(const uint8_t *index, size_t index_len, uint8_t *marks, size_t marks_len, uint8_t *out, size_t out_len);
-__attribute__((weak)) list_counts trial_open_exceptions(const uint8_t *index, size_t index_len, const uint8_t *lists, size_t lists_len, uint8_t *marks, size_t marks_len);
-__attribute__((weak)) counted trial_ask_exceptions(const uint8_t *index, size_t index_len, const uint8_t *lists, size_t lists_len, uint8_t *marks, size_t marks_len,
-                                                   uint32_t source, uint32_t target);
-__attribute__((weak)) drobisten_asked_all trial_ask_all_exceptions(const uint8_t *index, size_t index_len, const uint8_t *lists, size_t lists_len, uint8_t *marks,
-                                                                   size_t marks_len, const uint32_t *sources, size_t sources_len, const uint32_t *targets,
-                                                                   size_t targets_len, uint32_t *answers, size_t answers_len);
-__attribute__((weak)) size_t trial_run(const uint8_t *text, size_t text_len, uint8_t *out);
-
 /* the layout that the header states */
 _Static_assert(sizeof(drobisten_opened) == 24, "drobisten_opened is 24 bytes");
 _Static_assert(sizeof(drobisten_asked) == 24 && offsetof(drobisten_asked, labelling) == 20, "drobisten_asked is 24 bytes, labelling its last four");
@@ -151,26 +89,26 @@ static void on_stack(uint32_t bytes, void *(*work)(void *), void *job) {
 typedef struct {
     uint32_t face, source, target;
     lent index, marks, work, sources, targets, changed, vertices, out;
-    edges added;
-    union { drobisten_opened opened; drobisten_asked asked; drobisten_asked_all all; counted listed, converted; chain_of chained; over over; drobisten_rules_settled settled; } r;
+    drobisten_added added;
+    union { drobisten_opened opened; drobisten_asked asked; drobisten_asked_all all; drobisten_counted listed, converted; drobisten_chained chained; drobisten_said over; drobisten_rules_settled settled; } r;
 } asking;
 
 static void *open_index(void *job) {
     asking *a = job;
     a->r.opened = a->face == HOST ? drobisten_open(a->index.at, a->index.length, a->marks.at, a->marks.length)
-                                  : (a->face == TURNED      ? trial_open_turned
-                                     : a->face == HIERARCHY ? trial_open_hierarchy
-                                                            : trial_open)(a->index.at, a->index.length, a->marks.at, a->marks.length, words(a->work), a->work.length);
+                                  : (a->face == TURNED      ? drobisten_inspect_turned
+                                     : a->face == HIERARCHY ? drobisten_inspect_hierarchy
+                                                            : drobisten_inspect)(a->index.at, a->index.length, a->marks.at, a->marks.length, words(a->work), a->work.length);
     return NULL;
 }
 
 static void *ask(void *job) {
     asking *a = job;
     a->r.asked = a->face == HOST ? drobisten_ask(a->index.at, a->index.length, a->marks.at, a->marks.length, a->source, a->target)
-                                 : (a->face == TURNED      ? trial_ask_turned
-                                    : a->face == HIERARCHY ? trial_ask_hierarchy
-                                                           : trial_ask)(a->index.at, a->index.length, a->marks.at, a->marks.length, words(a->work), a->work.length,
-                                                                        a->source, a->target);
+                                 : (a->face == TURNED      ? drobisten_question_turned
+                                    : a->face == HIERARCHY ? drobisten_question_hierarchy
+                                                           : drobisten_question)(a->index.at, a->index.length, a->marks.at, a->marks.length, words(a->work),
+                                                                                 a->work.length, a->source, a->target);
     return NULL;
 }
 
@@ -178,34 +116,34 @@ static void *ask_all(void *job) {
     asking *a = job;
     a->r.all = a->face == HOST ? drobisten_ask_all(a->index.at, a->index.length, a->marks.at, a->marks.length, words(a->sources), a->sources.length,
                                                    words(a->targets), a->targets.length, words(a->out), a->out.length)
-                               : trial_ask_all(a->index.at, a->index.length, a->marks.at, a->marks.length, words(a->work), a->work.length, words(a->sources),
+                               : drobisten_batch(a->index.at, a->index.length, a->marks.at, a->marks.length, words(a->work), a->work.length, words(a->sources),
                                                a->sources.length, words(a->targets), a->targets.length, words(a->out), a->out.length);
     return NULL;
 }
 
 static void *list(void *job) {
     asking *a = job;
-    a->r.listed = (a->face == TURNED ? trial_list_turned : trial_list)(a->index.at, a->index.length, a->marks.at, a->marks.length, words(a->work),
+    a->r.listed = (a->face == TURNED ? drobisten_list_turned : drobisten_list)(a->index.at, a->index.length, a->marks.at, a->marks.length, words(a->work),
                                                                        a->work.length, words(a->out), a->out.length, a->source);
     return NULL;
 }
 
 static void *chain(void *job) {
     asking *a = job;
-    a->r.chained = trial_chain(a->index.at, a->index.length, a->marks.at, a->marks.length, words(a->work), a->work.length, words(a->out), a->out.length, a->source, a->target);
+    a->r.chained = drobisten_chain(a->index.at, a->index.length, a->marks.at, a->marks.length, words(a->work), a->work.length, words(a->out), a->out.length, a->source, a->target);
     return NULL;
 }
 
 static void *ask_added(void *job) {
     asking *a = job;
-    a->r.over = trial_ask_added(a->index.at, a->index.length, a->marks.at, a->marks.length, words(a->work), a->work.length, a->added, a->source, a->target);
+    a->r.over = drobisten_ask_added(a->index.at, a->index.length, a->marks.at, a->marks.length, words(a->work), a->work.length, a->added, a->source, a->target);
     return NULL;
 }
 
 /* a table of rules: its vertices and its states, or its records */
 static void *settle_lists(void *job) {
     asking *a = job;
-    a->r.settled = trial_settle_lists(a->index.at, a->index.length, words(a->changed), a->changed.length, a->marks.at, a->marks.length, words(a->work), a->work.length,
+    a->r.settled = drobisten_settle_lists(a->index.at, a->index.length, words(a->changed), a->changed.length, a->marks.at, a->marks.length, words(a->work), a->work.length,
                                       words(a->vertices), a->vertices.length, words(a->out), a->out.length);
     return NULL;
 }
@@ -220,26 +158,26 @@ static void *settle_rules(void *job) {
 /* form 1 turned into form 2, which is lent no words, and back */
 static void *convert_up(void *job) {
     asking *a = job;
-    a->r.converted = trial_convert_up(a->index.at, a->index.length, a->marks.at, a->marks.length, a->out.at, a->out.length);
+    a->r.converted = drobisten_convert_up(a->index.at, a->index.length, a->marks.at, a->marks.length, a->out.at, a->out.length);
     return NULL;
 }
 
 static void *convert_down(void *job) {
     asking *a = job;
-    a->r.converted = trial_convert_down(a->index.at, a->index.length, a->marks.at, a->marks.length, words(a->work), a->work.length, a->out.at, a->out.length);
+    a->r.converted = drobisten_convert_down(a->index.at, a->index.length, a->marks.at, a->marks.length, words(a->work), a->work.length, a->out.at, a->out.length);
     return NULL;
 }
 
 /* form 2 turned into form 4, and back */
 static void *to_hierarchy(void *job) {
     asking *a = job;
-    a->r.converted = trial_to_hierarchy(a->index.at, a->index.length, a->marks.at, a->marks.length, words(a->work), a->work.length, a->out.at, a->out.length);
+    a->r.converted = drobisten_to_hierarchy(a->index.at, a->index.length, a->marks.at, a->marks.length, words(a->work), a->work.length, a->out.at, a->out.length);
     return NULL;
 }
 
 static void *from_hierarchy(void *job) {
     asking *a = job;
-    a->r.converted = trial_from_hierarchy(a->index.at, a->index.length, a->marks.at, a->marks.length, words(a->work), a->work.length, a->out.at, a->out.length);
+    a->r.converted = drobisten_from_hierarchy(a->index.at, a->index.length, a->marks.at, a->marks.length, words(a->work), a->work.length, a->out.at, a->out.length);
     return NULL;
 }
 
@@ -356,11 +294,11 @@ static void serve_ask_added(uint32_t stack) {
 }
 
 static void serve_add(void) {
-    edges added;
+    drobisten_added added;
     uint32_t ends[3];
     take(&added, sizeof added);
     take(ends, sizeof ends);
-    more r = trial_add(added, ends[0], ends[1], ends[2]);
+    drobisten_taken r = drobisten_add(added, ends[0], ends[1], ends[2]);
     give(&r, sizeof r);
 }
 
@@ -390,15 +328,16 @@ static void serve_convert(uint32_t stack, void *(*convert)(void *)) {
     give_back(a.out);
 }
 
-typedef struct { uint32_t face, form, n, d; lent sources, targets, orders, work, out; counted r; } building;
+typedef struct { uint32_t face, form, n, d; lent sources, targets, orders, work, out; drobisten_counted r; } building;
 
 static void *build(void *job) {
     building *b = job;
-    b->r = b->face == ORDINARY ? trial_build(words(b->sources), b->sources.length, words(b->targets), b->targets.length, words(b->orders), b->orders.length,
-                                             words(b->work), b->work.length, b->out.at, b->out.length, b->form, b->n, b->d)
-                               : (b->face == TURNED ? trial_build_turned : trial_build_hierarchy)(words(b->sources), b->sources.length, words(b->targets), b->targets.length,
-                                                                                                  words(b->orders), b->orders.length, words(b->work), b->work.length,
-                                                                                                  b->out.at, b->out.length, b->n, b->d);
+    b->r = b->face == ORDINARY ? drobisten_build(words(b->sources), b->sources.length, words(b->targets), b->targets.length, words(b->orders), b->orders.length,
+                                                 words(b->work), b->work.length, b->out.at, b->out.length, b->form, b->n, b->d)
+                               : (b->face == TURNED ? drobisten_build_turned : drobisten_build_hierarchy)(words(b->sources), b->sources.length, words(b->targets),
+                                                                                                          b->targets.length, words(b->orders), b->orders.length,
+                                                                                                          words(b->work), b->work.length, b->out.at, b->out.length,
+                                                                                                          b->n, b->d);
     return NULL;
 }
 
@@ -424,17 +363,17 @@ static void serve_build(uint32_t face, uint32_t stack) {
 }
 
 /* a Matrix Market text read into two lists, or written from them */
-typedef struct { uint32_t n; lent text, sources, targets; edges_of read; counted written; } matrix;
+typedef struct { uint32_t n; lent text, sources, targets; drobisten_matrix read; drobisten_counted written; } matrix;
 
 static void *read_matrix(void *job) {
     matrix *m = job;
-    m->read = trial_read_matrix(m->text.at, m->text.length, words(m->sources), m->sources.length, words(m->targets), m->targets.length);
+    m->read = drobisten_read_matrix(m->text.at, m->text.length, words(m->sources), m->sources.length, words(m->targets), m->targets.length);
     return NULL;
 }
 
 static void *write_matrix(void *job) {
     matrix *m = job;
-    m->written = trial_write_matrix(words(m->sources), m->sources.length, words(m->targets), m->targets.length, m->text.at, m->text.length, m->n);
+    m->written = drobisten_write_matrix(words(m->sources), m->sources.length, words(m->targets), m->targets.length, m->text.at, m->text.length, m->n);
     return NULL;
 }
 
@@ -474,7 +413,7 @@ static void serve_build_lists(void) {
     asking a = {.face = ORDINARY};
     take_beside(&a);
     a.out = buffer(1);
-    counted r = trial_build_exceptions(a.index.at, a.index.length, a.marks.at, a.marks.length, a.out.at, a.out.length);
+    drobisten_counted r = drobisten_build_exceptions(a.index.at, a.index.length, a.marks.at, a.marks.length, a.out.at, a.out.length);
     give(&r, sizeof r);
     done(a.index);
     give_back(a.marks);
@@ -485,7 +424,7 @@ static void serve_open_lists(void) {
     asking a = {.face = ORDINARY};
     take_beside(&a);
     lent lists = buffer(1);
-    list_counts r = trial_open_exceptions(a.index.at, a.index.length, lists.at, lists.length, a.marks.at, a.marks.length);
+    drobisten_lists r = drobisten_open_exceptions(a.index.at, a.index.length, lists.at, lists.length, a.marks.at, a.marks.length);
     give(&r, sizeof r);
     done(a.index);
     done(lists);
@@ -498,7 +437,7 @@ static void serve_ask_lists(void) {
     a.target = number();
     take_beside(&a);
     lent lists = buffer(1);
-    counted r = trial_ask_exceptions(a.index.at, a.index.length, lists.at, lists.length, a.marks.at, a.marks.length, a.source, a.target);
+    drobisten_said r = drobisten_ask_exceptions(a.index.at, a.index.length, lists.at, lists.length, a.marks.at, a.marks.length, a.source, a.target);
     give(&r, sizeof r);
     done(a.index);
     done(lists);
@@ -512,7 +451,7 @@ static void serve_ask_all_lists(void) {
     a.sources = buffer(4);
     a.targets = buffer(4);
     a.out = buffer(4);
-    drobisten_asked_all r = trial_ask_all_exceptions(a.index.at, a.index.length, lists.at, lists.length, a.marks.at, a.marks.length, words(a.sources), a.sources.length,
+    drobisten_asked_all r = drobisten_ask_all_exceptions(a.index.at, a.index.length, lists.at, lists.length, a.marks.at, a.marks.length, words(a.sources), a.sources.length,
                                                      words(a.targets), a.targets.length, words(a.out), a.out.length);
     uint32_t numbers[3] = {r.refusal, (uint32_t)r.extra, (uint32_t)r.count};
     give(numbers, sizeof numbers);
@@ -528,7 +467,7 @@ static void serve_ask_all_lists(void) {
 static void serve_run(void) {
     lent text = buffer(1), out = room(MOST_OUTPUT, 1);
     memset(out.at, PATTERN, out.size);
-    uint32_t r[2] = {(uint32_t)trial_run(text.at, text.length, out.at), 0};
+    uint32_t r[2] = {(uint32_t)drobisten_run(text.at, text.length, out.at), 0};
     for (size_t i = r[0]; i < out.size; i++) r[1] += out.at[i] != PATTERN;
     give(r, sizeof r);
     give(out.at, r[0]);
@@ -536,38 +475,33 @@ static void serve_run(void) {
     done(out);
 }
 
-/* whether the call is linked that this face makes */
-static int linked(uint32_t face, int ordinary, int host, int turned, int hierarchy) {
-    return face == HOST ? host : face == TURNED ? turned : face == HIERARCHY ? hierarchy : ordinary;
-}
-
 int main(void) {
     uint32_t call;
     while (fread(&call, 4, 1, stdin) == 1) {
         uint32_t face = number(), stack = number();
         switch (call) {
-        case OPEN: if (!linked(face, trial_open != NULL, 1, trial_open_turned != NULL, trial_open_hierarchy != NULL)) return 5; serve_open(face, stack); break;
-        case ASK: if (!linked(face, trial_ask != NULL, 1, trial_ask_turned != NULL, trial_ask_hierarchy != NULL)) return 5; serve_ask(face, stack); break;
-        case ASK_MANY: if (!linked(face, trial_ask != NULL, 1, trial_ask_turned != NULL, trial_ask_hierarchy != NULL)) return 5; serve_ask_many(face); break;
-        case ASK_ALL: if (!linked(face, trial_ask_all != NULL, 1, 0, 0)) return 5; serve_ask_all(face, stack); break;
-        case LIST: if (!linked(face, trial_list != NULL, 0, trial_list_turned != NULL, 0)) return 5; serve_list(face, stack); break;
-        case BUILD: if (!linked(face, trial_build != NULL, 0, trial_build_turned != NULL, trial_build_hierarchy != NULL)) return 5; serve_build(face, stack); break;
-        case CHAIN: if (!trial_chain) return 5; serve_chain(stack); break;
-        case ADD: if (!trial_add) return 5; serve_add(); break;
-        case ASK_ADDED: if (!trial_ask_added) return 5; serve_ask_added(stack); break;
-        case SETTLE_LISTS: if (!trial_settle_lists) return 5; serve_settle(stack, 1); break;
+        case OPEN: serve_open(face, stack); break;
+        case ASK: serve_ask(face, stack); break;
+        case ASK_MANY: serve_ask_many(face); break;
+        case ASK_ALL: serve_ask_all(face, stack); break;
+        case LIST: serve_list(face, stack); break;
+        case BUILD: serve_build(face, stack); break;
+        case CHAIN: serve_chain(stack); break;
+        case ADD: serve_add(); break;
+        case ASK_ADDED: serve_ask_added(stack); break;
+        case SETTLE_LISTS: serve_settle(stack, 1); break;
         case SETTLE_RULES: serve_settle(stack, 0); break;
-        case CONVERT_UP: if (!trial_convert_up) return 5; serve_convert(stack, convert_up); break;
-        case CONVERT_DOWN: if (!trial_convert_down) return 5; serve_convert(stack, convert_down); break;
-        case READ_MATRIX: if (!trial_read_matrix) return 5; serve_read_matrix(stack); break;
-        case WRITE_MATRIX: if (!trial_write_matrix) return 5; serve_write_matrix(stack); break;
-        case BUILD_LISTS: if (!trial_build_exceptions) return 5; serve_build_lists(); break;
-        case OPEN_LISTS: if (!trial_open_exceptions) return 5; serve_open_lists(); break;
-        case ASK_LISTS: if (!trial_ask_exceptions) return 5; serve_ask_lists(); break;
-        case ASK_ALL_LISTS: if (!trial_ask_all_exceptions) return 5; serve_ask_all_lists(); break;
-        case TO_HIERARCHY: if (!trial_to_hierarchy) return 5; serve_convert(stack, to_hierarchy); break;
-        case FROM_HIERARCHY: if (!trial_from_hierarchy) return 5; serve_convert(stack, from_hierarchy); break;
-        case RUN: if (!trial_run) return 5; serve_run(); break;
+        case CONVERT_UP: serve_convert(stack, convert_up); break;
+        case CONVERT_DOWN: serve_convert(stack, convert_down); break;
+        case READ_MATRIX: serve_read_matrix(stack); break;
+        case WRITE_MATRIX: serve_write_matrix(stack); break;
+        case BUILD_LISTS: serve_build_lists(); break;
+        case OPEN_LISTS: serve_open_lists(); break;
+        case ASK_LISTS: serve_ask_lists(); break;
+        case ASK_ALL_LISTS: serve_ask_all_lists(); break;
+        case TO_HIERARCHY: serve_convert(stack, to_hierarchy); break;
+        case FROM_HIERARCHY: serve_convert(stack, from_hierarchy); break;
+        case RUN: serve_run(); break;
         default: return 4;
         }
         if (fflush(stdout)) return 2;

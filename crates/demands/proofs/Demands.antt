@@ -1,6 +1,5 @@
 -- The three demands on the calls, proved. specs/ says what each is; what follows is the laws of this crate and of those below, cited.
 use mathlib.Core.Path.{sym}
-use base.Logic.{emp, id⊢}
 use Rattle.lineage.specs.Calls.{buildAnswer, buildCall, openAnswer, askAnswer, listAnswer}
 use Rattle.build.proofs.build as build-call
 use Rattle.build.proofs.build_hierarchy as build-hierarchy-call
@@ -39,12 +38,10 @@ use Rattle.turned.proofs.build_turned as build-turned-call
 use Rattle.turned.proofs.open_turned as open-turned-call
 use Rattle.turned.proofs.ask_turned as ask-turned-call
 use Rattle.turned.proofs.list_turned as list-turned-call
-use Rattle.turned.proofs.Theorems.{turned-once, finished-turned}
+use Rattle.turned.proofs.Theorems.{turned-once, turned-finishes, finished-turned}
 use Rattle.rules_states.specs.Rules.{rulesAnswer}
 use Rattle.rules.proofs.settle_lists as settle-lists-call
 use Rattle.rules.proofs.Theorems.{settled-once}
-use Rattle.rules_table.proofs.drobisten_settle_rules as settle-rules-call
-use Rattle.rules_table.proofs.Theorems.{table-once}
 use Rattle.exceptions.specs.Calls.{exceptionsBuilt, exceptionsOpened, exceptionsAsked}
 use Rattle.exceptions.proofs.build_exceptions as build-exceptions-call
 use Rattle.exceptions.proofs.open_exceptions as open-exceptions-call
@@ -62,10 +59,6 @@ use Rattle.matrix_read.proofs.read_matrix as read-matrix-call
 use Rattle.matrix_read.proofs.Theorems.{read-once}
 use Rattle.matrix_write.proofs.write_matrix as write-matrix-call
 use Rattle.matrix_write.proofs.Theorems.{written-once}
-use Rattle.drobisten.proofs.drobisten_open as host-open-call
-use Rattle.drobisten.proofs.drobisten_ask as host-ask-call
-use Rattle.drobisten.proofs.drobisten_ask_all as host-ask-all-call
-use Rattle.drobisten.proofs.Theorems as face
 use Rattle.demands.specs.Calls.{EveryCall}
 use Rattle.demands.specs.Stored.{AsGrail}
 use Rattle.demands.specs.Orders.{MoreOrders}
@@ -75,7 +68,7 @@ use Rattle.demands.proofs.Stored.{build-stored, finished-stored}
 use Rattle.demands.proofs.Opened.{opened-yields, opened-written, yielded-stored, opened-answers, asked-path, host-path}
 use Rattle.demands.proofs.Orders.{fewer, on-a-no}
 
--- 1. The checker's theorem of each call is cited; what the contract says is, equation by equation, what is allowed.
+-- 1. The checker's theorem of each call is cited; what the contract says is, equation by equation, what is allowed. (Of the calls that C makes: `demand-1-from-c`, in Face.)
 pub demand-1 : EveryCall
 unfolding buildAnswer buildCall openAnswer askAnswer batchAnswer listAnswer chainAnswer addedAnswer convertAnswer rulesAnswer matrixReadAnswer matrixWriteAnswer exceptionsBuilt exceptionsOpened exceptionsAsked exceptionsAll turnAnswer
 demand-1 = record {
@@ -217,12 +210,6 @@ demand-1 = record {
     allows = λ κs a r e (answers, (leaves, (clears, turns))). record { answers = answers; leaves = leaves; clears = clears; turns = turns };
     once = λ κs a r r' e e'. settled-once;
   };
-  settle-rules = record {
-    met = λ 𝓤 H 𝓜 𝓖 𝓡. settle-rules-call.Met.met 𝓤 H 𝓜 𝓖 𝓡;
-    nothing-asked = λ 𝓤 H A mem run κs a g. id⊢ 𝓤 (emp 𝓤);
-    allows = λ 𝓤 H A mem run κs a g r e. id⊢ 𝓤 _;
-    once = λ κs a r r' e e'. table-once;
-  };
   build-exceptions = record {
     met = build-exceptions-call.Met.met;
     nothing-asked = λ κs a. tt;
@@ -265,24 +252,6 @@ demand-1 = record {
     allows = λ κs a r e (answers, writes). record { answers = answers; writes = writes };
     once = λ κs a r r' e e'. written-once;
   };
-  host-open = record {
-    met = host-open-call.Met.met;
-    nothing-asked = λ κs a. tt;
-    allows = λ κs a r e (returns, leaves). record { returns = returns; leaves = leaves };
-    once = λ κs a r r' e e'. face.opened-once;
-  };
-  host-ask = record {
-    met = host-ask-call.Met.met;
-    nothing-asked = λ κs a. tt;
-    allows = λ κs a r e (returns, leaves). record { returns = returns; leaves = leaves };
-    once = λ κs a r r' e e'. face.asked-once;
-  };
-  host-ask-all = record {
-    met = host-ask-all-call.Met.met;
-    nothing-asked = λ κs a. tt;
-    allows = λ κs a r e (returns, (leaves, writes)). record { returns = returns; leaves = leaves; writes = writes };
-    once = λ κs a r r' e e'. face.asked-all-once;
-  };
   build-refuses = λ form B work out number extra. first-refusal _ number extra _;
   build-turned-refuses = λ B work out number extra. first-refusal _ number extra _;
   build-hierarchy-refuses = λ B work out number extra. first-refusal _ number extra _;
@@ -309,6 +278,7 @@ pub demand-2 : AsGrail
 demand-2 = record {
   finishes = build-finishes;
   built = build-stored;
+  finishes-turned = turned-finishes;
   built-turned = λ X done. finished-stored (finished-turned X done);
   finishes-hierarchy = hierarchy-finishes;
   built-hierarchy = λ X done. finished-stored (finished-hierarchy X done);

@@ -7,4 +7,5 @@ pub mod Asked
 pub mod Stored
 pub mod Opened
 pub mod Orders
+pub mod Face
 pub mod Demands

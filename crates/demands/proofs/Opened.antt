@@ -24,9 +24,9 @@ use Rattle.ask.specs.declared.Asked.{Asked}
 use Rattle.ask.specs.Asked.{askedOf}
 use Rattle.ask.proofs.Answered.{answered-only}
 use Rattle.ask.proofs.Theorems as ask
-use Rattle.drobisten.specs.declared.DrobistenAsked.{DrobistenAsked}
-use Rattle.drobisten.specs.Host.{hostAsked, askedBy}
-use Rattle.drobisten.proofs.Theorems as face
+use Rattle.face.specs.declared.DrobistenAsked.{DrobistenAsked}
+use Rattle.face.specs.Host.{hostAsked, askedBy}
+use Rattle.face.proofs.Theorems as face
 use Rattle.demands.specs.Stored.{formIn, Stored}
 use Rattle.demands.proofs.Yielded.{orders-are, bounds-are}
 use Rattle.demands.proofs.Asked.{opened-counts, opened-asks, opened-marks, asked-opens}
@@ -110,5 +110,5 @@ pub host-path : {b : List ℕ} {u v : ℕ} {marks : List ℕ} {r : DrobistenAske
 unfolding asked-made
 host-path {b} {u} {v} {marks} X none Y =
     let (s, e) =
-    answered-by (askAnswer host b u v (length marks) 0) (face.asked-read b u v (length marks)) (ap (λ (z : DrobistenAsked). z .refusal) (sym (X .returns)) ∙ none) in
+    answered-by (askAnswer host b u v (length marks) 0) (face.asked-read host b u v (length marks) 0) (ap (λ (z : DrobistenAsked). z .refusal) (sym (X .returns)) ∙ none) in
     face.host-right X none (asked-made host b u v (length marks) 0 e Y)

@@ -30,9 +30,9 @@ use Rattle.open.proofs.Fits.{form-wide, bounds-kept, yielded-fits, encoded-open
 use Rattle.ask.specs.declared.Asked.{Asked}
 use Rattle.ask.specs.Asked.{askedOf}
 use Rattle.ask.proofs.Theorems as ask
-use Rattle.drobisten.specs.declared.DrobistenAsked.{DrobistenAsked}
-use Rattle.drobisten.specs.Host.{hostAsked}
-use Rattle.drobisten.proofs.Theorems as face
+use Rattle.face.specs.declared.DrobistenAsked.{DrobistenAsked}
+use Rattle.face.specs.Host.{hostAsked}
+use Rattle.face.proofs.Theorems as face
 use Rattle.demands.specs.Stored.{formIn, Builds, Right, Stored}
 use Rattle.demands.proofs.Grail.{grail}
 use Rattle.demands.proofs.Asked.{opened-asks, opened-marks}

@@ -68,8 +68,6 @@ use Rattle.turned.proofs.Theorems as turning
 use Rattle.rules_states.specs.Rules.{rulesChecks, rulesAnswer}
 use Rattle.rules.specs.Settled as settling
 use Rattle.rules.proofs.settle_lists as settle-lists-call
-use Rattle.rules_table.specs.Table as table
-use Rattle.rules_table.proofs.drobisten_settle_rules as settle-rules-call
 use Rattle.exceptions.specs.Calls.{formOneChecks, exceptionsBuilt, openLate, exceptionsOpened, askLate, exceptionsAsked}
 use Rattle.exceptions.specs.Calls as lists-calls
 use Rattle.exceptions.proofs.build_exceptions as build-exceptions-call
@@ -90,10 +88,6 @@ use Rattle.matrix_read.specs.Answer as reading-matrix
 use Rattle.matrix_read.proofs.read_matrix as read-matrix-call
 use Rattle.matrix_write.specs.Written as writing-matrix
 use Rattle.matrix_write.proofs.write_matrix as write-matrix-call
-use Rattle.drobisten.proofs.drobisten_open as host-open-call
-use Rattle.drobisten.proofs.drobisten_ask as host-ask-call
-use Rattle.drobisten.proofs.drobisten_ask_all as host-ask-all-call
-use Rattle.drobisten.proofs.Theorems as face
 
 -- Of one call. `meets` is its theorem as the checker states it; `asked` and `learnt` are its contract as callers have it: what is asked of the arguments a, and what
 -- is said of them, of the answer r and of the arguments e as they are left. `same`: the lent buffers are left alike. κs are the lifetimes of what is lent.
@@ -139,7 +133,7 @@ pub record Refuses (cs : List Check) (number extra : ℕ) : Type 0 where
   pub none-before : (i : ℕ) → i < at → getD cs i (check false 0 0) .applies ≡ false
   pub here : getD cs at (check false 0 0) ≡ check true number extra
 
--- Of every call: its arguments in the order of its parameters, the answer r, and the arguments as they are left; `now` is what a buffer holds.
+-- Of every call that Rattle code makes (Face has those that C makes): its arguments in the order of its parameters, the answer r, and the arguments as they are left; `now` is what a buffer holds.
 pub record EveryCall : Type 2 where
   pub build : Answers build-call.Kinds.ps build-call.Kinds.r build-call.Statement.statement build-call.Reads.Asked build-call.Reads.Learnt
       (λ κs (form, (n, (sources, (targets, (orders, (d, (work, (out, _)))))))) r (_, (_, (_, (_, (_, (_, (work', (out', _)))))))).
@@ -253,12 +247,6 @@ pub record EveryCall : Type 2 where
       settling.Allowed ordinary (now index) (now changed) (now marks) (now work) (now vertices) (now states) r (now marks') (now work') (now states'))
       (λ κs (_, (_, (marks, (work, (_, (states, _)))))) (_, (_, (marks', (work', (_, (states', _)))))).
       (now marks ≡ now marks') × ((now work ≡ now work') × (now states ≡ now states')))
-  -- and its call on the desk's own records, which C makes
-  pub settle-rules : AnswersByHand settle-rules-call.ended settle-rules-call.Symbol.routine (λ M 𝓤 H. settle-rules-call.clauses 𝓤 H)
-      (λ κs (index, (changed, (marks, (work, (rules, _))))) r (_, (_, (marks', (work', (rules', _))))).
-      table.Allowed ordinary (now index) (now changed) (now marks) (now work) (now rules) r (now marks') (now work') (now rules'))
-      (λ κs (_, (_, (marks, (work, (rules, _))))) (_, (_, (marks', (work', (rules', _))))).
-      (now marks ≡ now marks') × ((now work ≡ now work') × (now rules ≡ now rules')))
   -- the calls on exception lists
   pub build-exceptions : Answers build-exceptions-call.Kinds.ps build-exceptions-call.Kinds.r build-exceptions-call.Statement.statement build-exceptions-call.Reads.Asked
       build-exceptions-call.Reads.Learnt
@@ -292,18 +280,6 @@ pub record EveryCall : Type 2 where
       write-matrix-call.Reads.Learnt
       (λ κs (n, (sources, (targets, (out, _)))) r (_, (_, (_, (out', _)))). writing-matrix.Allowed (graphOf n (now sources) (now targets)) (now out) r (now out'))
       (λ κs (_, (_, (_, (out, _)))) (_, (_, (_, (out', _)))). now out ≡ now out')
-  -- the C face
-  pub host-open : Answers host-open-call.Kinds.ps host-open-call.Kinds.r host-open-call.Statement.statement host-open-call.Reads.Asked host-open-call.Reads.Learnt
-      (λ κs (index, (marks, _)) r (_, (marks', _)). face.Opens (now index) (now marks) r (now marks'))
-      (λ κs (_, (marks, _)) (_, (marks', _)). now marks ≡ now marks')
-  pub host-ask : Answers host-ask-call.Kinds.ps host-ask-call.Kinds.r host-ask-call.Statement.statement host-ask-call.Reads.Asked host-ask-call.Reads.Learnt
-      (λ κs (index, (marks, (source, (target, _)))) r (_, (marks', _)). face.Asks (now index) source target (now marks) r (now marks'))
-      (λ κs (_, (marks, _)) (_, (marks', _)). now marks ≡ now marks')
-  pub host-ask-all : Answers host-ask-all-call.Kinds.ps host-ask-all-call.Kinds.r host-ask-all-call.Statement.statement host-ask-all-call.Reads.Asked
-      host-ask-all-call.Reads.Learnt
-      (λ κs (index, (marks, (sources, (targets, (answers, _))))) r (_, (marks', (_, (_, (answers', _))))).
-      face.AsksAll (now index) (now sources) (now targets) (now marks) (now answers) r (now marks') (now answers'))
-      (λ κs (_, (marks, (_, (_, (answers, _))))) (_, (marks', (_, (_, (answers', _))))). (now marks ≡ now marks') × (now answers ≡ now answers'))
   -- a refusal is given exactly when its check applies and none above it does
   pub build-refuses : (form : ℕ) (B : Input) (work out number extra : ℕ)
       → (buildCall form B work out ≡ refused number extra)

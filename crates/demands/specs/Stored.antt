@@ -11,10 +11,10 @@ use Rattle.lineage.specs.Lists.{Every}
 use Rattle.lineage.specs.Graph.{Graph, turnedGraph, Ends, Reaches}
 use Rattle.lineage.specs.Labels.{Order}
 use Rattle.lineage.specs.Index.{Index, indexOf}
-use Rattle.lineage.specs.Stored.{Form, form4, Counts, countsOf, countsFit, encode, headerAt, countsIn, formOf}
+use Rattle.lineage.specs.Stored.{Form, form3, form4, Counts, countsOf, countsFit, encode, headerAt, countsIn, formOf}
 use Rattle.lineage.specs.Question.{placeIn, answer}
 use Rattle.lineage.specs.Sound.{isTree}
-use Rattle.lineage.specs.Calls.{answered, FormsTaken, host, ordinary, hierarchy, takes, wordsIn, Input, ordersOf, lengthOf, indexIn, Said, saidOf}
+use Rattle.lineage.specs.Calls.{answered, FormsTaken, host, ordinary, hierarchy, takes, wordsIn, Input, turnedInput, ordersOf, lengthOf, indexIn, Said, saidOf}
 use Rattle.laws_answers.specs.Answers.{Holds, Opened, Marked}
 use Rattle.numbers.proofs.Written.{Bytes}
 use Rattle.build.specs.declared.Built.{Built}
@@ -29,9 +29,9 @@ use Rattle.open.proofs.Theorem as opening
 use Rattle.ask.specs.declared.Asked.{Asked}
 use Rattle.ask.specs.Asked.{askedOf}
 use Rattle.ask.proofs.Theorems as ask
-use Rattle.drobisten.specs.declared.DrobistenAsked.{DrobistenAsked}
+use Rattle.face.specs.declared.DrobistenAsked.{DrobistenAsked}
 use Rattle.turned.proofs.Theorems as turning
-use Rattle.drobisten.proofs.Theorems as face
+use Rattle.face.proofs.Theorems as face
 use Rattle.demands.specs.Grail.{Grail}
 
 -- the form that bytes are of
@@ -106,7 +106,12 @@ pub record AsGrail : Type 0 where
       → builtOf r ≡ answered (lengthOf (formOf form) (indexOf (B .graph) (ordersOf B)))
   -- what a finished build leaves is a stored index of its edge list under its orders
   pub built : {G : Graph} {orders : List (List ℕ)} {b : List ℕ} → Builds G orders b → Stored G orders b
-  -- what a finished turned build leaves is a stored index of the turned edge list
+  -- turned edges and orders within form 3's bounds are built, and what is left is a stored index of the turned edge list
+  pub finishes-turned : {B : Input} {work out : List ℕ} {r : Built} {work' out' : List ℕ} → turning.Allowed B work out r work' out'
+      → Admitted form3 (turnedInput B) (length work)
+      → Every (Order (B .graph .n)) (ordersOf B)
+      → lengthOf form3 (indexOf (turnedGraph (B .graph)) (ordersOf B)) ≤ length out
+      → builtOf r ≡ answered (lengthOf form3 (indexOf (turnedGraph (B .graph)) (ordersOf B)))
   pub built-turned : {B : Input} {work out : List ℕ} {r : Built} {work' out' : List ℕ} {total : ℕ} → turning.Allowed B work out r work' out'
       → builtOf r ≡ answered total
       → Stored (turnedGraph (B .graph)) (ordersOf B) (take total out')

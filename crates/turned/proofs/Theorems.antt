@@ -4,18 +4,21 @@ use mathlib.Core.Bool.{true}
 use mathlib.Core.Logic.{_↔_, Iff·symm, Iff·trans}
 use mathlib.Core.Path.{_≡_, refl, sym, ap, subst, _∙_}
 use mathlib.Core.List.{List}
-use Prim.Native.Nat.{ℕ, _<_}
+use Prim.Native.Nat.{ℕ, _≤_, _<_}
 use native.Mathlib.Omega.{arith}
 use lib.ListN.{length, take}
-use Rattle.lineage.specs.Lists.{among}
+use Rattle.lineage.specs.Lists.{among, Every}
 use Rattle.lineage.specs.Graph.{Graph, turnedGraph, Ends, Reaches}
+use Rattle.lineage.specs.Labels.{Order}
 use Rattle.lineage.specs.Index.{Index, indexOf, Made}
 use Rattle.lineage.specs.Stored.{Form, form3}
-use Rattle.lineage.specs.Calls.{Outcome, answered, outcome, FormsTaken, turned, Input, turnedInput, workNeeded, buildEarly, buildAnswer, buildWork, buildOutput, indexIn, Said, askAnswer, listAnswer, listOutput}
+use Rattle.lineage.specs.Calls.{Outcome, answered, outcome, FormsTaken, turned, Input, turnedInput, ordersOf, built, workNeeded, lengthOf, buildEarly, buildAnswer, buildWork, buildOutput, indexIn, Said, askAnswer, listAnswer, listOutput}
+use Rattle.laws.proofs.Tests.{clash}
 use Rattle.open.proofs.Fits.{form-wide}
 use Rattle.build.specs.declared.Built.{Built}
+use Rattle.build.specs.Admitted.{Admitted}
 use Rattle.build.specs.Answers.{builtOf}
-use Rattle.build.proofs.Theorems.{Finished, built-one, build-made}
+use Rattle.build.proofs.Theorems.{Finished, built-one, answers-finish, build-made}
 use Rattle.ask.proofs.Theorems.{asked-right}
 use Rattle.list.proofs.Theorems.{listed-right}
 use Rattle.laws_answers.specs.Answers.{Downstream}
@@ -37,6 +40,14 @@ turned-once X Y = (built-one _ _ (X .answers ∙ sym (Y .answers)), (X .leaves �
 -- checks 1 to 7 come to the same as those of a build of the edge list as given, at form 3's bounds: 7 names the same edge
 pub turned-refused : (B : Input) (work : ℕ) → outcome (buildEarly form3 (turnedInput B) work) (workNeeded (B .graph)) ≡ outcome (buildEarly form3 B work) (workNeeded (B .graph))
 turned-refused B work = early-turned form3 B work (workNeeded (B .graph))
+
+-- turned edges and orders within form 3's bounds, with room for work and output, are built
+pub turned-finishes : {B : Input} {work out : List ℕ} {r : Built} {work' out' : List ℕ} → Allowed B work out r work' out'
+    → Admitted form3 (turnedInput B) (length work)
+    → Every (Order (B .graph .n)) (ordersOf B)
+    → lengthOf form3 (built (turnedInput B)) ≤ length out
+    → builtOf r ≡ answered (lengthOf form3 (built (turnedInput B)))
+turned-finishes {B} {work} {out} X A permuted = answers-finish form3 (turnedInput B) work out (X .answers, (X .leaves, X .writes)) A permuted (λ t. clash t refl)
 
 -- a turned build that finishes is a finished build of the turned edge list
 abbrev pub finished-turned : {B : Input} {work out : List ℕ} {r : Built} {work' out' : List ℕ} {total : ℕ} → Allowed B work out r work' out' → builtOf r ≡ answered total → Finished form3 (turnedInput B)

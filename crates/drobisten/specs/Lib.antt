@@ -1,2 +1,0 @@
--- What the host is given.
-pub mod Host

@@ -1,0 +1,2 @@
+-- What a program in C is given.
+pub mod Host

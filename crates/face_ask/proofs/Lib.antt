@@ -1,0 +1,2 @@
+-- What a program in C may rely on.
+pub mod Theorems
