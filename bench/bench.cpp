@@ -3,8 +3,9 @@
 //
 //     bench all | build | monday | quick
 //
-// prints the figures (measure.hpp) of one build, one opening or one question. `build` measures builds and openings alone, `monday` the call for all pairs of two lists
-// alone; `quick` is one small size with few repetitions, and serves to see that all agree.
+// prints the figures (measure.hpp) of one build, one opening and one question with its check, at four sizes with four edges a vertex each; and at the smallest and the largest of
+// one question without it, alone and among all pairs of two lists. `build` measures builds and openings alone, `monday` the call for all pairs of two lists alone; `quick` is one
+// small size with few repetitions, and serves to see that all agree.
 #include "measure.hpp"
 #include "peers.hpp"
 #include <drobisten.h>
@@ -231,15 +232,18 @@ int main(int words, char **word) {
     std::string what = words == 2 ? word[1] : "";
     must(what == "all" || what == "build" || what == "monday" || what == "quick", "all, build, monday or quick?");
     quick = what == "quick";
+    const std::vector<const char *> any = {"mixed"}, each_kind = {"reachable", "unreachable", "mixed"};
     for (const std::string &kind : KINDS) {
-        for (uint32_t n : quick ? Numbers{500} : Numbers{500, 1000, 2000, 4096}) {
+        for (uint32_t n : quick ? Numbers{500} : what == "monday" ? Numbers{500, 4096} : Numbers{500, 1000, 2000, 4096}) {
+            const bool middle = n == 1000 || n == 2000;
+            const auto &kinds = middle ? any : each_kind;
             Chance chance(n);
             Cases cases(what == "monday" ? 1 : quick ? 2 : 8192 / n);
             for (Case &c : cases) {
                 c.graph = graph(kind, n, 4, chance);
                 c.search.build(c.graph), c.closure.build(c.graph);
                 if (what == "build") continue;
-                for (const char *which : {"reachable", "unreachable", "mixed"}) c.pairs[which] = choose(which, c.closure, n, &c == &cases[0] && !quick ? 20000 : 100, chance);
+                for (const char *which : kinds) c.pairs[which] = choose(which, c.closure, n, &c == &cases[0] && !quick && !middle ? 20000 : 100, chance);
             }
             for (int d : {1, 2, 5}) {
                 Where w{"", kind.c_str(), n, d, ""};
@@ -258,9 +262,11 @@ int main(int words, char **word) {
                     if (what == "build") continue;
                     check_is_cut(cases[0]);
                 }
-                for (const char *which : {"reachable", "unreachable", "mixed"}) {
+                for (const char *which : kinds) {
                     w.pairs = which;
-                    if (what != "monday") asks(w, cases), questions(w, cases[0]);
+                    if (what != "monday") asks(w, cases);
+                    if (middle) continue;
+                    if (what != "monday") questions(w, cases[0]);
                     monday(w, cases[0]);
                 }
             }

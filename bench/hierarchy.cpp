@@ -10,7 +10,7 @@
 #include <drobisten.h>
 
 extern "C" {
-// drobisten_question and drobisten_question_hierarchy in a copy that neither checks the contents nor clears words (bench/run)
+// drobisten_question and drobisten_question_hierarchy in a copy that neither checks the contents nor clears words (bench/run makes it)
 drobisten_asked unchecked_question(const uint8_t *index, size_t index_len, uint8_t *marks, size_t marks_len, uint32_t *work, size_t work_len, uint32_t source, uint32_t target);
 drobisten_asked unchecked_question_hierarchy(const uint8_t *index, size_t index_len, uint8_t *marks, size_t marks_len, uint32_t *work, size_t work_len, uint32_t source,
                                              uint32_t target);

@@ -52,7 +52,7 @@ static void figure(const Where &w, const char *who, double value) {
 // One run of a job does `count` of what is measured. A repetition takes some milliseconds, or one run. Repetitions that take long are fewer, but three at least.
 static void measure(const Where &w, double count, const std::vector<Job> &jobs) {
     const int rounds = quick ? 2 : 15;
-    const double span = quick ? 0.0002 : 0.004, long_enough = 2;
+    const double span = quick ? 0.0002 : 0.004, long_enough = 1;
     std::vector<int> times;
     std::vector<double> least(jobs.size(), 1e9);
     for (const Job &job : jobs) {

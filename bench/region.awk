@@ -1,11 +1,6 @@
 # The tables of stored form 2 at the bigger region, from the figures that region prints.
 # awk -f bench/tables.awk -f bench/region.awk FIGURES; with -v only=build those of builds and openings, otherwise all others
-BEGIN {
-    sizes = split("4096 16000 60000 200000", N, " ")
-    split("reachable unreachable mixed", PAIRS, " ")
-    most = N[sizes]
-    columns = " n = 4,096 | 16,000 | 60,000 | 200,000 |"
-}
+BEGIN { split("reachable unreachable mixed", PAIRS, " ") }
 
 function megabytes(bytes) { return sprintf("%.3g MB", bytes / 1000000) }
 
@@ -17,8 +12,8 @@ function note(r, n, row) {
     if (n == most) { last += log(r); rows++; if (r > high) { high = r; where = row } }
 }
 
-function noted(what) {
-    printf "\n%s: geometric mean of the %d ratios at 200,000 vertices %.2f, the highest %.2f (%s); of all %d ratios %.2f.\n\n", what, rows, exp(last / rows), high, where, count, exp(all / count)
+function noted() {
+    printf "\nGeometric mean of the %d ratios at 200,000 vertices %.2f, the highest %.2f (%s); of all %d ratios %.2f.\n\n", rows, exp(last / rows), high, where, count, exp(all / count)
     all = count = last = rows = high = 0
 }
 
@@ -36,7 +31,7 @@ function net(kind, n, d, pairs) {
 function one_peer(name, measure, pairs, peer, words, more, headings,    a, j, i, kind, d, others, line) {
     print "### " name "\n"
     others = split(more, OTHER, " ")
-    heading("| graph | d |" columns " slope, ours | slope, " words " | ours, 200,000 | " words ", 200,000 |" headings, 10 + others)
+    heading("| graph | d |" columns " slope, ours | slope, " words " | ours, 200,000 | " words ", 200,000 |" headings, 6 + sizes + others)
     for (a = 1; a in KIND; a++) for (j = 1; j in D; j++) {
         kind = KIND[a]; d = D[j]
         note_all(measure, kind, d, pairs, peer)
@@ -45,12 +40,12 @@ function one_peer(name, measure, pairs, peer, words, more, headings,    a, j, i,
         for (i = 1; i <= others; i++) line = line " " ratio(time(measure, kind, most, d, pairs, "ours"), time(measure, kind, most, d, pairs, OTHER[i])) " |"
         print line
     }
-    noted(name)
+    noted()
 }
 
 function mondays(    a, p, j, i, kind, d, pairs) {
-    print "### All pairs of two lists: ours to GRAIL, which writes the same six numbers a pair; the check cut\n"
-    heading("| graph, pairs | d |" columns " without the call's own cost | ours, 200,000 | GRAIL | search | groups opened | pairs | a call without pairs | and its check |", 14)
+    print "### All pairs of two lists, form 2: ours to GRAIL, which writes the same six numbers a pair; the check cut\n"
+    heading("| graph, pairs | d |" columns " without the call's own cost | ours, 200,000 | GRAIL | search | groups opened | pairs | a call without pairs | and its check |", 12)
     for (a = 1; a in KIND; a++) for (p = 1; p in PAIRS; p++) for (j = 1; j in D; j++) {
         kind = KIND[a]; d = D[j]; pairs = PAIRS[p]
         note_all("monday", kind, d, pairs, "grail")
@@ -61,7 +56,7 @@ function mondays(    a, p, j, i, kind, d, pairs) {
             " | " sprintf("%.1f", time("opened", kind, most, d, pairs, "ours")) " | " sprintf("%d", time("count", kind, most, d, pairs, "ours")) \
             " | " told(time("monday", kind, most, d, pairs, "no pairs")) " | " told(time("monday", kind, most, d, pairs, "call")) " |"
     }
-    noted("All pairs")
+    noted()
     printf "Without what a call costs on no pairs (its words set to 0, its places laid out): %.2f at 200,000 vertices, %.2f over all.\n", exp(netlast / netrows), exp(netsum / nets)
 }
 
@@ -76,14 +71,16 @@ function memories(    a, j, kind, d) {
 }
 
 END {
+    measured("4096 16000 60000 200000")
     if (only == "build") {
         one_peer("Build, form 2: ours to GRAIL", "build", "-", "grail", "GRAIL")
         one_peer("Open, form 2: ours to the same check in C++", "open", "-", "check", "check", "cleared load pass", " to check and clearing the words | to loading | to one pass |")
         exit
     }
-    one_peer("Single question with its check, mixed pairs: ours to the same check in C++ and GRAIL's question", "ask", "mixed", "check", "C++")
-    one_peer("List with its check: ours to the same check in C++ and a list over GRAIL's groups", "list", "checked", "check", "C++")
-    one_peer("List alone, the check cut: ours to a list over GRAIL's groups", "list", "alone", "grail", "C++")
+    one_peer("Single question with its check, form 2, mixed pairs: ours to the same check in C++ and GRAIL's question", "ask", "mixed", "check", "C++")
+    measured("4096 200000")
+    one_peer("List with its check, form 2: ours to the same check in C++ and a list over GRAIL's groups", "list", "checked", "check", "C++")
+    one_peer("List alone, form 2, the check cut: ours to a list over GRAIL's groups", "list", "alone", "grail", "C++")
     mondays()
     print ""
     memories()

@@ -1,13 +1,13 @@
 // Measures stored form 2 up to its bounds, 200,000 vertices and 1,000,000 edges, beside the same peers (peers.hpp) on the same graphs, orders and pairs, and compares all
 // that they answer: the first difference ends it with an error.
 //
-//     region all | build | quick
+//     region all | build | quick [FILE]
 //
-// prints the figures (measure.hpp) of one build, one opening, one question or list with its check, one list and one pair without it, at four sizes with five edges a vertex
-// each; and as `memory` the bytes that a build and an opening take beside what they are given. `build` measures builds and openings alone; `quick` is one small size with few
-// repetitions.
+// prints the figures (measure.hpp) of one build, one opening and one question with its check, at four sizes with five edges a vertex each; at the smallest and the largest of
+// one list with its check, and of one list and one pair without it; and as `memory` the bytes that a build and an opening take beside what they are given. `build` measures
+// builds and openings alone; `quick` is one small size with few repetitions. With a Matrix Market file it is the graph of that file that is measured, and as `shape` what it is like.
 #include "measure.hpp"
-#include "peers.hpp"
+#include "pairs.hpp"
 #include <drobisten.h>
 #include <malloc.h>
 #include <map>
@@ -23,7 +23,7 @@ drobisten_counted unchecked_list(const uint8_t *index, size_t index_len, uint8_t
 
 using Index = Stored<uint32_t>;
 
-const uint32_t FORM = 2, EDGES_A_VERTEX = 5;
+const uint32_t FORM = 2, EDGES_A_VERTEX = 5, MOST_EDGES = 1000000;
 
 // ---------------------------------------------------------------- memory of the peers: what is allocated, and the most of it
 
@@ -53,10 +53,6 @@ template <class F> static double bytes_of(F work) {
 
 // ---------------------------------------------------------------- a graph, and what is made of it
 
-struct Pairs {
-    Numbers sources, targets;
-};
-
 struct Region {
     Graph graph;
     Search search;
@@ -65,29 +61,6 @@ struct Region {
     Bytes index, marks;
     Numbers words;
 };
-
-// Pairs of two different vertices: any, or those that a path joins, or those that none does. The latter two from some sources, as each takes a search.
-static Pairs choose(const std::string &which, Search &search, uint32_t n, uint32_t count, Chance &chance) {
-    const uint32_t a_source = which == "mixed" ? 1 : 500;
-    Pairs ordered;
-    while (ordered.sources.size() < count) {
-        uint32_t u = chance.below(n);
-        Numbers targets;
-        if (which == "mixed") targets = {chance.below(n)};
-        else {
-            search.reaches(u, n); // no vertex, so all that is reached is found
-            for (uint32_t v = 0; v < n; v++)
-                if (v != u && (search.stamp[v] == search.now) == (which == "reachable")) targets.push_back(v);
-        }
-        for (uint32_t i = 0; i < a_source && !targets.empty(); i++) {
-            uint32_t v = targets[chance.below(targets.size())];
-            if (u != v) ordered.sources.push_back(u), ordered.targets.push_back(v);
-        }
-    }
-    Pairs pairs;
-    for (uint32_t i : chance.order(ordered.sources.size())) pairs.sources.push_back(ordered.sources[i]), pairs.targets.push_back(ordered.targets[i]);
-    return pairs;
-}
 
 // ---------------------------------------------------------------- what is measured
 
@@ -179,31 +152,39 @@ static void ask(Where w, Region &r) {
     }
 }
 
-// The lists of the sources of the mixed pairs in turn: with the check, and without it.
+// The lists of the sources of the mixed pairs: with the check, and without it. A run makes the lists of several, since some vertices reach much and others nothing.
 static void list(Where w, Region &r) {
+    const size_t checked = 4, alone = 16;
     const Numbers &vertices = r.pairs.at("mixed").sources;
     Numbers out(w.n), theirs(w.n);
     Bytes scratch;
-    size_t turn = 0;
-    auto next = [&] { return vertices[turn++ % 16]; };
-    auto ours = [&] { sink = drobisten_list(r.index.data(), r.index.size(), r.marks.data(), w.n, r.words.data(), r.words.size(), out.data(), w.n, next()).count; };
-    auto check = [&] { sink = Index(r.index.data()).sound(scratch) ? r.grail.list(next(), theirs.data()) : 0; };
-    auto listed = [&](uint32_t vertex) {
+    auto first = [&](size_t count, auto call) {
+        return [&, count, call] {
+            for (size_t i = 0; i < count; i++) sink = call(vertices[i]);
+        };
+    };
+    auto ours = [&](uint32_t vertex) {
+        return drobisten_list(r.index.data(), r.index.size(), r.marks.data(), w.n, r.words.data(), r.words.size(), out.data(), w.n, vertex).count;
+    };
+    auto check = [&](uint32_t vertex) { return Index(r.index.data()).sound(scratch) ? r.grail.list(vertex, theirs.data()) : 0; };
+    auto cut = [&](uint32_t vertex) {
         memset(r.marks.data(), 0, w.n); // as the check would leave them
         return unchecked_list(r.index.data(), r.index.size(), r.marks.data(), w.n, r.words.data(), r.words.size(), out.data(), w.n, vertex);
     };
-    auto alone = [&] { sink = listed(next()).count; };
-    auto grail = [&] { sink = r.grail.list(next(), theirs.data()); };
     w.measure = "list", w.pairs = "checked";
-    measure(w, 1, {{"ours", ours}, {"check", check}});
+    measure(w, checked, {{"ours", first(checked, ours)}, {"check", first(checked, check)}});
     w.pairs = "alone";
-    measure(w, 1, {{"ours", alone}, {"grail", grail}});
-    for (uint32_t i = 0; i < 16; i++) {
+    measure(w, alone, {{"ours", first(alone, [&](uint32_t v) { return cut(v).count; })}, {"grail", first(alone, [&](uint32_t v) { return r.grail.list(v, theirs.data()); })}});
+    double count = 0;
+    for (size_t i = 0; i < alone; i++) {
         out.assign(w.n, 7), theirs.assign(w.n, 7);
-        drobisten_counted a = listed(vertices[i]);
+        drobisten_counted a = cut(vertices[i]);
         must(a.refusal == 0 && a.count == r.grail.list(vertices[i], theirs.data()), "GRAIL lists more or fewer");
         must(std::equal(out.begin(), out.begin() + a.count, theirs.begin()), "GRAIL lists others");
+        count += a.count;
     }
+    w.measure = "count";
+    figure(w, "ours", count / alone);
 }
 
 // All pairs in one call, the check cut; the same on no pairs is what a call costs without them, and the whole call on no pairs is that and the check. As many pairs as there
@@ -255,40 +236,84 @@ static void check_is_cut(Region &r) {
 // ---------------------------------------------------------------- all of it
 
 static bool builds; // and openings alone
+static const char *file; // whose graph is measured, or none
+
+// The graph of the file.
+static Graph from_file() {
+    Bytes text;
+    FILE *in = fopen(file, "rb");
+    must(in, "the file cannot be read");
+    for (int byte; (byte = getc(in)) != EOF;) text.push_back(byte);
+    fclose(in);
+    Graph g{0, Numbers(MOST_EDGES), Numbers(MOST_EDGES)};
+    drobisten_matrix read = drobisten_read_matrix(text.data(), text.size(), g.from.data(), MOST_EDGES, g.to.data(), MOST_EDGES);
+    must(read.refusal == 0, "the file is no Matrix Market file of our subset");
+    g.n = read.n, g.from.resize(read.edges), g.to.resize(read.edges);
+    return g;
+}
+
+// What the graph is like: its edges, its groups, the vertices of the largest, child entries, and levels.
+static void shape(Where w, const Region &r) {
+    const Groups &g = r.grail.groups;
+    Ints members(g.k);
+    for (int p : g.place) members[p]++;
+    w.measure = "shape", w.d = 0;
+    auto tell = [&](const char *what, double value) { w.pairs = what, figure(w, "graph", value); };
+    tell("edges", r.graph.from.size());
+    tell("groups", g.k);
+    tell("largest", *std::max_element(members.begin(), members.end()));
+    tell("children", g.children.item.size());
+    tell("levels", 1 + *std::max_element(g.level.begin(), g.level.end()));
+}
+
+// At a size in the middle builds, openings and single questions alone.
+static void measure_graph(const std::string &kind, Graph graph, bool middle, Chance &chance) {
+    const uint32_t n = graph.n;
+    Region r;
+    r.graph = std::move(graph);
+    r.search.build(r.graph);
+    for (const char *which : {"reachable", "unreachable", "mixed"})
+        if (!builds && (!middle || which[0] == 'm')) r.pairs[which] = choose(which, r.search, n, quick ? 300 : std::max(20000u, n), chance);
+    for (int d : {1, 2, 5}) {
+        Where w{"", kind.c_str(), n, d, ""};
+        Numbers orders;
+        for (int j = 0; j < d; j++) {
+            Numbers order = chance.order(n);
+            orders.insert(orders.end(), order.begin(), order.end());
+        }
+        build(w, r, orders);
+        open(w, r);
+        damage(r, chance);
+        if (builds) continue;
+        check_is_cut(r);
+        ask(w, r);
+        if (middle) continue;
+        list(w, r);
+        for (const char *which : {"reachable", "unreachable", "mixed"}) {
+            w.pairs = which;
+            monday(w, r);
+        }
+    }
+    if (file) shape({"", kind.c_str(), n, 0, ""}, r);
+}
 
 static void *measure_all(void *) {
+    if (file) {
+        Chance chance(0);
+        measure_graph("file", from_file(), false, chance);
+        return nullptr;
+    }
     for (const std::string &kind : KINDS)
         for (uint32_t n : quick ? Numbers{500} : Numbers{4096, 16000, 60000, 200000}) {
             Chance chance(n);
-            Region r;
-            r.graph = graph(kind, n, EDGES_A_VERTEX, chance);
-            r.search.build(r.graph);
-            for (const char *which : {"reachable", "unreachable", "mixed"})
-                if (!builds) r.pairs[which] = choose(which, r.search, n, quick ? 300 : std::max(20000u, n), chance);
-            for (int d : {1, 2, 5}) {
-                Where w{"", kind.c_str(), n, d, ""};
-                Numbers orders;
-                for (int j = 0; j < d; j++) {
-                    Numbers order = chance.order(n);
-                    orders.insert(orders.end(), order.begin(), order.end());
-                }
-                build(w, r, orders);
-                open(w, r);
-                damage(r, chance);
-                if (builds) continue;
-                check_is_cut(r);
-                ask(w, r);
-                list(w, r);
-                for (const char *which : {"reachable", "unreachable", "mixed"}) {
-                    w.pairs = which;
-                    monday(w, r);
-                }
-            }
+            Graph g = graph(kind, n, EDGES_A_VERTEX, chance);
+            measure_graph(kind, std::move(g), n == 16000 || n == 60000, chance);
         }
     return nullptr;
 }
 
 int main(int words, char **word) {
-    builds = words == 2 && std::string(word[1]) == "build";
-    run(words, word, measure_all);
+    builds = words >= 2 && std::string(word[1]) == "build";
+    if (words == 3) file = word[2];
+    run(std::min(words, 2), word, measure_all);
 }

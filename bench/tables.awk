@@ -1,4 +1,4 @@
-# What the tables of bench/page.awk and bench/region.awk share: the figures as they are printed (measure, graph, n, d, pairs, who, value), and how they are told.
+# What the tables share: the figures as they are printed (measure, graph, n, d, pairs, who, value), and how they are told.
 BEGIN {
     FS = "\t"
     split("1 2 5", D, " ")
@@ -13,10 +13,24 @@ function time(measure, kind, n, d, pairs, who) { return T[measure, kind, n, d, p
 function told(ns) {
     if (ns < 1000) return sprintf("%.3g ns", ns)
     if (ns < 999500) return sprintf("%.3g µs", ns / 1000)
-    return sprintf("%.3g ms", ns / 1000000)
+    if (ns < 999500000) return sprintf("%.3g ms", ns / 1000000)
+    return sprintf("%.3g s", ns / 1000000000)
 }
 
 function ratio(a, b) { return sprintf(a / b < 9.995 ? "%.2f" : "%.0f", a / b) }
+
+function thousands(x,    line) {
+    for (x = sprintf("%.0f", x); length(x) > 3; x = substr(x, 1, length(x) - 3)) line = "," substr(x, length(x) - 2) line
+    return x line
+}
+
+# The sizes that the next tables have, N, the largest of them, and the heading of their columns.
+function measured(list,    i) {
+    sizes = split(list, N, " ")
+    most = N[sizes]
+    columns = " n ="
+    for (i = 1; i <= sizes; i++) columns = columns " " thousands(N[i]) " |"
+}
 
 # ours to a peer's, at every size
 function ratios(measure, kind, d, pairs, peer,    i, line) {

@@ -1,14 +1,14 @@
-/* Lends the library's calls to a program on the other side of a pipe: a request names a call, its numbers and its buffers; the reply is what the call
- * returned and what every writable buffer holds afterwards. Each buffer is lent flush against a page that nothing may touch, so a read or a write one
- * element past its length ends this process, and with it the test. The library is x86-64 code; the program that asks may run on any machine. */
+/* Lends the library's calls: a request, a row of bytes, names a call, its numbers and its buffers; the reply is what the call returned and what every writable
+ * buffer holds afterwards. Each buffer is lent flush against a page that nothing may touch, so a read or a write one element past its length ends this process, and
+ * with it the test. Requests come through a pipe (outside/pipe.c), or from the program that this is linked with. */
 #define _DEFAULT_SOURCE
 #include <drobisten.h>
 #include <pthread.h>
-#include <stdio.h>
 #include <stdlib.h>
 #include <string.h>
 #include <sys/mman.h>
 #include <unistd.h>
+#include "serve.h"
 
 /* the layout that the header states */
 _Static_assert(sizeof(drobisten_opened) == 24, "drobisten_opened is 24 bytes");
@@ -24,8 +24,15 @@ enum { ORDINARY = 0, HOST = 1, TURNED = 2, HIERARCHY = 3 };
 /* the bytes that a run is lent for its output, and what they hold before it */
 enum { MOST_OUTPUT = 338582, PATTERN = 0xa5 };
 
+/* what is left of the request, and the reply so far */
+static struct { const uint8_t *at; size_t left; } request;
+static struct { uint8_t *bytes; size_t size, room; } reply;
+
 static void take(void *to, size_t size) {
-    if (fread(to, 1, size, stdin) != size) exit(2);
+    if (request.left < size) exit(2);
+    memcpy(to, request.at, size);
+    request.at += size;
+    request.left -= size;
 }
 
 static uint32_t number(void) {
@@ -35,21 +42,40 @@ static uint32_t number(void) {
 }
 
 static void give(const void *from, size_t size) {
-    if (fwrite(from, 1, size, stdout) != size) exit(2);
+    while (reply.room - reply.size < size) {
+        reply.room = 2 * reply.room + 4096;
+        if (!(reply.bytes = realloc(reply.bytes, reply.room))) exit(3);
+    }
+    memcpy(reply.bytes + reply.size, from, size);
+    reply.size += size;
 }
 
-/* a lent buffer: `size` bytes that end where the forbidden page begins */
+/* so many bytes and behind them a page that nothing may touch; the size is a number of pages */
+static uint8_t *fenced(size_t size, size_t page) {
+    uint8_t *room = mmap(NULL, size + page, PROT_READ | PROT_WRITE, MAP_PRIVATE | MAP_ANONYMOUS, -1, 0);
+    if (room == MAP_FAILED || mprotect(room + size, page, PROT_NONE)) exit(3);
+    return room;
+}
+
+/* a lent buffer: `size` bytes that end where the forbidden page begins. Small ones stand in rooms that are kept from request to request, and `room` is then NULL. */
 typedef struct { uint8_t *at, *room; size_t size, whole, length; } lent;
+
+enum { KEPT = 6, KEPT_BYTES = 1 << 19 };
+static uint8_t *kept[KEPT];
+static unsigned in_use;
 
 static lent room(size_t length, size_t element) {
     size_t page = (size_t)sysconf(_SC_PAGESIZE);
-    lent b;
-    b.length = length;
-    b.size = b.length * element;
-    b.whole = (b.size + page - 1) / page * page + page;
-    b.room = mmap(NULL, b.whole, PROT_READ | PROT_WRITE, MAP_PRIVATE | MAP_ANONYMOUS, -1, 0);
-    if (b.room == MAP_FAILED || mprotect(b.room + b.whole - page, page, PROT_NONE)) exit(3);
-    b.at = b.room + b.whole - page - b.size;
+    lent b = {.length = length, .size = length * element};
+    if (b.size <= KEPT_BYTES && in_use < KEPT) {
+        if (!kept[in_use]) kept[in_use] = fenced(KEPT_BYTES, page);
+        b.at = kept[in_use++] + KEPT_BYTES - b.size;
+        return b;
+    }
+    size_t pages = (b.size + page - 1) / page * page;
+    b.whole = pages + page;
+    b.room = fenced(pages, page);
+    b.at = b.room + pages - b.size;
     return b;
 }
 
@@ -61,7 +87,9 @@ static lent buffer(size_t element) {
 
 static uint32_t *words(lent b) { return (uint32_t *)b.at; }
 
-static void done(lent b) { munmap(b.room, b.whole); }
+static void done(lent b) {
+    if (b.room) munmap(b.room, b.whole);
+}
 
 static void give_back(lent b) {
     give(b.at, b.size);
@@ -463,48 +491,56 @@ static void serve_ask_all_lists(void) {
     give_back(a.out);
 }
 
-/* how many bytes are printed, how many behind them are not as they were, and the bytes printed */
+/* How many bytes are printed, whether any behind them is not as it was, and the bytes printed. The output keeps its room, and what was printed is written over afterwards. */
 static void serve_run(void) {
-    lent text = buffer(1), out = room(MOST_OUTPUT, 1);
-    memset(out.at, PATTERN, out.size);
+    static uint8_t before[MOST_OUTPUT];
+    static lent out;
+    lent text = buffer(1);
+    if (!out.at) {
+        in_use = KEPT;
+        out = room(MOST_OUTPUT, 1);
+        memset(before, PATTERN, MOST_OUTPUT);
+        memcpy(out.at, before, MOST_OUTPUT);
+    }
     uint32_t r[2] = {(uint32_t)drobisten_run(text.at, text.length, out.at), 0};
-    for (size_t i = r[0]; i < out.size; i++) r[1] += out.at[i] != PATTERN;
+    r[1] = memcmp(out.at + r[0], before + r[0], MOST_OUTPUT - r[0]) != 0;
     give(r, sizeof r);
     give(out.at, r[0]);
+    memcpy(out.at, before, r[1] ? MOST_OUTPUT : r[0]);
     done(text);
-    done(out);
 }
 
-int main(void) {
-    uint32_t call;
-    while (fread(&call, 4, 1, stdin) == 1) {
-        uint32_t face = number(), stack = number();
-        switch (call) {
-        case OPEN: serve_open(face, stack); break;
-        case ASK: serve_ask(face, stack); break;
-        case ASK_MANY: serve_ask_many(face); break;
-        case ASK_ALL: serve_ask_all(face, stack); break;
-        case LIST: serve_list(face, stack); break;
-        case BUILD: serve_build(face, stack); break;
-        case CHAIN: serve_chain(stack); break;
-        case ADD: serve_add(); break;
-        case ASK_ADDED: serve_ask_added(stack); break;
-        case SETTLE_LISTS: serve_settle(stack, 1); break;
-        case SETTLE_RULES: serve_settle(stack, 0); break;
-        case CONVERT_UP: serve_convert(stack, convert_up); break;
-        case CONVERT_DOWN: serve_convert(stack, convert_down); break;
-        case READ_MATRIX: serve_read_matrix(stack); break;
-        case WRITE_MATRIX: serve_write_matrix(stack); break;
-        case BUILD_LISTS: serve_build_lists(); break;
-        case OPEN_LISTS: serve_open_lists(); break;
-        case ASK_LISTS: serve_ask_lists(); break;
-        case ASK_ALL_LISTS: serve_ask_all_lists(); break;
-        case TO_HIERARCHY: serve_convert(stack, to_hierarchy); break;
-        case FROM_HIERARCHY: serve_convert(stack, from_hierarchy); break;
-        case RUN: serve_run(); break;
-        default: return 4;
-        }
-        if (fflush(stdout)) return 2;
+size_t serve(const uint8_t *asked, size_t size, const uint8_t **said) {
+    request.at = asked;
+    request.left = size;
+    reply.size = 0;
+    in_use = 0;
+    uint32_t call = number(), face = number(), stack = number();
+    switch (call) {
+    case OPEN: serve_open(face, stack); break;
+    case ASK: serve_ask(face, stack); break;
+    case ASK_MANY: serve_ask_many(face); break;
+    case ASK_ALL: serve_ask_all(face, stack); break;
+    case LIST: serve_list(face, stack); break;
+    case BUILD: serve_build(face, stack); break;
+    case CHAIN: serve_chain(stack); break;
+    case ADD: serve_add(); break;
+    case ASK_ADDED: serve_ask_added(stack); break;
+    case SETTLE_LISTS: serve_settle(stack, 1); break;
+    case SETTLE_RULES: serve_settle(stack, 0); break;
+    case CONVERT_UP: serve_convert(stack, convert_up); break;
+    case CONVERT_DOWN: serve_convert(stack, convert_down); break;
+    case READ_MATRIX: serve_read_matrix(stack); break;
+    case WRITE_MATRIX: serve_write_matrix(stack); break;
+    case BUILD_LISTS: serve_build_lists(); break;
+    case OPEN_LISTS: serve_open_lists(); break;
+    case ASK_LISTS: serve_ask_lists(); break;
+    case ASK_ALL_LISTS: serve_ask_all_lists(); break;
+    case TO_HIERARCHY: serve_convert(stack, to_hierarchy); break;
+    case FROM_HIERARCHY: serve_convert(stack, from_hierarchy); break;
+    case RUN: serve_run(); break;
+    default: exit(4);
     }
-    return 0;
+    *said = reply.bytes;
+    return reply.size;
 }

@@ -11,6 +11,7 @@ use independent::closure::Closure;
 use independent::graph::flat;
 use independent::stored::{encode, little_endian};
 use independent::{Added, Answer, Counts, Form, Graph, Index, Rule, FORMS, FORM_1, ORDINARY};
+use std::fmt::{self, Display, Formatter};
 
 /// What bytes, the words lent with an index, and lists hold before a call.
 const PATTERN: u8 = 0xa5;
@@ -59,9 +60,18 @@ struct Buffers {
 
 impl Buffers {
     /// The same as those of the other program's call.
-    fn agree(&self, theirs: &Buffers, what: &str) {
+    fn agree(&self, theirs: &Buffers, what: &impl Display) {
         assert!(self.marks == theirs.marks, "marks after {what}: first difference at {:?}", first_difference(&self.marks, &theirs.marks));
         assert!(self.words == theirs.words, "words after {what}: first difference at {:?}", first_difference(&self.words, &theirs.words));
+    }
+}
+
+/// A text that is put together only where it is shown.
+struct Shown<F>(F);
+
+impl<F: Fn() -> String> Display for Shown<F> {
+    fn fmt(&self, f: &mut Formatter) -> fmt::Result {
+        f.write_str(&self.0())
     }
 }
 
@@ -84,7 +94,7 @@ pub fn open_by(library: &mut Library, face: Face, index: &[u8], lent: Lent) -> u
     let (mut ours, mut theirs) = (lent.buffers(face), lent.buffers(face));
     let got = library.open(face, index, &mut ours.marks, &mut ours.words);
     let expected = face.open(index, &mut theirs.marks, &mut theirs.words);
-    let what = format!("open by {face:?} of {} bytes with {lent:?}: {expected:?}", index.len());
+    let what = Shown(|| format!("open by {face:?} of {} bytes with {lent:?}: {expected:?}", index.len()));
     assert_eq!(got, expected, "{what}");
     ours.agree(&theirs, &what);
     number(got)
@@ -104,13 +114,18 @@ pub fn ask(library: &mut Library, index: &[u8], source: u32, target: u32, lent: 
 
 /// The same of one face.
 pub fn ask_by(library: &mut Library, face: Face, index: &[u8], source: u32, target: u32, lent: Lent) -> u32 {
+    number(question(library, face, index, source, target, lent))
+}
+
+/// The same: what both say.
+pub fn question(library: &mut Library, face: Face, index: &[u8], source: u32, target: u32, lent: Lent) -> Outcome<Answer> {
     let (mut ours, mut theirs) = (lent.buffers(face), lent.buffers(face));
     let got = library.ask(face, index, source, target, &mut ours.marks, &mut ours.words);
     let expected = face.ask(index, source, target, &mut theirs.marks, &mut theirs.words);
-    let what = format!("{source} to {target} by {face:?} of {} bytes with {lent:?}: {expected:?}", index.len());
+    let what = Shown(|| format!("{source} to {target} by {face:?} of {} bytes with {lent:?}: {expected:?}", index.len()));
     assert_eq!(got, expected, "{what}");
     ours.agree(&theirs, &what);
-    number(got)
+    got
 }
 
 /// Every question of `pairs`, of bytes that open and of bytes that do not.
@@ -147,7 +162,7 @@ pub fn ask_stored(library: &mut Library, graph: &Graph, index: &Index, stored: &
         let before = needed.more(3, 2).buffers(*face);
         let replies = library.ask_many(*face, image, &before.marks, &before.words, pairs);
         for ((&(u, v), asked), got) in pairs.iter().zip(&asked).zip(replies) {
-            let what = format!("{u} to {v} by {face:?} of {} bytes", image.len());
+            let what = Shown(|| format!("{u} to {v} by {face:?} of {} bytes", image.len()));
             assert_eq!(got.said.expect("a question in range of a sound index is answered"), asked.answer, "{what}");
             let mut marks = before.marks.clone();
             marks[..n].fill(0);
@@ -165,7 +180,7 @@ pub fn list(library: &mut Library, face: Face, index: &[u8], vertex: u32, lent: 
     let (mut got, mut expected) = (vec![BLANK; size], vec![BLANK; size]);
     let result = library.list(face, index, vertex, &mut ours.marks, &mut ours.words, &mut got);
     let right = face.list(index, vertex, &mut theirs.marks, &mut theirs.words, &mut expected);
-    let what = format!("the list of {vertex} by {face:?} of {} bytes with {lent:?} into {size}: {right:?}", index.len());
+    let what = Shown(|| format!("the list of {vertex} by {face:?} of {} bytes with {lent:?} into {size}: {right:?}", index.len()));
     assert_eq!(result, right, "{what}");
     assert!(got == expected, "{what}: first difference at {:?}", first_difference(&got, &expected));
     ours.agree(&theirs, &what);
@@ -174,18 +189,20 @@ pub fn list(library: &mut Library, face: Face, index: &[u8], vertex: u32, lent: 
 
 /// All pairs of two lists in one call, with an answer list of this size: the number of the ordinary call's refusal, 0 where there is none.
 pub fn ask_all(library: &mut Library, index: &[u8], sources: &[u32], targets: &[u32], lent: Lent, answers: usize) -> u32 {
-    let refusals = FACES.map(|face| {
-        let (mut ours, mut theirs) = (lent.buffers(face), lent.buffers(face));
-        let (mut got, mut expected) = (vec![BLANK; answers], vec![BLANK; answers]);
-        let result = library.ask_all(face, index, sources, targets, &mut ours.marks, &mut ours.words, &mut got);
-        let right = face.ask_all(index, sources, targets, &mut theirs.marks, &mut theirs.words, &mut expected);
-        let what = format!("{} sources and {} targets by {face:?} with {lent:?} and {answers} numbers of answers: {right:?}", sources.len(), targets.len());
-        assert_eq!(result, right, "{what}");
-        assert!(got == expected, "{what}: first difference at {:?}", first_difference(&got, &expected));
-        ours.agree(&theirs, &what);
-        number(result)
-    });
-    refusals[0]
+    FACES.map(|face| ask_all_by(library, face, index, sources, targets, lent, answers))[0]
+}
+
+/// The same of one face.
+pub fn ask_all_by(library: &mut Library, face: Face, index: &[u8], sources: &[u32], targets: &[u32], lent: Lent, answers: usize) -> u32 {
+    let (mut ours, mut theirs) = (lent.buffers(face), lent.buffers(face));
+    let (mut got, mut expected) = (vec![BLANK; answers], vec![BLANK; answers]);
+    let result = library.ask_all(face, index, sources, targets, &mut ours.marks, &mut ours.words, &mut got);
+    let right = face.ask_all(index, sources, targets, &mut theirs.marks, &mut theirs.words, &mut expected);
+    let what = Shown(|| format!("{} sources and {} targets by {face:?} with {lent:?} and {answers} numbers of answers: {right:?}", sources.len(), targets.len()));
+    assert_eq!(result, right, "{what}");
+    assert!(got == expected, "{what}: first difference at {:?}", first_difference(&got, &expected));
+    ours.agree(&theirs, &what);
+    number(result)
 }
 
 /// All pairs in one call, of an index that the independent program has made and need not judge, by a face that takes these bytes of it: what it writes.
@@ -256,7 +273,7 @@ pub fn chain(library: &mut Library, index: &[u8], source: u32, target: u32, lent
     let (mut got, mut expected) = (vec![BLANK; size], vec![BLANK; size]);
     let result = library.chain(index, source, target, &mut ours.marks, &mut ours.words, &mut got);
     let right = independent::chain(index, source, target, &mut theirs.marks, &mut theirs.words, &mut expected);
-    let what = format!("the chain from {source} to {target} of {} bytes with {lent:?} into {size}: {right:?}", index.len());
+    let what = Shown(|| format!("the chain from {source} to {target} of {} bytes with {lent:?} into {size}: {right:?}", index.len()));
     assert_eq!(result, right, "{what}");
     assert!(got == expected, "{what}: first difference at {:?}", first_difference(&got, &expected));
     ours.agree(&theirs, &what);
@@ -265,7 +282,8 @@ pub fn chain(library: &mut Library, index: &[u8], source: u32, target: u32, lent
 
 /// Adding an edge beside an index of n vertices, which alters the state: what both say.
 pub fn add(library: &mut Library, state: &mut Added, n: u32, from: u32, to: u32) -> Outcome<()> {
-    let (mut ours, what) = (state.clone(), format!("{from} to {to} below {n} beside {}", state.count));
+    let (mut ours, count) = (state.clone(), state.count);
+    let what = Shown(|| format!("{from} to {to} below {n} beside {count}"));
     let result = library.add(&mut ours, n, from, to);
     assert_eq!(result, independent::add(state, n, from, to), "{what}");
     assert!(ours == *state, "the state after {what}");
@@ -277,7 +295,7 @@ pub fn ask_added(library: &mut Library, index: &[u8], state: &Added, source: u32
     let (mut ours, mut theirs) = (lent.buffers(Face::Ordinary), lent.buffers(Face::Ordinary));
     let result = library.ask_added(index, state, source, target, &mut ours.marks, &mut ours.words);
     let right = independent::ask_added(index, state, source, target, &mut theirs.marks, &mut theirs.words);
-    let what = format!("{source} to {target} over {} bytes and {} edges with {lent:?}: {right:?}", index.len(), state.count);
+    let what = Shown(|| format!("{source} to {target} over {} bytes and {} edges with {lent:?}: {right:?}", index.len(), state.count));
     assert_eq!(result, right, "{what}");
     ours.agree(&theirs, &what);
     result
@@ -289,7 +307,7 @@ pub fn rules(library: &mut Library, index: &[u8], changed: &[u32], lent: Lent, t
     let (vertices, mut states): (Vec<u32>, Vec<u32>) = table.iter().map(|record| (record.vertex, record.state)).unzip();
     let mut got = table.to_vec();
     let right = independent::settle_rules(index, changed, &mut theirs.marks, &mut theirs.words, table);
-    let what = format!("{} records by {changed:?} and {} bytes with {lent:?}: {right:?}", table.len(), index.len());
+    let what = Shown(|| format!("{} records by {changed:?} and {} bytes with {lent:?}: {right:?}", table.len(), index.len()));
 
     assert_eq!(library.settle_rules(index, changed, &mut ours.marks, &mut ours.words, &mut got), right, "{what}");
     assert!(got == table, "{what}: first difference at {:?}", first_difference(&got, table));
@@ -298,7 +316,7 @@ pub fn rules(library: &mut Library, index: &[u8], changed: &[u32], lent: Lent, t
     assert_eq!(library.settle_lists(index, changed, &mut listed.marks, &mut listed.words, &vertices, &mut states), right, "{what}, over lists");
     let told: Vec<u32> = table.iter().map(|record| record.state).collect();
     assert!(states == told, "{what}, over lists: first difference at {:?}", first_difference(&states, &told));
-    listed.agree(&theirs, &format!("{what}, over lists"));
+    listed.agree(&theirs, &Shown(|| format!("{what}, over lists")));
     right
 }
 
@@ -308,7 +326,7 @@ pub fn read_matrix(library: &mut Library, text: &[u8], sizes: (usize, usize)) ->
     let (mut ours, mut theirs) = (lists(), lists());
     let result = library.read_matrix(text, &mut ours.0, &mut ours.1);
     let right = independent::read_matrix(text, &mut theirs.0, &mut theirs.1);
-    let what = format!("{:?} into lists of {sizes:?}: {right:?}", String::from_utf8_lossy(&text[..text.len().min(400)]));
+    let what = Shown(|| format!("{:?} into lists of {sizes:?}: {right:?}", String::from_utf8_lossy(&text[..text.len().min(400)])));
     assert_eq!(result, right, "{what}");
     assert!(ours == theirs, "the lists after {what}");
     result
@@ -319,7 +337,7 @@ pub fn write_matrix(library: &mut Library, n: u32, sources: &[u32], targets: &[u
     let (mut got, mut expected) = (vec![PATTERN; size], vec![PATTERN; size]);
     let result = library.write_matrix(n, sources, targets, &mut got);
     let right = independent::write_matrix(n, sources, targets, &mut expected);
-    let what = format!("{} edges of {n} vertices as a text of at most {size} bytes: {right:?}", sources.len());
+    let what = Shown(|| format!("{} edges of {n} vertices as a text of at most {size} bytes: {right:?}", sources.len()));
     assert_eq!(result, right, "{what}");
     assert!(got == expected, "{what}: first difference at {:?}", first_difference(&got, &expected));
     result
@@ -331,7 +349,7 @@ pub fn convert(library: &mut Library, way: Way, index: &[u8], lent: Lent, out: u
     let (mut got, mut expected) = (vec![PATTERN; out], vec![PATTERN; out]);
     let result = library.convert(way, index, &mut ours.marks, &mut ours.words, &mut got);
     let right = way.convert(index, &mut theirs.marks, &mut theirs.words, &mut expected);
-    let what = format!("{} bytes converted {way:?} with {lent:?} into {out}: {right:?}", index.len());
+    let what = Shown(|| format!("{} bytes converted {way:?} with {lent:?} into {out}: {right:?}", index.len()));
     assert_eq!(result, right, "{what}");
     assert!(got == expected, "{what}: first difference at {:?}", first_difference(&got, &expected));
     ours.agree(&theirs, &what);
@@ -354,7 +372,7 @@ pub fn build_exceptions(library: &mut Library, index: &[u8], marks: usize, size:
     let (mut got, mut expected) = (vec![PATTERN; size], vec![PATTERN; size]);
     let result = library.build_exceptions(index, &mut ours, &mut got);
     let right = independent::build_exceptions(index, &mut theirs, &mut expected);
-    let what = format!("the exception lists of {} bytes with {marks} marks into {size}: {right:?}", index.len());
+    let what = Shown(|| format!("the exception lists of {} bytes with {marks} marks into {size}: {right:?}", index.len()));
     assert_eq!(result, right, "{what}");
     assert!(got == expected, "{what}: first difference at {:?}", first_difference(&got, &expected));
     assert!(ours == theirs, "marks after {what}: first difference at {:?}", first_difference(&ours, &theirs));
@@ -364,28 +382,47 @@ pub fn build_exceptions(library: &mut Library, index: &[u8], marks: usize, size:
 /// Exception lists opened beside an index, and the pairs asked by them, one by one and in one call with an answer list of this size: the numbers of the refusals of opening and of
 /// the call for all pairs.
 pub fn exceptions(library: &mut Library, index: &[u8], lists: &[u8], marks: usize, pairs: &[(u32, u32)], answers: usize) -> [u32; 2] {
-    let before = vec![PATTERN; marks];
-    let (mut ours, mut theirs) = (before.clone(), before.clone());
-    let opened = library.open_exceptions(index, lists, &mut ours);
-    let right = independent::open_exceptions(index, lists, &mut theirs);
-    let what = format!("{} bytes of lists beside {} bytes with {marks} marks: {right:?}", lists.len(), index.len());
-    assert_eq!(opened, right, "{what}");
-    assert!(ours == theirs, "marks after opening {what}");
+    let opened = open_exceptions(library, index, lists, marks);
     for &(u, v) in pairs {
-        let (mut ours, mut theirs) = (before.clone(), before.clone());
-        let got = library.ask_exceptions(index, lists, u, v, &mut ours);
-        assert_eq!(got, independent::ask_exceptions(index, lists, u, v, &mut theirs), "{u} to {v} by {what}");
-        assert!(ours == theirs, "marks after {u} to {v} by {what}");
+        ask_exceptions(library, index, lists, u, v, marks).ok();
     }
     let (sources, targets): (Vec<u32>, Vec<u32>) = pairs.iter().copied().unzip();
-    let (mut ours, mut theirs) = (before.clone(), before);
+    [opened, ask_all_exceptions(library, index, lists, &sources, &targets, marks, answers)]
+}
+
+/// Exception lists opened beside an index: the number of the refusal, 0 where there is none.
+pub fn open_exceptions(library: &mut Library, index: &[u8], lists: &[u8], marks: usize) -> u32 {
+    let (mut ours, mut theirs) = (vec![PATTERN; marks], vec![PATTERN; marks]);
+    let opened = library.open_exceptions(index, lists, &mut ours);
+    let right = independent::open_exceptions(index, lists, &mut theirs);
+    let what = Shown(|| format!("{} bytes of lists beside {} bytes with {marks} marks: {right:?}", lists.len(), index.len()));
+    assert_eq!(opened, right, "{what}");
+    assert!(ours == theirs, "marks after {what}");
+    number(opened)
+}
+
+/// A question by exception lists: what both say.
+pub fn ask_exceptions(library: &mut Library, index: &[u8], lists: &[u8], source: u32, target: u32, marks: usize) -> Outcome<bool> {
+    let (mut ours, mut theirs) = (vec![PATTERN; marks], vec![PATTERN; marks]);
+    let got = library.ask_exceptions(index, lists, source, target, &mut ours);
+    let right = independent::ask_exceptions(index, lists, source, target, &mut theirs);
+    let what = Shown(|| format!("{source} to {target} by {} bytes of lists beside {} bytes with {marks} marks: {right:?}", lists.len(), index.len()));
+    assert_eq!(got, right, "{what}");
+    assert!(ours == theirs, "marks after {what}");
+    got
+}
+
+/// All pairs of two lists by exception lists, with an answer list of this size: the number of the refusal, 0 where there is none.
+pub fn ask_all_exceptions(library: &mut Library, index: &[u8], lists: &[u8], sources: &[u32], targets: &[u32], marks: usize, answers: usize) -> u32 {
+    let (mut ours, mut theirs) = (vec![PATTERN; marks], vec![PATTERN; marks]);
     let (mut got, mut expected) = (vec![BLANK; answers], vec![BLANK; answers]);
-    let result = library.ask_all_exceptions(index, lists, &sources, &targets, &mut ours, &mut got);
-    let right = independent::ask_all_exceptions(index, lists, &sources, &targets, &mut theirs, &mut expected);
-    assert_eq!(result, right, "{} pairs by {what}", pairs.len());
-    assert!(got == expected, "{} pairs by {what}: first difference at {:?}", pairs.len(), first_difference(&got, &expected));
-    assert!(ours == theirs, "marks after {} pairs by {what}", pairs.len());
-    [number(opened), number(result)]
+    let result = library.ask_all_exceptions(index, lists, sources, targets, &mut ours, &mut got);
+    let right = independent::ask_all_exceptions(index, lists, sources, targets, &mut theirs, &mut expected);
+    let what = Shown(|| format!("{} pairs by {} bytes of lists beside {} bytes with {marks} marks: {right:?}", sources.len(), lists.len(), index.len()));
+    assert_eq!(result, right, "{what}");
+    assert!(got == expected, "{what}: first difference at {:?}", first_difference(&got, &expected));
+    assert!(ours == theirs, "marks after {what}");
+    number(result)
 }
 
 /// What a build is lent, but for its memory.
@@ -424,7 +461,7 @@ pub fn build(library: &mut Library, face: Face, input: &Input, work: usize, out:
     let Input { form, n, sources, d, .. } = input;
     let got = library.build(face, input, &mut our_work, &mut our_out);
     let expected = face.build(input, &mut their_work, &mut their_out);
-    let what = format!("build by {face:?} in form {form} of {n} vertices, {} edges, d = {d}, work {work}, out {out}: {expected:?}", sources.len());
+    let what = Shown(|| format!("build by {face:?} in form {form} of {n} vertices, {} edges, d = {d}, work {work}, out {out}: {expected:?}", sources.len()));
     assert_eq!(got, expected, "{what}");
     assert!(our_out == their_out, "the output of {what}: first difference at {:?}", first_difference(&our_out, &their_out));
     assert!(our_work == their_work, "the work memory after {what}: first difference at {:?}", first_difference(&our_work, &their_work));

@@ -1,23 +1,34 @@
-//! The proved library, asked through a pipe: `serve.c` lends its calls, this module speaks to it. What comes back of each call is its outcome and the
-//! contents of every buffer that it could write.
+//! The proved library, asked through a pipe or in this process: `serve.c` lends its calls, this module speaks to it. What comes back of each call is its outcome and
+//! the contents of every buffer that it could write.
 
 pub mod compare;
+pub mod inputs;
 pub mod texts;
 
 use compare::Input;
 use independent::{host, Added, Answer, Counts, Form, Refusal, Rule, FORM_1, FORM_2, FORM_4};
-use std::io::{BufReader, BufWriter, Read, Write};
+use std::io::{BufReader, Read, Write};
 use std::os::unix::process::ExitStatusExt;
 use std::process::{Child, ChildStdin, ChildStdout, Command, Stdio};
 
-/// The process that holds the library.
+/// The library, with the request that is being put together and the reply to it as far as it has not been read.
 pub struct Library {
-    child: Child,
-    to: BufWriter<ChildStdin>,
-    from: BufReader<ChildStdout>,
+    server: Server,
+    request: Vec<u8>,
+    reply: Vec<u8>,
+    read: usize,
     /// The bytes of stack that a call is made on, over a page that nothing may touch; 0 is the process's own.
     pub stack: u32,
 }
+
+/// What holds the library: a process behind a pipe, or this one.
+enum Server {
+    Pipe { child: Child, to: ChildStdin, from: BufReader<ChildStdout> },
+    Here(Serve),
+}
+
+/// serve.h's call: a request and its length, and where its reply stands; the length of that.
+pub type Serve = unsafe extern "C" fn(*const u8, usize, *mut *const u8) -> usize;
 
 /// What a call returned: the numbers of its answer, or its refusal.
 pub type Outcome<T> = Result<T, Refusal>;
@@ -178,31 +189,45 @@ fn server() -> String {
 }
 
 impl Library {
+    /// Behind a pipe.
     pub fn start() -> Library {
         let mut child = Command::new(server())
             .stdin(Stdio::piped())
             .stdout(Stdio::piped())
             .spawn()
             .expect("the server starts: run outside/make first");
-        let to = BufWriter::with_capacity(1 << 20, child.stdin.take().unwrap());
+        let to = child.stdin.take().unwrap();
         let from = BufReader::with_capacity(1 << 20, child.stdout.take().unwrap());
-        Library { child, to, from, stack: 0 }
+        Library::over(Server::Pipe { child, to, from })
+    }
+
+    /// In this process, which ends where a call touches what it was not lent.
+    ///
+    /// # Safety
+    /// The function is that of serve.h, and no other thread calls it.
+    pub unsafe fn here(serve: Serve) -> Library {
+        Library::over(Server::Here(serve))
+    }
+
+    fn over(server: Server) -> Library {
+        Library { server, request: Vec::new(), reply: Vec::new(), read: 0, stack: 0 }
     }
 
     /// Begins a request.
     fn call(&mut self, call: u32, face: Face) {
+        assert!(self.request.is_empty() && self.read == self.reply.len(), "the last request is made, and its reply read to the end");
         for x in [call, face as u32, self.stack] {
             self.number(x);
         }
     }
 
     fn number(&mut self, x: u32) {
-        self.to.write_all(&x.to_le_bytes()).unwrap();
+        self.request.extend_from_slice(&x.to_le_bytes());
     }
 
     fn bytes(&mut self, b: &[u8]) {
         self.number(b.len() as u32);
-        self.to.write_all(b).unwrap();
+        self.request.extend_from_slice(b);
     }
 
     fn words(&mut self, ws: &[u32]) {
@@ -211,31 +236,67 @@ impl Library {
     }
 
     fn numbers(&mut self, xs: &[u32]) {
+        self.request.reserve(4 * xs.len());
         for &x in xs {
             self.number(x);
         }
     }
 
-    /// Numbers of a reply; none where the server has ended.
-    fn reply_if_any<const N: usize>(&mut self) -> Option<[u32; N]> {
-        self.to.flush().unwrap();
-        let mut bytes = vec![0u8; 4 * N];
-        self.from.read_exact(&mut bytes).ok()?;
-        Some(std::array::from_fn(|i| u32::from_le_bytes(bytes[4 * i..4 * i + 4].try_into().unwrap())))
+    /// Makes the request; none where the server has ended.
+    fn ask_server(&mut self) -> Option<()> {
+        self.read = 0;
+        match &mut self.server {
+            Server::Pipe { to, from, .. } => {
+                to.write_all(&(self.request.len() as u32).to_le_bytes()).unwrap();
+                to.write_all(&self.request).unwrap();
+                let mut size = [0; 4];
+                from.read_exact(&mut size).ok()?;
+                self.reply.resize(u32::from_le_bytes(size) as usize, 0);
+                from.read_exact(&mut self.reply).ok()?;
+            }
+            Server::Here(serve) => {
+                let mut said = std::ptr::null();
+                self.reply.clear();
+                // SAFETY: the reply stands where it is until the next request; where there are no bytes of it, it may stand nowhere
+                unsafe {
+                    let size = serve(self.request.as_ptr(), self.request.len(), &mut said);
+                    if size > 0 {
+                        self.reply.extend_from_slice(std::slice::from_raw_parts(said, size));
+                    }
+                }
+            }
+        }
+        self.request.clear();
+        Some(())
     }
 
-    /// Numbers of a reply. A server that has ended has touched what was not lent.
+    /// The next numbers of the reply, for which the request is made where that is still to do; none where the server has ended.
+    fn reply_if_any<const N: usize>(&mut self) -> Option<[u32; N]> {
+        if !self.request.is_empty() {
+            self.ask_server()?;
+        }
+        let mut numbers = [0; N];
+        self.words_back(&mut numbers);
+        Some(numbers)
+    }
+
+    /// The same. A server that has ended has touched what was not lent.
     fn reply<const N: usize>(&mut self) -> [u32; N] {
         self.reply_if_any().expect(UNANSWERED)
     }
 
+    /// The next bytes of the reply.
+    fn next(&mut self, size: usize) -> &[u8] {
+        self.read += size;
+        &self.reply[self.read - size..self.read]
+    }
+
     fn bytes_back(&mut self, b: &mut [u8]) {
-        self.from.read_exact(b).expect("the buffer comes back");
+        b.copy_from_slice(self.next(b.len()));
     }
 
     fn words_back(&mut self, ws: &mut [u32]) {
-        let mut bytes = vec![0u8; 4 * ws.len()];
-        self.bytes_back(&mut bytes);
+        let bytes = self.next(4 * ws.len());
         for (w, four) in ws.iter_mut().zip(bytes.chunks_exact(4)) {
             *w = u32::from_le_bytes(four.try_into().unwrap());
         }
@@ -279,7 +340,8 @@ impl Library {
         self.number(target);
         self.index(index, marks, words);
         let Some(reply) = self.reply_if_any() else {
-            assert_eq!(self.child.wait().expect("the server has ended").signal(), Some(SIGSEGV));
+            let Server::Pipe { child, .. } = &mut self.server else { unreachable!("this process has not ended") };
+            assert_eq!(child.wait().expect("the server has ended").signal(), Some(SIGSEGV));
             return None;
         };
         self.marks_back(marks, words);
@@ -291,6 +353,7 @@ impl Library {
         self.call(ASK_MANY, face);
         self.index(index, marks, words);
         self.words(&pairs.iter().flat_map(|&(u, v)| [u, v]).collect::<Vec<u32>>());
+        let [] = self.reply();
         pairs
             .iter()
             .map(|_| {
@@ -563,9 +626,11 @@ fn outcome<T>(number: u32, extra: u32, nothing: bool, answer: T) -> Outcome<T> {
     }
 }
 
-impl Drop for Library {
+impl Drop for Server {
     fn drop(&mut self) {
-        let _ = self.child.kill();
-        let _ = self.child.wait();
+        if let Server::Pipe { child, .. } = self {
+            let _ = child.kill();
+            let _ = child.wait();
+        }
     }
 }

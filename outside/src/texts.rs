@@ -20,6 +20,11 @@ pub fn good(chance: &mut Chance) -> Vec<u8> {
         1 => chance.between(25, 512),
         _ => chance.between(0, 24),
     };
+    good_of(chance, n)
+}
+
+/// The same of n vertices.
+pub fn good_of(chance: &mut Chance, n: usize) -> Vec<u8> {
     let mut graph = chance.any_graph(n);
     graph.edges.truncate(if n > 24 { 1_000 } else { 150 });
     let d = chance.below(6);

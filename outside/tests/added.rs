@@ -6,20 +6,10 @@ use independent::closure::Closure;
 use independent::stored::{encode, image};
 use independent::{Added, Graph, Index, Refusal, FORM_1, FORM_2, MOST_ADDED, ORDINARY};
 use outside::compare::{self, Lent};
-use outside::Library;
+use outside::{inputs, Library};
 
 /// The bytes of stack that a question over added edges has to do with.
 const STACK: u32 = 16_384;
-
-/// A state with these edges, and what stands behind them: numbers of any size, and vertices.
-fn state(chance: &mut Chance, n: usize, edges: &[(usize, usize)]) -> Added {
-    let mut junk = || std::array::from_fn(|_| if chance.below(2) == 0 { chance.number() as u32 } else { chance.below(n + 1) as u32 });
-    let mut added = Added { sources: junk(), targets: junk(), count: edges.len() as u32 };
-    for (i, &(u, v)) in edges.iter().enumerate() {
-        (added.sources[i], added.targets[i]) = (u as u32, v as u32);
-    }
-    added
-}
 
 /// The graph with these edges too.
 fn with(graph: &Graph, edges: &[(usize, usize)]) -> Graph {
@@ -38,7 +28,7 @@ fn every_pair_of_random_graphs_and_added_edges() {
         let index = Index::of(&graph, &chance.orders(n, d));
         let count = chance.one_of(&[0, 1, 2, 3, 5, 8]);
         let edges: Vec<(usize, usize)> = (0..count).map(|_| (chance.below(n), chance.below(n))).collect();
-        let added = state(&mut chance, n, &edges);
+        let added = inputs::added(&mut chance, n, &edges);
         let (before, all) = (Closure::of(&graph), with(&graph, &edges));
         let after = Closure::of(&all);
         let fresh = Index::of(&all, &chance.orders(n, 1));
@@ -66,7 +56,7 @@ fn without_added_edges_it_is_the_question() {
         let index = Index::of(&graph, &chance.orders(n, 2));
         for form in ORDINARY {
             let bytes = encode(&form, &index);
-            let none = state(&mut chance, n, &[]);
+            let none = inputs::added(&mut chance, n, &[]);
             for (u, v) in (0..n).flat_map(|u| (0..n).map(move |v| (u, v))) {
                 let said = compare::ask_added(&mut library, &bytes, &none, u as u32, v as u32, Lent::needed(&bytes));
                 assert_eq!(said, Ok(index.question(u, v).answer.yes));
@@ -93,7 +83,7 @@ fn a_climb_of_256_added_edges() {
         let bytes = image(&form, &graph, &[(0..n).collect()]);
         let mut edges: Vec<(usize, usize)> = (1..lines).map(|i| (i * run - 1, i * run)).collect();
         edges.reverse();
-        let added = state(&mut chance, n, &edges);
+        let added = inputs::added(&mut chance, n, &edges);
         for (u, v, yes) in [(0, n - 1, true), (1, n - 1, true), (n - 1, 0, false), (run, 0, false), (run, n - run, true), (n - 1, n - 1, true)] {
             let said = compare::ask_added(&mut library, &bytes, &added, u as u32, v as u32, Lent::needed(&bytes).more(1, 1));
             assert_eq!(said, Ok(yes), "{u} to {v}");
@@ -132,7 +122,7 @@ fn the_first_refusal_due_is_given() {
             if wrong(10) {
                 index.truncate(47);
             }
-            let mut added = state(&mut chance, 6, &[(4, 3), (3, 5), (5, 0)]);
+            let mut added = inputs::added(&mut chance, 6, &[(4, 3), (3, 5), (5, 0)]);
             if wrong(7) {
                 (added.sources[1], added.targets[2]) = (6, u32::MAX);
             }
@@ -171,7 +161,7 @@ fn damage_short_memory_and_bad_edges_are_refused() {
                 for lent in Lent::around(&image) {
                     let [u, v] = [0; 2].map(|_| chance.below(n + 1) as u32);
                     let edges: Vec<(usize, usize)> = (0..chance.below(4)).map(|_| (chance.below(n + 1), chance.below(n + 1))).collect();
-                    let mut added = state(&mut chance, n, &edges);
+                    let mut added = inputs::added(&mut chance, n, &edges);
                     if chance.below(8) == 0 {
                         added.count = chance.one_of(&[257, u32::MAX]);
                     }
@@ -188,7 +178,7 @@ fn damage_short_memory_and_bad_edges_are_refused() {
 fn adding_until_256_stand() {
     let (mut library, mut chance) = (Library::start(), Chance::new(1006));
     for n in [1, 6, 4_096, 200_000] {
-        let mut added = state(&mut chance, n, &[]);
+        let mut added = inputs::added(&mut chance, n, &[]);
         for count in 0..MOST_ADDED as u32 {
             let [u, v] = [0; 2].map(|_| chance.below(n) as u32);
             for (from, to) in [(n as u32, v), (u, n as u32), (u32::MAX, u32::MAX)] {
@@ -204,7 +194,7 @@ fn adding_until_256_stand() {
             assert_eq!(added.count, count);
         }
     }
-    let mut none = state(&mut chance, 0, &[]);
+    let mut none = inputs::added(&mut chance, 0, &[]);
     assert_eq!(compare::add(&mut library, &mut none, 0, 0, 0), Err(Refusal { number: 7, extra: 0 }), "without vertices there is no edge");
 }
 
@@ -216,7 +206,7 @@ fn a_day_of_corrections() {
         let n = 40;
         let mut graph = chance.graph(Kind::Dag, n);
         let bytes = image(&form, &graph, &chance.orders(n, 2));
-        let mut added = state(&mut chance, n, &[]);
+        let mut added = inputs::added(&mut chance, n, &[]);
         for _ in 0..60 {
             let (from, to) = (chance.below(n), chance.below(n));
             assert_eq!(compare::add(&mut library, &mut added, n as u32, from as u32, to as u32), Ok(()));

@@ -5,13 +5,8 @@ use independent::chance::{Chance, Kind};
 use independent::stored::encode;
 use independent::{Index, ORDINARY};
 use outside::compare::{self, Lent};
+use outside::inputs::mixed_pairs;
 use outside::Library;
-
-/// Pairs of which some are out of range.
-fn mixed(chance: &mut Chance, n: usize, count: usize) -> Vec<(u32, u32)> {
-    let vertex = |chance: &mut Chance| if chance.below(6) == 0 { [n as u32, n as u32 + 7, u32::MAX][chance.below(3)] } else { chance.below(n.max(1)) as u32 };
-    (0..count).map(|_| (vertex(chance), vertex(chance))).collect()
-}
 
 #[test]
 fn the_answers_are_those_of_asking_one_by_one() {
@@ -22,7 +17,7 @@ fn the_answers_are_those_of_asking_one_by_one() {
         let d = chance.between(1, 5);
         let index = Index::of(&graph, &chance.orders(graph.n, d));
         let count = chance.below(400);
-        let pairs = mixed(&mut chance, graph.n, count);
+        let pairs = mixed_pairs(&mut chance, graph.n, count);
         compare::one_by_one(&mut library, &index, &pairs);
         let (sources, targets): (Vec<u32>, Vec<u32>) = pairs.iter().copied().unzip();
         for form in ORDINARY {
@@ -59,7 +54,7 @@ fn refusals_in_order_and_lists_of_every_length() {
         let d = chance.between(1, 3);
         let index = Index::of(&graph, &chance.orders(graph.n, d));
         let count = chance.below(12);
-        let (sources, targets): (Vec<u32>, Vec<u32>) = mixed(&mut chance, graph.n, count).into_iter().unzip();
+        let (sources, targets): (Vec<u32>, Vec<u32>) = mixed_pairs(&mut chance, graph.n, count).into_iter().unzip();
         let fewer = count.saturating_sub(1);
         for form in ORDINARY {
             let bytes = encode(&form, &index);
@@ -81,7 +76,7 @@ fn a_hundred_thousand_pairs_of_4096_vertices() {
     let (mut library, mut chance) = (Library::start(), Chance::new(74));
     let graph = chance.graph(Kind::ALL[1], 4_096);
     let index = Index::of(&graph, &chance.orders(graph.n, 2));
-    let (sources, targets): (Vec<u32>, Vec<u32>) = mixed(&mut chance, graph.n, 100_000).into_iter().unzip();
+    let (sources, targets): (Vec<u32>, Vec<u32>) = mixed_pairs(&mut chance, graph.n, 100_000).into_iter().unzip();
     for form in ORDINARY {
         let bytes = encode(&form, &index);
         compare::ask_all(&mut library, &bytes, &sources, &targets, Lent::needed(&bytes), 600_000);

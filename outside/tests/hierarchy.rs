@@ -6,6 +6,7 @@ use independent::every::{every_graph, every_image, every_order};
 use independent::stored::{encode, image};
 use independent::{Graph, Index, FORM_1, FORM_2, FORM_3, FORM_4};
 use outside::compare::{self, Input, Lent};
+use outside::inputs::{forest, spoil};
 use outside::{Face, Library, Way};
 use std::collections::BTreeSet;
 
@@ -38,19 +39,6 @@ fn every_forest(n: usize) -> Vec<Graph> {
         Graph { n, edges: (0..n).filter_map(|v| parent(v).map(|parent| (parent, v))).collect() }
     });
     all.filter(|graph| Index::of(graph, &[]).groups.list.len() == n && graph.edges.iter().all(|(u, v)| u != v)).collect()
-}
-
-/// A forest on n vertices some of whose edges are repeated or closed to a cycle, with self-loops.
-fn forest(chance: &mut Chance, n: usize) -> Graph {
-    let mut graph = chance.graph(Kind::Forest, n);
-    for _ in 0..chance.below(n / 3 + 1) {
-        let v = chance.below(n);
-        graph.edges.push((v, v));
-        if let Some(&(parent, child)) = graph.edges.iter().find(|edge| edge.1 == v) {
-            graph.edges.extend([(parent, child), (child, parent)]);
-        }
-    }
-    graph
 }
 
 #[test]
@@ -206,17 +194,7 @@ fn builds_into_exact_and_short_memory_with_bad_edges_and_orders() {
         let graph = forest(&mut chance, n);
         let mut input = Input::of(&FORM_4, &graph, &chance.orders(n, 1));
         compare::build_around(&mut library, Face::Hierarchy, &input);
-        let bad = chance.one_of(&[n as u32, n as u32 + 1, u32::MAX]);
-        let place = chance.number() as usize;
-        match chance.below(7) {
-            0 if !input.sources.is_empty() => { let i = place % input.sources.len(); input.sources[i] = bad; }
-            1 if !input.targets.is_empty() => { let i = place % input.targets.len(); input.targets[i] = bad; }
-            2 if n > 0 => { let i = place % input.orders.len(); input.orders[i] = bad; }
-            3 if n > 0 => { let i = place % input.orders.len(); input.orders[i] = chance.below(n) as u32; }
-            4 => input = Input::of(&FORM_4, &graph, &vec![(0..n).collect(); chance.one_of(&[0, 2, 5, 6])]),
-            5 => input.orders.push(0),
-            _ => input.sources.push(0),
-        }
+        spoil(&mut chance, &mut input);
         compare::build_around(&mut library, Face::Hierarchy, &input);
     }
 }

@@ -7,23 +7,11 @@ use independent::rules::{FRESH, SUSPECT, UNKNOWN};
 use independent::stored::{encode, image};
 use independent::{Graph, Index, Refusal, Rule, FORM_1, FORM_2, FORM_3, ORDINARY};
 use outside::compare::{self, Lent};
+use outside::inputs::table;
 use outside::Library;
 
 /// The bytes of stack that any call has to do with.
 const STACK: u32 = 16_384;
-
-/// A table of so many records: vertices in range and a few that are not, states that have a name and others.
-fn table(chance: &mut Chance, n: usize, records: usize) -> Vec<Rule> {
-    (0..records)
-        .map(|_| {
-            let vertex = chance.below(n + 2) as u32;
-            let vertex = if chance.below(20) == 0 { chance.one_of(&[u32::MAX, 1 << 31, 65_536 + vertex]) } else { vertex };
-            let state = chance.below(4) as u32;
-            let state = if state == 3 { chance.number() as u32 } else { state };
-            Rule { rule: chance.number() as u32, vertex, state }
-        })
-        .collect()
-}
 
 /// The states in the document's words, by plain search.
 fn told(closure: &Closure, changed: &[u32], table: &[Rule]) -> Vec<Rule> {

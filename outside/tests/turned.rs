@@ -6,6 +6,7 @@ use independent::closure::Closure;
 use independent::stored::{encode, image};
 use independent::{Form, Graph, Index, FORM_1, FORM_2, FORM_3, ORDINARY};
 use outside::compare::{self, Input, Lent};
+use outside::inputs::spoil;
 use outside::{Face, Library};
 
 /// What the library builds of an edge list: the ordinary index in each form, and the turned one, each under orders of its own.
@@ -184,17 +185,7 @@ fn builds_into_exact_and_short_memory_with_bad_edges_and_orders() {
         let d = chance.between(1, 5);
         let mut input = Input::of(&FORM_3, &graph, &chance.orders(n, d));
         compare::build_around(&mut library, Face::Turned, &input);
-        let bad = chance.one_of(&[n as u32, n as u32 + 1, u32::MAX]);
-        let place = chance.number() as usize;
-        match chance.below(7) {
-            0 if !input.sources.is_empty() => { let i = place % input.sources.len(); input.sources[i] = bad; }
-            1 if !input.targets.is_empty() => { let i = place % input.targets.len(); input.targets[i] = bad; }
-            2 if n > 0 => { let i = place % input.orders.len(); input.orders[i] = bad; }
-            3 if n > 0 => { let i = place % input.orders.len(); input.orders[i] = chance.below(n) as u32; }
-            4 => input.d = chance.one_of(&[0, 6]),
-            5 => input.orders.push(0),
-            _ => input.sources.push(0),
-        }
+        spoil(&mut chance, &mut input);
         compare::build_around(&mut library, Face::Turned, &input);
     }
 }

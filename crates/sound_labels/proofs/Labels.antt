@@ -1,7 +1,7 @@
 -- The test of one labelling as the three that the code makes: the lengths that it asks for hold by the count, ranks and inner intervals are tested together,
 -- and so are e, s and the blocks of a group. The first, passed, is what the walks over blocks ask for.
 use mathlib.Core.Bool.{Bool, true, false, not, _&&_}
-use mathlib.Core.Path.{_≡_, refl, ap, ap₂, _∙_}
+use mathlib.Core.Path.{_≡_, refl, ap, ap₂, _∙_, subst, subst⁻¹}
 use mathlib.Core.List.{List}
 use Prim.Native.Nat.{ℕ}
 use borrow.Author.Tests.{eq-eqb}
@@ -71,3 +71,12 @@ ranked-after {w} {z} {k} {tuples} {places} L e t =
     let I = allBelow k (innerPasses (labellingIn w z tuples places k)) in
     let passed = told-true (e ∙ ranks-are k (labellingIn w z tuples places k) (places-long w z tuples places k)) t in
     record { labels = L; ranks = and-left R I passed; inners = and-right R I passed }
+
+-- what is told of a labelling at the stride y, which the code writes out, holds at the stride z, where the two are the same
+pub labels-at : {w z y k : ℕ} {tuples places : List ℕ} → z ≡ y → Labels w z tuples places k → Labels w y tuples places k
+labels-at {w} {z} {y} {k} {tuples} {places} same = subst (λ (x : ℕ). Labels w x tuples places k) same
+
+pub told-at : (w k c : ℕ) (starts children tuples places : List ℕ) {z y : ℕ} {a : Bool} → z ≡ y
+    → a ≡ labelsPass (childrenIn w starts children k c) (labellingIn w y tuples places k)
+    → a ≡ labelsPass (childrenIn w starts children k c) (labellingIn w z tuples places k)
+told-at w k c starts children tuples places {z} {y} {a} same = subst⁻¹ (λ (x : ℕ). a ≡ labelsPass (childrenIn w starts children k c) (labellingIn w x tuples places k)) same

@@ -18,7 +18,8 @@ use sound_blocks::roots_pass;
 use sound_parents::parents_pass;
 use sound_ranks::ranks_pass;
 
-// Whether one labelling is by the rules over the children, marks telling who is nobody's child.
+// Whether one labelling is by the rules over the children, marks telling who is nobody's child. Triples and pairs are asked apart: so the machine multiplies by a number
+// that it knows, and the test of intervals stays a function of its own, whose loops have the registers to themselves.
 fn labels_pass(
     starts: &[u8],
     children: &[u8],
@@ -35,13 +36,22 @@ fn labels_pass(
     requires { ⌜ Tells (childrenIn w (now starts) (now children) k c) (now marks) k ⌝ }
     ensures { λ a. ⌜ a ≡ labelsPass (childrenIn w (now (starts .entry)) (now (children .entry)) k c) (labellingIn w z (now (tuples .entry)) (now (places .entry)) k) ⌝ }
 {
-    if !ranks_pass(tuples, places, w, z, k) {
+    if z == 3 {
+        if !ranks_pass(tuples, places, w, 3, k) {
+            return false;
+        }
+        if !intervals_pass(starts, children, tuples, places, w, 3, k, c) {
+            return false;
+        }
+        return roots_pass(tuples, places, marks, w, 3, k);
+    }
+    if !ranks_pass(tuples, places, w, 2, k) {
         return false;
     }
-    if !intervals_pass(starts, children, tuples, places, w, z, k, c) {
+    if !intervals_pass(starts, children, tuples, places, w, 2, k, c) {
         return false;
     }
-    roots_pass(tuples, places, marks, w, z, k)
+    roots_pass(tuples, places, marks, w, 2, k)
 }
 
 // Whether labelling j of d is by the rules over the children.
