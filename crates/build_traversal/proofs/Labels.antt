@@ -14,7 +14,7 @@ use Rattle.lineage.specs.Labels.{Forest, visit, after, finished}
 use Rattle.laws.specs.Leads.{Leads, stay, step}
 use Rattle.laws.specs.Visits.{Visits, over, skip, enter, before}
 use Rattle.laws.proofs.Tests.{clash, is_false}
-use Rattle.laws.proofs.Lists.{here, there, in_left, in_right, map_same, position_past, position_left}
+use Rattle.laws.proofs.Lists.{here, here_at, there, in_left, in_right, map_same, position_past, position_left}
 use Rattle.laws.proofs.Traversal.{kept}
 use Rattle.laws.proofs.Visited.{parts, visited_seen, listed, followed, fresh, from_todo}
 use Rattle.build_traversal.specs.Traversed.{Downhill}
@@ -73,7 +73,7 @@ module _ (n : ℕ) {next : ℕ → List ℕ} where
   same_after (skip {p = p} a r) t v o = let h = same_after r (passed p t) v o in record { marks = h.marks; m = h.m; e = h.e }
   same_after (enter {p = p} {below = below} {rest = later} a r rest) t v o =
       let b = state_after n r (entered n p t) in
-      let other : v ≡ p → ⊥ = λ z. clash (in_right v (finished below) (p ∷ finished later) (rw z (here p (finished later)))) o in
+      let other : v ≡ p → ⊥ = λ z. clash (in_right v (finished below) (p ∷ finished later) (here_at _ p (finished later) z)) o in
       let off : among v (finished below) ≡ false = is_false _ (λ i. clash (in_left v (finished below) (p ∷ finished later) i) o) in
       let out : among v (finished later) ≡ false = is_false _ (λ i. clash (in_right v (finished below) (p ∷ finished later) (there v p (finished later) i)) o) in
       let h = same_after r (entered n p t) v off in

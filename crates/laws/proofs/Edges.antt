@@ -104,6 +104,7 @@ edge_map f g x (y ∷ xs) i =
 pub map_edge :
     (P : ℕ → ℕ → Type 0) (f g : ℕ → ℕ) (xs : List ℕ) → ((x : ℕ) → among x xs ≡ true → P (f x) (g x)) → {u v : ℕ}
     → Edge (map f xs) (map g xs) u v → P u v
+map_edge P f g [] all e = elim e [ ]
 map_edge P f g (x ∷ xs) all first = all x (here x xs)
 map_edge P f g (x ∷ xs) all (later e) = map_edge P f g xs (λ y i. all y (there y x xs i)) e
 
@@ -125,6 +126,7 @@ module _ (f g : ℕ → List ℕ) (paired : (x : ℕ) → length (f x) ≡ lengt
   pub joined_edge :
       (P : ℕ → ℕ → Type 0) (xs : List ℕ) → ((x : ℕ) → among x xs ≡ true → (u v : ℕ) → Edge (f x) (g x) u v → P u v)
       → (u v : ℕ) → Edge (joined (map f xs)) (joined (map g xs)) u v → P u v
+  joined_edge P [] all u v e = elim e [ ]
   joined_edge P (x ∷ xs) all u v e =
       elim (edge_split (f x) (joined (map f xs)) (g x) (joined (map g xs)) (paired x) e) [
         | inl i ↦ all x (here x xs) u v i

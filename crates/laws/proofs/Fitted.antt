@@ -13,7 +13,7 @@ use Rattle.lineage.specs.Lists.{among, position}
 use Rattle.lineage.specs.Labels.{Forest, visit, after, finished}
 use Rattle.laws.specs.Visits.{Visits, over, skip, enter}
 use Rattle.laws.proofs.Tests.{clash}
-use Rattle.laws.proofs.Lists.{here, there, in_cons, in_left, in_right, position_past, position_left}
+use Rattle.laws.proofs.Lists.{here, here_at, there, in_cons, in_left, in_right, position_past, position_left}
 use Rattle.laws.specs.Rising.{Distinct}
 use Rattle.laws.proofs.Rising.{distinct_right, distinct_apart, distinct_left}
 use Rattle.laws.proofs.Visited.{parts, seen_cases, listed}
@@ -58,7 +58,7 @@ module _ (R : Ranking) where
 
         m' : (x : ℕ) → among x (finished below) ≡ true → R.m x ≡ suc (lo + length (before x below))
         m' x i =
-            let ne : eqb x p ≡ false = ne_eqb x p (λ e. clash i (apart x (rw e (here p (finished rest))))) in
+            let ne : eqb x p ≡ false = ne_eqb x p (λ e. clash i (apart x (here_at _ p (finished rest) e))) in
             let at : before x (visit p below rest) ≡ before x below = rw (ne, i, before) in
             omega (arith, c.m_is x (within x i), ap length at)
 
@@ -88,11 +88,11 @@ module _ (R : Ranking) where
       → ((q : ℕ) → among q todo ≡ true → ok q ≡ true) → Distinct (finished f) → Counted f lo → lo + length (finished f) ≡ hi → Fits R ok f lo hi
   visits_fits lo hi steps over all once c h = let e : lo ≡ hi = omega arith in rw e none
   visits_fits lo hi steps (skip {p = p} {todo = todo} a v) all once c h = visits_fits lo hi steps v (λ q i. all q (there q p todo i)) once c h
-  visits_fits lo hi steps (enter {p = p} {todo = todo} {below = below} {rest = rest} a v w) all once c h =
+  visits_fits {ok = ok} lo hi steps (enter {p = p} {todo = todo} {below = below} {rest = rest} a v w) all once c h =
       tree (all p (here p todo)) (c.low p (root_in p below rest lo once c)) (root_m p below rest lo once c) (root_rank p below rest lo once c)
-      (visits_fits lo (lo + length (finished below)) steps v (steps p) (distinct_left (finished below) (p ∷ finished rest) once)
+      (visits_fits {ok = λ q. R.child p q} lo (lo + length (finished below)) steps v (steps p) (distinct_left (finished below) (p ∷ finished rest) once)
       (counted_below p below rest lo once c) refl)
-      (visits_fits (suc (lo + length (finished below))) hi steps w (λ q i. all q (there q p todo i))
+      (visits_fits {ok = ok} (suc (lo + length (finished below))) hi steps w (λ q i. all q (there q p todo i))
       (distinct_right (finished below) (p ∷ finished rest) once).1
       (counted_rest p below rest lo once c) (omega (arith, length-append (finished below) (p ∷ finished rest))))
 
@@ -108,12 +108,12 @@ module _ (R : Ranking) where
         → (x q : ℕ) → among x (finished f) ≡ true → among q (next x) ≡ true → R.e q < R.e x
     visits_fall b over s all ab x q i j = absurd (false≢true i)
     visits_fall b (skip {p = p} {todo = todo} a v) s all ab x q i j = visits_fall b v s (λ y o. all y (there y p todo o)) ab x q i j
-    visits_fall b (enter {p = p} {todo = todo} {seen = seen} {below = below} {rest = rest} a v w) (tree {lo = lo} {r = r} t h y z s u) all ab x q i j =
+    visits_fall {ok = ok} b (enter {p = p} {todo = todo} {seen = seen} {below = below} {rest = rest} a v w) (tree {lo = lo} {r = r} t h y z s u) all ab x q i j =
         elim (parts x p below rest i) [
-          | inl o ↦ visits_fall (lv p) v s (λ y' o'. down p y' h o') ab_below x q o j
+          | inl o ↦ visits_fall {ok = λ q. R.child p q} (lv p) v s (λ y' o'. down p y' h o') ab_below x q o j
           | inr o ↦ elim o [
             | inl e ↦ rw e (at_root (rw e at j))
-            | inr o' ↦ visits_fall b w u (λ y' o''. all y' (there y' p todo o'')) ab_rest x q o' j
+            | inr o' ↦ visits_fall {ok = ok} b w u (λ y' o''. all y' (there y' p todo o'')) ab_rest x q o' j
           ]
         ]
       where

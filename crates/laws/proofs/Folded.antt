@@ -20,7 +20,7 @@ use Rattle.laws.specs.Visits.{Visits, over, skip, enter}
 use Rattle.laws.specs.OnePass.{Stage, lowered, opened, left_by, left, stage_after}
 use Rattle.laws.specs.Rising.{Distinct}
 use Rattle.laws.proofs.Tests.{clash, is_false}
-use Rattle.laws.proofs.Lists.{here, there, in_cons, in_one, in_left, in_right, in_append, position_past, position_low_in, position_high_in, position_none}
+use Rattle.laws.proofs.Lists.{here, here_at, there, in_cons, in_one, in_left, in_right, in_append, position_past, position_low_in, position_high_in, position_none}
 use Rattle.laws.proofs.Rising.{distinct_apart, distinct_right, distinct_between}
 use Rattle.laws.proofs.Closed.{leads_on, Closed, stays}
 use Rattle.laws.proofs.Stages.{gone, Fine, in_group, on_stack, Found, as_was, reached, Good, Around, Through, through_then, through_none, around_rest}
@@ -66,12 +66,12 @@ module _ {next : ℕ → List ℕ} where
     pub good_in : Good next (p ∷ seen) (opened p s)
     good_in = record {
       known = λ q i. elim (in_cons q p seen i) [
-        | inl e ↦ inl (in_right q s.stack (p ∷ []) (rw e (here p [])))
+        | inl e ↦ inl (in_right q s.stack (p ∷ []) (here_at _ p [] e))
         | inr j ↦ elim (good.known q j) [ inl k ↦ inl (in_left q s.stack (p ∷ []) k) | inr k ↦ inr k ]
       ];
       stack_seen = λ q i. elim (in_append q s.stack (p ∷ []) i) [
         | inl j ↦ there q p seen (good.stack_seen q j)
-        | inr j ↦ rw (in_one q p j) (here p seen)
+        | inr j ↦ here_at _ p seen (in_one q p j)
       ];
       groups_seen = λ q i. there q p seen (good.groups_seen q i);
       shut = good.shut;
@@ -216,8 +216,8 @@ module _ {next : ℕ → List ℕ} where
                 let (w, l, i, z) = low_there in
                 reached w (around.onward l p_down) (still w i) (z ∙ omega arith)
 
-      pub left_by : Good next seen' (left s t) × Through next C D (p ∷ []) s (left s t)
-      left_by = at (eqb t.low (suc (length s.stack))) refl
+      pub left_by_lem : Good next seen' (left s t) × Through next C D (p ∷ []) s (left s t)
+      left_by_lem = at (eqb t.low (suc (length s.stack))) refl
         where
           at : (b : Bool) → eqb t.low (suc (length s.stack)) ≡ b → Good next seen' (left_by b s t) × Through next C D (p ∷ []) s (left_by b s t)
           at true z = let e = eqb-true t.low (suc (length s.stack)) z in (good_group e, through_group e)
@@ -246,6 +246,6 @@ module _ {next : ℕ → List ℕ} where
   folded (enter {p = p} a r t) s C D good around =
       let o = opened p s in
       let (good₁, below) = folded r o (λ u. Leads next u p) (λ u. Leads next p u) (good_in s good around a) (around_in s good around a) in
-      let (good₂, first) = left_by s good around a (stage_after r o) good₁ below in
+      let (good₂, first) = left_by_lem s good around a (stage_after r o) good₁ below in
       let (good₃, rest) = folded t (left s (stage_after r o)) C D good₂ (around_rest around first) in
       (good₃, through_then first rest)

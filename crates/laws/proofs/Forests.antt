@@ -11,7 +11,7 @@ use lib.Dec.{eqb}
 use lib.ListN.{length, length-append}
 use Rattle.lineage.specs.Lists.{among}
 use Rattle.lineage.specs.Labels.{Forest, done, visit, finished}
-use Rattle.laws.proofs.Lists.{among_append, here, there, in_cons, in_left, in_right, in_append}
+use Rattle.laws.proofs.Lists.{among_append, here, here_at, there, in_cons, in_left, in_right, in_append}
 
 -- a labelling as functions of places below k
 pub record Ranking : Type 0 where
@@ -120,5 +120,5 @@ module _ {R : Ranking} where
             → (suc r < R.e q → among q (entered next) ≡ true)
             → among q (p ∷ (entered below ++ entered next)) ≡ true
         at (yes a) d i j = there q p (entered below ++ entered next) (in_left q (entered below) (entered next) (i a))
-        at (no a) (yes d) i j = rw (one q p l h (cc)) (here p (entered below ++ entered next))
+        at (no a) (yes d) i j = here_at _ p (entered below ++ entered next) (one q p l h (cc))
         at (no a) (no d) i j = there q p (entered below ++ entered next) (in_right q (entered below) (entered next) (j (omega arith)))

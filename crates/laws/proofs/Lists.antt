@@ -24,6 +24,9 @@ among_append x (y ∷ a) b = rw (among_append x a b) (sym (or_assoc (eqb x y) (a
 pub here : (x : ℕ) (xs : List ℕ) → among x (x ∷ xs) ≡ true
 here x xs = or_left _ (eq-eqb x x refl)
 
+pub here_at : (x y : ℕ) (xs : List ℕ) → x ≡ y → among x (y ∷ xs) ≡ true
+here_at x y xs e = or_left _ (eq-eqb x y e)
+
 pub there : (x y : ℕ) (xs : List ℕ) → among x xs ≡ true → among x (y ∷ xs) ≡ true
 there x y xs h = or_right (eqb x y) h
 
@@ -72,7 +75,7 @@ those_pass p x (y ∷ xs) h = at (p y) refl (those_pass p x xs)
     at : (t : Bool) → p y ≡ t → (among x (those p xs) ≡ true → (p x ≡ true) × (among x xs ≡ true)) → (p x ≡ true) × (among x (y ∷ xs) ≡ true)
     at true e ih =
         elim (in_cons x y (those p xs) (rw (those_yes p y xs e) at h)) [
-          | inl i ↦ rw i (e, here y xs)
+          | inl i ↦ (rw i e, here_at x y xs i)
           | inr i ↦ ((ih i).0, there x y xs (ih i).1)
         ]
     at false e ih = let i = ih (rw (those_no p y xs e) at h) in (i.0, there x y xs i.1)
@@ -82,7 +85,7 @@ those_keep p x [] t h = h
 those_keep p x (y ∷ xs) t h = at (p y) refl (in_cons x y xs h) (those_keep p x xs t)
   where
     at : (b : Bool) → p y ≡ b → (x ≡ y) ⊎ (among x xs ≡ true) → (among x xs ≡ true → among x (those p xs) ≡ true) → among x (those p (y ∷ xs)) ≡ true
-    at true e (inl i) ih = rw (those_yes p y xs e, i) (here y (those p xs))
+    at true e (inl i) ih = rw (those_yes p y xs e) (here_at x y (those p xs) i)
     at true e (inr i) ih = rw (those_yes p y xs e) (there x y (those p xs) (ih i))
     at false e (inl i) ih = clash t (rw i e)
     at false e (inr i) ih = rw (those_no p y xs e) (ih i)
@@ -175,7 +178,7 @@ in_upto zero v h = absurd (not-suc-le-zero h)
 in_upto (suc n) v h = at (ℕ_discrete v n) (in_upto n v)
   where
     at : Dec (v ≡ n) → (v < n → among v (upto n) ≡ true) → among v (upto n ++ (n ∷ [])) ≡ true
-    at (yes e) ih = in_right v (upto n) (n ∷ []) (rw e (here n []))
+    at (yes e) ih = in_right v (upto n) (n ∷ []) (here_at _ n [] e)
     at (no ne) ih = in_left v (upto n) (n ∷ []) (ih (omega arith))
 
 pub upto_low : (n v : ℕ) → among v (upto n) ≡ true → v < n
@@ -287,7 +290,7 @@ pub in_map : (f : ℕ → ℕ) (x : ℕ) (xs : List ℕ) → among x xs ≡ true
 in_map f x [] h = h
 in_map f x (y ∷ xs) h =
     elim (in_cons x y xs h) [
-      | inl e ↦ rw e (here (f y) (map f xs))
+      | inl e ↦ here_at (f x) (f y) (map f xs) (ap f e)
       | inr i ↦ there (f x) (f y) (map f xs) (in_map f x xs i)
     ]
 
@@ -315,7 +318,7 @@ least_is a (x ∷ xs) = at (dec_le a x) (least_is (min a x) xs)
     at : Dec (a ≤ x) → (least (min a x) xs ≡ min a x) ⊎ (among (least (min a x) xs) xs ≡ true) → (least (min a x) xs ≡ a) ⊎ (among (least (min a x) xs) (x ∷ xs) ≡ true)
     at d (inr i) = inr (there (least (min a x) xs) x xs i)
     at (yes l) (inl e) = inl (omega arith)
-    at (no l) (inl e) = let z : least (min a x) xs ≡ x = omega arith in inr (rw z (here x xs))
+    at (no l) (inl e) = let z : least (min a x) xs ≡ x = omega arith in inr (here_at _ x xs z)
 
 -- the least of a list's values
 pub least_below : (f : ℕ → ℕ) (a : ℕ) (xs : List ℕ) → least a (map f xs) ≤ a

@@ -16,7 +16,7 @@ use Rattle.laws.specs.EdgeRows.{row, EdgeRows}
 use Rattle.laws.specs.OnePass.{Stage, stage_after, at_first, groups_from, Together, both, beyond, OnlyOne, least_of, name_in, GroupNames}
 use Rattle.laws.specs.Rising.{Distinct}
 use Rattle.laws.proofs.Tests.{clash}
-use Rattle.laws.proofs.Lists.{among_append, here, in_append, in_upto, table_is, least_among, least_is}
+use Rattle.laws.proofs.Lists.{among_append, here, here_at, in_append, in_upto, table_is, least_among, least_is}
 use Rattle.laws.proofs.Rising.{distinct_apart, distinct_right}
 use Rattle.laws.proofs.Joined.{in_joined}
 use Rattle.laws.proofs.Closed.{leads_on}
@@ -112,7 +112,7 @@ module _ (v : ℕ) (t : List ℕ) (ts : List (List ℕ)) where
 
 least_in : (x : ℕ) (t : List ℕ) → among x t ≡ true → among (least_of t) t ≡ true
 least_in x [] i = absurd (false≢true i)
-least_in x (y ∷ t) i = elim (least_is y (y ∷ t)) [ inl e ↦ rw e (here y t) | inr j ↦ j ]
+least_in x (y ∷ t) i = elim (least_is y (y ∷ t)) [ inl e ↦ here_at _ y t e | inr j ↦ j ]
 
 -- the name in a list of groups is the least of what its vertex reaches and is reached from
 abbrev Least : (ℕ → List ℕ) → ℕ → ℕ → Type 0

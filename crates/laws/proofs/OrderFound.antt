@@ -94,7 +94,11 @@ module _
 
     same_labelling : (order : List ℕ) → in_order order groups ≡ entered F → labelling groups children order ≡ l
     unfolding labelling
-    same_labelling order o = rw (← S.children_long, o, same_forest) labels_same
+    same_labelling order o =
+        ap (λ (es : List ℕ). labels_by (length groups) children (forest_of children es)) o
+        ∙ ap (labels_by (length groups) children) same_forest
+        ∙ ap (λ (n : ℕ). labels_by n children F) (sym S.children_long)
+        ∙ labels_same
 
     -- so some order makes the labelling
     pub order_found : (order : List ℕ) × Order (length names) order × (labelling groups children order ≡ l)

@@ -2,7 +2,7 @@
 -- without repeats is no longer than one that holds all its members, so n numbers below n without repeats are all of them.
 use mathlib.Core.Bool.{Bool, true, false, not, false≢true}
 use mathlib.Core.Logic.{◌⊎◌, inl, inr}
-use mathlib.Core.Path.{◌≡◌, refl, ap, ap₂}
+use mathlib.Core.Path.{◌≡◌, refl, ap, ap₂, subst, sym}
 use mathlib.Core.List.{List, [], ◌∷◌, ◌++◌}
 use Prim.Native.Nat.{ℕ, zero, suc, ◌+◌, ◌-◌, ◌<◌, ◌≤◌}
 use native.Mathlib.Nat.{not-suc-le-zero}
@@ -124,9 +124,14 @@ first_of_lem p (x ∷ xs) other a r i t = at (p x) refl (in_cons a x xs i) (λ j
         (b : Bool) → p x ≡ b → (a ≡ x) ⊎ (among a xs ≡ true)
         → (among a xs ≡ true → (p (first_of p xs other) ≡ true) × (among (first_of p xs other) xs ≡ true) × (first_of p xs other ≤ a))
         → (p (first_of p (x ∷ xs) other) ≡ true) × (among (first_of p (x ∷ xs) other) (x ∷ xs) ≡ true) × (first_of p (x ∷ xs) other ≤ a)
-    at true e c ih = rw (e, first_of) (e, here x xs, head_least x a xs r i)
+    at true e c ih =
+        let z : first_of p (x ∷ xs) other ≡ x = rw (e, first_of) refl in
+        (rw z e, subst (λ (y : ℕ). among y (x ∷ xs) ≡ true) (sym z) (here x xs), rw z (head_least x a xs r i))
     at false e (inl j) ih = clash t (rw j e)
-    at false e (inr j) ih = let f = ih j in rw (e, first_of) (f.0, there (first_of p xs other) x xs f.1, f.2)
+    at false e (inr j) ih =
+        let f = ih j in
+        let z : first_of p (x ∷ xs) other ≡ first_of p xs other = rw (e, first_of) refl in
+        (rw z f.0, subst (λ (y : ℕ). among y (x ∷ xs) ≡ true) (sym z) (there (first_of p xs other) x xs f.1), rw z f.2)
 
 -- a stronger test keeps fewer
 pub those_le : (p q : ℕ → Bool) (xs : List ℕ) → ((x : ℕ) → p x ≡ true → q x ≡ true) → length (those p xs) ≤ length (those q xs)

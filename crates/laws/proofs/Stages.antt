@@ -11,7 +11,7 @@ use Rattle.lineage.specs.Lists.{among, joined, position}
 use Rattle.laws.specs.Leads.{Leads, Mutual}
 use Rattle.laws.specs.OnePass.{Stage}
 use Rattle.laws.specs.Rising.{Distinct}
-use Rattle.laws.proofs.Lists.{here, there, in_cons, in_one, in_left, in_append, Kept, position_left}
+use Rattle.laws.proofs.Lists.{here, here_at, there, in_cons, in_one, in_left, in_append, Kept, position_left}
 use Rattle.laws.proofs.Closed.{Closed}
 
 -- the vertices that have a group
@@ -96,7 +96,7 @@ module _ {next : ℕ → List ℕ} where
     up = λ u i. elim (in_append u a.added b.added i) [ inl j ↦ a.up u j | inr j ↦ b.up u j ];
     down = λ u i. elim (in_append u a.added b.added i) [ inl j ↦ a.down u j | inr j ↦ b.down u j ];
     edges = λ u w i e. elim (in_append u a.added b.added i) [ inl j ↦ fine_grows b.grows (a.edges u w j e) | inr j ↦ b.edges u w j e ];
-    tried = λ q i. elim (in_cons q p todo i) [ inl e ↦ fine_grows b.grows (a.tried q (rw e (here p []))) | inr j ↦ b.tried q j ];
+    tried = λ q i. elim (in_cons q p todo i) [ inl e ↦ fine_grows b.grows (a.tried q (here_at _ p [] e)) | inr j ↦ b.tried q j ];
     found = found_then a.found b.grows b.found;
   }
 

@@ -12,7 +12,7 @@ use Rattle.lineage.specs.Labels.{Forest, done, visit, after, finished, subtree}
 use Rattle.laws.specs.Leads.{Leads, stay, step}
 use Rattle.laws.specs.Visits.{Visits, over, skip, enter}
 use Rattle.laws.proofs.Tests.{or_cases, clash, is_false, or_false_left, or_false_right}
-use Rattle.laws.proofs.Lists.{here, there, in_cons, in_one, in_left, in_right, in_append}
+use Rattle.laws.proofs.Lists.{here, here_at, there, in_cons, in_one, in_left, in_right, in_append}
 use Rattle.laws.specs.Rising.{Distinct}
 use Rattle.laws.proofs.Rising.{distinct_append}
 use Rattle.laws.proofs.Traversal.{kept}
@@ -33,7 +33,7 @@ seen_cases q (visit p below rest) seen h =
       | inr i ↦ elim (seen_cases q below (p ∷ seen) i) [
         | inl j ↦ inl (in_left q (finished below) (p ∷ finished rest) j)
         | inr j ↦ elim (in_cons q p seen j) [
-          | inl e ↦ inl (in_right q (finished below) (p ∷ finished rest) (rw e (here p (finished rest))))
+          | inl e ↦ inl (in_right q (finished below) (p ∷ finished rest) (here_at _ p (finished rest) e))
           | inr k ↦ inr k
         ]
       ]
@@ -46,7 +46,7 @@ visited_seen (visit p below rest) seen q h =
     elim (parts q p below rest h) [
       | inl i ↦ kept rest _ q (visited_seen below (p ∷ seen) q i)
       | inr i ↦ elim i [
-        | inl e ↦ kept rest _ q (kept below _ q (rw e (here p seen)))
+        | inl e ↦ kept rest _ q (kept below _ q (here_at _ p seen e))
         | inr j ↦ visited_seen rest (after below (p ∷ seen)) q j
       ]
     ]
@@ -62,7 +62,7 @@ module _ {next : ℕ → List ℕ} where
   listed (skip {p = p} {todo = todo} {f = f} a r) q h =
       elim (in_cons q p todo h) [ inl e ↦ kept f _ q (rw e a) | inr i ↦ listed r q i ]
   listed (enter {p = p} {todo = todo} {seen = seen} {below = below} {rest = rest} a r s) q h =
-      elim (in_cons q p todo h) [ inl e ↦ kept rest _ q (kept below _ q (rw e (here p seen))) | inr i ↦ listed s q i ]
+      elim (in_cons q p todo h) [ inl e ↦ kept rest _ q (kept below _ q (here_at _ p seen e)) | inr i ↦ listed s q i ]
 
   -- all that a visited group has as next is seen in the end
   pub followed :

@@ -74,6 +74,7 @@ module _ {N : Net} {level : ℕ → ℕ} {k t : ℕ} (F : Lower N level k) (J : 
 
   -- what is seen is opened
   seen_opened : {cs o o' : List ℕ} {e : End} {L : ℕ} → Low F J L cs → Ready F J L o → Tries N cs o e o' → (g : ℕ) → SeesIn cs g → g ∈ o'
+  seen_opened {L = L} l a (over {o = o}) g v = elim v [ ]
   seen_opened l a (hit {h = h} {cs = cs} y) g v = clash y (sees_on v (J.hits h (l h (here h cs)).0 y)).0
   seen_opened l a (met {h = h} {cs = cs} {o = o} y m r) g v =
       let b = l h (here h cs) in

@@ -30,5 +30,11 @@ module _ {A B : Type 0} (f : A → B) where
   member_map (behind m) = behind (member_map m)
 
   pub map_member : {y : B} (xs : List A) → Member y (map f xs) → (x : A) × Member x xs × (f x ≡ y)
-  map_member (x ∷ xs) front = (x, front, refl)
-  map_member (x ∷ xs) (behind m) = let (z, k, e) = map_member xs m in (z, behind k, e)
+  map_member {y = y} [] x' = elim x' [ ]
+  map_member {y = y} (x ∷ xs) m = at x y m (map_member {y = y} xs)
+    where
+      at :
+          (x : A) (y : B) → Member y (f x ∷ map f xs) → (Member y (map f xs) → (z : A) × Member z xs × (f z ≡ y))
+          → (z : A) × Member z (x ∷ xs) × (f z ≡ y)
+      at x y front ih = (x, front, refl)
+      at x y (behind k) ih = let (z, i, e) = ih k in (z, behind i, e)

@@ -10,7 +10,7 @@ use native.Mathlib.Omega.{arith}
 use lib.ListN.{length, get_or, drop, set, length-set, drop_of_length-le}
 use lib.Seq.{drop-cons, drop-set-lt, get_or-set_same, get_or-set_other, set_out}
 use Rattle.lineage.specs.Lists.{among}
-use Rattle.laws.proofs.Lists.{here, there, in_cons}
+use Rattle.laws.proofs.Lists.{here, here_at, there, in_cons}
 use Rattle.numbers.specs.Marks.{mark_all}
 
 -- j of the list are passed
@@ -78,5 +78,5 @@ marks_from [] marks j h = inl h
 marks_from (x ∷ qs) marks j h = at (marks_from qs (set marks x 1) j h)
   where
     at : (get_or (set marks x 1) j 0 ≡ 1) ⊎ (among j qs ≡ true) → (get_or marks j 0 ≡ 1) ⊎ (among j (x ∷ qs) ≡ true)
-    at (inl m) = elim (mark_from marks x j m) [ inl i ↦ inl i | inr e ↦ inr (rw e (here x qs)) ]
+    at (inl m) = elim (mark_from marks x j m) [ inl i ↦ inl i | inr e ↦ inr (here_at _ x qs e) ]
     at (inr i) = inr (there j x qs i)
