@@ -1,4 +1,5 @@
 // The text program: standard input is read to its end, and what the run prints is written to standard output.
+#![tactic(auto)]
 use libc::{STDIN_FILENO, STDOUT_FILENO};
 use text::MOST_BYTES;
 use text_run::MOST_OUTPUT;

@@ -1,1 +1,3 @@
 // The demands on the calls stand in specs/, their proofs in proofs/; there is no code here.
+
+#![tactic(auto)]

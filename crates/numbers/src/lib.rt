@@ -1,4 +1,6 @@
 // Little-endian numbers of w bytes in lent bytes, w being 2 or 4; the lesser and the greater of two numbers; and lent memory set to 0.
+#![tactic(auto)]
+
 ghost use Rattle.std.specs.Prelude.{◌≡◌, ◌+◌, ◌*◌, ◌%◌, ◌^◌, ◌≤◌, ◌<◌, min, max, length, replicate};
 ghost use Rattle.lineage.specs.Lists.{part, cleared};
 ghost use Rattle.lineage.specs.Numbers.{Width, le_at, num_at, numbers, le_bytes, written};

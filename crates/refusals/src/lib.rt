@@ -1,6 +1,7 @@
 // The refusal numbers, in the order of document 01, each with its extra number where that is not 0. Numbers are of 32 bits in every call, and so are extra
 // numbers, but for the number of pairs of `ask_all`.
 
+#![tactic(auto)]
 // Build: n is over the form's bound.
 pub const MANY_VERTICES: u32 = 1;
 
