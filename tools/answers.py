@@ -74,6 +74,7 @@ class Function:
                     self.params[step[1]] = names["params"].get(callee)
         for (old, new), vs in names["loops"]:
             self.steps[norm(old)] = new
+        self.typed = {norm(step): var for at in names["typed"] for var, step in at}
         self.asked = {norm(k): v for k, v in names["asked"].items()}
         self.pre = names["pre"]["fields"] if names["pre"] else None
 
@@ -118,7 +119,11 @@ def flatten(f, ts, roots, helpers):
                 continue
         out.append(t)
         i += 1
-    # (c).x is c.x
+    return bare(out, roots)
+
+
+def bare(out, roots):
+    """(c).x is c.x"""
     again = True
     while again:
         again = False
@@ -136,7 +141,7 @@ def drop_aliases(ts, roots):
     while True:
         m = re.search(r"let (" + ID + r") = (" + "|".join(map(re.escape, roots)) + r") in[ \n]+", s)
         if not m:
-            return tokens(s)
+            return bare(tokens(s), roots)
         name, root = m[1], m[2]
         rest = s[m.end() :]
         rest = re.sub(r"(?<![\w'.₀-₉-])" + re.escape(name) + r"(?![\w'₀-₉-])", root, rest)
@@ -207,6 +212,10 @@ def citation(f, root, chain):
         return "(" + ", (".join(f"{root}.requires.{g}" for g in got) + ")" * len(got)[:0] if False else tuple_of([f"{root}.requires.{g}" for g in got])
     if head in ("args", "ranges", "lifetimes", "type_inv", "result"):
         return ".".join([root] + chain)
+    if head == "well-formed":
+        return ".".join([root, "well_formed"] + chain[1:])
+    if norm(head) in f.typed and chain[1:2] == ["given"]:
+        return ".".join([root, "type_inv", f.typed[norm(head)]] + chain[2:])
     step = f.steps.get(norm(head))
     if step is None:
         return ".".join([root] + chain)
@@ -428,6 +437,9 @@ def convert(f, text):
         asked = f.asked.get(norm(old)) or f.asked.get(norm(new))
         if asked and len(asked) > 1 and not out.strip().startswith("search rules"):
             out = by_clause(out, asked)
+        # what the check finds alone needs no answer
+        if out.strip() in ("search rules", "omega arith") and not unf:
+            continue
         goals.append((comment, new, unf, var, out))
     text_helpers = []
     # helpers that a goal or another helper cites, as functions of their place
@@ -454,7 +466,7 @@ def convert(f, text):
         elif kind == "helper" and it.used:
             parts.append(it.text)
     for comment, new, unf, var, out in goals:
-        parts.append("".join(c + "\n" for c in comment) + f"pub {new} : goal.{new}\n{unf}{new} {var} = {out.strip() if chr(10) not in out.strip() else chr(10) + '    ' + out.strip()}")
+        parts.append("".join(c + "\n" for c in comment) + f"pub {new} : goal.{new}\n{unf}{new} {var} ={' ' + out.strip() if chr(10) not in out.strip() else chr(10) + '    ' + out.strip()}")
     keep = [u for u in uses if not re.search(r"\.(Statement\.\{|Tie as )", u)]
     mod = f"Rattle.{f.crate}.proofs.{f.path}"
     inv_text = None

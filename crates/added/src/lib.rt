@@ -22,7 +22,7 @@ const MOST_ADDED: u32 = 256;
 
 // The added edges: the first `count` pairs. What stands behind them may be anything.
 #[repr(C)]
-#[derive(Drop)]
+#[derive(Clone, Copy)]
 pub struct Added {
     pub sources: [u32; 256],
     pub targets: [u32; 256],
@@ -30,21 +30,21 @@ pub struct Added {
 }
 
 // An edge was taken, or a refusal with its number and its extra number.
-#[derive(Drop)]
+#[derive(Clone, Copy)]
 pub enum Taken {
     Done,
     Refused { number: u32, extra: u32 },
 }
 
 // The answer, and the state afterwards.
-#[derive(Drop)]
+#[derive(Clone, Copy)]
 pub struct Adding {
     pub answer: Taken,
     pub state: Added,
 }
 
 // Yes or no, or a refusal with its number and its extra number.
-#[derive(Drop)]
+#[derive(Clone, Copy)]
 pub enum AskedAdded {
     Yes,
     No,

@@ -16,7 +16,7 @@ use stored_header::{Header, Layout, words_needed};
 
 // An answer: yes or no, the reason 1 to 6, the groups opened, and the number, from 1, of the labelling that decided (0 where none did); or a refusal with
 // its number and its extra number.
-#[derive(Drop)]
+#[derive(Clone, Copy)]
 pub enum Asked {
     Answer {
         says: bool,

@@ -15,7 +15,7 @@ use ask_walk::Seen;
 use stored_header::Layout;
 
 // Yes or no, the reason, the number of the labelling that decided (0 where none did), and the number of groups opened.
-#[derive(Drop)]
+#[derive(Clone, Copy)]
 pub struct Reply {
     pub says: bool,
     pub reason: u32,

@@ -22,7 +22,7 @@ use stored_header::{Header, Layout, words_needed};
 const MOST_VERTICES: usize = 4096;
 
 // The number of pairs, or a refusal with its number and its extra number.
-#[derive(Drop)]
+#[derive(Clone, Copy)]
 pub enum Batched {
     Count(usize),
     Refused { number: u32, extra: usize },

@@ -10,7 +10,7 @@ use stored::parts::{E, M, S};
 
 // The number, from 1, of the first labelling that decides: in which x's inner interval contains t's e, or x's outer interval does not contain t's. The other is 0,
 // and both are where none decides.
-#[derive(Drop)]
+#[derive(Clone, Copy)]
 pub struct Judged {
     pub inside: usize,
     pub outside: usize,

@@ -24,7 +24,7 @@ pub mod places;
 const LAST_STAMP: u8 = 255;
 
 // A pair's reply, the stamp that its walk marked with, and the highest stamp that a mark may bear behind it.
-#[derive(Drop)]
+#[derive(Clone, Copy)]
 pub struct Next {
     pub reply: Reply,
     pub stamp: u8,

@@ -13,7 +13,7 @@ ghost use Rattle.ask_stacked.specs.Words.{stack_words};
 use ask_walk::Seen;
 
 // What is left of a row of children: those from `next` to before `end`.
-#[derive(Drop)]
+#[derive(Clone, Copy)]
 struct Row {
     next: usize,
     end: usize,

@@ -9,7 +9,7 @@ ghost use Rattle.ask_walk.specs.Fit.{all, net_in, skips, Fit, Fresh, Marks, Belo
 ghost use Rattle.ask_walk.specs.Stamps.{seen_as, Under};
 
 // Whether the target is found, by which labelling, and how many groups were opened.
-#[derive(Drop)]
+#[derive(Clone, Copy)]
 pub struct Seen {
     pub found: bool,
     pub deciding: usize,

@@ -18,7 +18,7 @@ use refusals::{
 use stored_header::Row;
 
 // What checks 1 to 7 come to: the words of work memory that are needed, or a refusal with its number and its extra number.
-#[derive(Drop)]
+#[derive(Clone, Copy)]
 enum Checked {
     Passed(usize),
     Refused { number: u32, extra: u32 },
@@ -95,7 +95,7 @@ fn early(
 }
 
 // A finished build's total length, or a refusal with its number and its extra number.
-#[derive(Drop)]
+#[derive(Clone, Copy)]
 pub enum Built {
     Total(u32),
     Refused { number: u32, extra: u32 },

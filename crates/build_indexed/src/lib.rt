@@ -18,7 +18,7 @@ ghost use Rattle.build_indexed.specs.Memory.{children_from, labels_from, condens
 use stored_header::Layout;
 
 // k groups, and c child entries.
-#[derive(Drop)]
+#[derive(Clone, Copy)]
 pub struct Sizes {
     pub k: usize,
     pub c: usize,

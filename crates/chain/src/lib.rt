@@ -22,7 +22,7 @@ use stored::parts;
 use stored_header::{Header, Layout, words_needed};
 
 // How many steps were written, a no, or a refusal with its number and its extra number.
-#[derive(Drop)]
+#[derive(Clone, Copy)]
 pub enum Chained {
     Steps(u32),
     No,

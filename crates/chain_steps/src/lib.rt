@@ -13,7 +13,7 @@ use reach_climb::lowest_marked;
 const RUN: usize = 512;
 
 // Where a run of steps stopped: the group whose name was written last, a bound on its level, and the position behind its name.
-#[derive(Drop)]
+#[derive(Clone, Copy)]
 pub struct Stop {
     pub place: usize,
     pub level: usize,

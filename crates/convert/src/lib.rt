@@ -17,7 +17,7 @@ use stored::parts;
 use stored_header::{Header, Layout, words_needed};
 
 // A finished conversion's length, or a refusal with its number and its extra number.
-#[derive(Drop)]
+#[derive(Clone, Copy)]
 pub enum Converted {
     Total(u32),
     Refused { number: u32, extra: u32 },

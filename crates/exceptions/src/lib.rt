@@ -17,21 +17,21 @@ use refusals::{BAD_VERTEX, NOT_SOUND, OTHER_LISTS, OUTPUT_SHORT};
 use stored_header::{Header, Layout};
 
 // The length of the lists that were written, or a refusal with its number and its extra number.
-#[derive(Drop)]
+#[derive(Clone, Copy)]
 pub enum Written {
     Length(u32),
     Refused { number: u32, extra: u32 },
 }
 
 // Lists that belong to the index: of how many groups, and how many entries they have; or a refusal.
-#[derive(Drop)]
+#[derive(Clone, Copy)]
 pub enum Opened {
     Lists { groups: u32, entries: u32 },
     Refused { number: u32, extra: u32 },
 }
 
 // Yes or no, or a refusal.
-#[derive(Drop)]
+#[derive(Clone, Copy)]
 pub enum Said {
     Answer(bool),
     Refused { number: u32, extra: u32 },

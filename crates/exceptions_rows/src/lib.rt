@@ -18,7 +18,7 @@ use stored::rows::row_span;
 use stored_header::Layout;
 
 // How a list that was compared ends: where the next one begins, or it is not the stored one.
-#[derive(Drop)]
+#[derive(Clone, Copy)]
 pub enum Compared {
     Ends(usize),
     Differs,

@@ -16,7 +16,7 @@ use open::Opened;
 
 // What opening gives: a refusal with its extra number, or refusal 0 and the counts.
 #[repr(C)]
-#[derive(Drop)]
+#[derive(Clone, Copy)]
 pub struct DrobistenOpened {
     pub refusal: u32,
     pub extra: u32,
@@ -51,7 +51,7 @@ pub fn opened(r: Opened) -> DrobistenOpened
 
 // What asking gives: a refusal with its extra number, or refusal 0 and the answer.
 #[repr(C)]
-#[derive(Drop)]
+#[derive(Clone, Copy)]
 pub struct DrobistenAsked {
     pub refusal: u32,
     pub extra: u32,
@@ -91,7 +91,7 @@ pub fn asked(r: Asked) -> DrobistenAsked
 
 // What asking all pairs gives: a refusal with its extra number, or refusal 0 and the number of pairs.
 #[repr(C)]
-#[derive(Drop)]
+#[derive(Clone, Copy)]
 pub struct DrobistenAskedAll {
     pub refusal: u32,
     pub extra: usize,
@@ -117,7 +117,7 @@ pub fn asked_all(r: Batched) -> DrobistenAskedAll
 
 // What a call gives that answers one number: a refusal with its extra number, or refusal 0 and the number.
 #[repr(C)]
-#[derive(Drop)]
+#[derive(Clone, Copy)]
 pub struct DrobistenCounted {
     pub refusal: u32,
     pub extra: u32,
@@ -148,7 +148,7 @@ pub fn not_counted(number: u32, extra: u32) -> DrobistenCounted
 
 // What a question without a reason gives: a refusal with its extra number, or refusal 0 and yes or no.
 #[repr(C)]
-#[derive(Drop)]
+#[derive(Clone, Copy)]
 pub struct DrobistenSaid {
     pub refusal: u32,
     pub extra: u32,

@@ -17,7 +17,7 @@ use rules_table::RulesSettled;
 
 // What adding an edge gives: a refusal with its extra number, or refusal 0; and the added edges afterwards.
 #[repr(C)]
-#[derive(Drop)]
+#[derive(Clone, Copy)]
 pub struct DrobistenTaken {
     pub refusal: u32,
     pub extra: u32,

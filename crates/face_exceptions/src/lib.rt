@@ -39,7 +39,7 @@ pub extern "C" fn drobisten_build_exceptions(
 
 // What opening lists gives: a refusal with its extra number, or refusal 0 and of how many groups they are and how many entries they have.
 #[repr(C)]
-#[derive(Drop)]
+#[derive(Clone, Copy)]
 pub struct DrobistenLists {
     pub refusal: u32,
     pub extra: u32,

@@ -57,7 +57,7 @@ pub extern "C" fn drobisten_list_turned(
 
 // What a chain gives: a refusal with its extra number, or refusal 0, whether there is a chain, and its steps.
 #[repr(C)]
-#[derive(Drop)]
+#[derive(Clone, Copy)]
 pub struct DrobistenChained {
     pub refusal: u32,
     pub extra: u32,

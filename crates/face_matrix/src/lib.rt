@@ -15,7 +15,7 @@ use matrix_write::Written;
 
 // What reading a text gives: a refusal with its extra number, or refusal 0, n and the number of edges.
 #[repr(C)]
-#[derive(Drop)]
+#[derive(Clone, Copy)]
 pub struct DrobistenMatrix {
     pub refusal: u32,
     pub extra: usize,

@@ -16,7 +16,7 @@ use stored::parts;
 use stored_header::{Header, Layout, words_needed};
 
 // How many vertices are listed, or a refusal with its number and its extra number.
-#[derive(Drop)]
+#[derive(Clone, Copy)]
 pub enum Listed {
     Count(u32),
     Refused { number: u32, extra: u32 },

@@ -12,7 +12,7 @@ use text_lines::{Byte, Line, Number, byte_at, read_number, read_numbers};
 pub const MOST_DIGITS: usize = 7;
 
 // Lines that stood first: how many, and where the text goes on.
-#[derive(Drop)]
+#[derive(Clone, Copy)]
 pub struct Block {
     pub count: usize,
     pub at: usize,
@@ -43,7 +43,7 @@ pub fn header_stands(text: &[u8]) -> bool
 }
 
 // What a line is, by its first byte: a comment, a row of numbers, or neither.
-#[derive(Drop)]
+#[derive(Clone, Copy)]
 pub enum LineKind {
     Comment,
     Row,

@@ -15,7 +15,7 @@ use stored_header::form_row;
 use text_lines::Line;
 
 // An entry that was read, its ends from 0 on, and where the next line begins.
-#[derive(Drop)]
+#[derive(Clone, Copy)]
 enum Entry {
     Good {
         source: u32,
@@ -66,7 +66,7 @@ fn read_entry(text: &[u8], at: usize, n: u32) -> Entry
 }
 
 // The size line that was read: n, the number of entries, and where the next line begins.
-#[derive(Drop)]
+#[derive(Clone, Copy)]
 enum Size {
     Good { n: u32, entries: u32, next: usize },
     Bad,
@@ -131,7 +131,7 @@ fn size_of(x: u32) -> usize
 }
 
 // What a text says, its entries counted and found good: n, how many, and where they begin; or the first bad line.
-#[derive(Drop)]
+#[derive(Clone, Copy)]
 enum Survey {
     Good { n: u32, entries: usize, at: usize },
     BadLine(usize),
@@ -196,7 +196,7 @@ fn store_entries(
 }
 
 // n and the number of entries, or a refusal with its number and its extra number.
-#[derive(Drop)]
+#[derive(Clone, Copy)]
 pub enum MatrixRead {
     Says { n: u32, edges: usize },
     Refused { number: u32, extra: usize },

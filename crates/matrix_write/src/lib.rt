@@ -14,7 +14,7 @@ use refusals::{BAD_EDGE, LISTS_DIFFER, MANY_EDGES, MANY_VERTICES, OUTPUT_SHORT};
 use text_printing::{decimal_length, put_byte, put_number, put_word};
 
 // The length of the text that was written, or a refusal with its number and its extra number.
-#[derive(Drop)]
+#[derive(Clone, Copy)]
 pub enum Written {
     Total(u32),
     Refused { number: u32, extra: u32 },

@@ -16,7 +16,7 @@ use sound_labels::labels_sound;
 use stored_header::{Header, Layout, words_needed};
 
 // An index's counts, or a refusal with its number and its extra number.
-#[derive(Drop)]
+#[derive(Clone, Copy)]
 pub enum Opened {
     Index { n: u32, k: u32, c: u32, d: u32 },
     Refused { number: u32, extra: u32 },

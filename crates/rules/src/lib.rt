@@ -13,14 +13,14 @@ use rules_states::{first_out, mark_affected, settle_states};
 use stored_header::{Header, words_needed};
 
 // The states are as told, or a refusal with its number and its extra number.
-#[derive(Drop)]
+#[derive(Clone, Copy)]
 pub enum Settled {
     Done,
     Refused { number: u32, extra: usize },
 }
 
 // The number of vertices, of which those that the changed ones reach are marked, or a refusal.
-#[derive(Drop)]
+#[derive(Clone, Copy)]
 pub enum Prepared {
     Reached(usize),
     Refused { number: u32, extra: usize },

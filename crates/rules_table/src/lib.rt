@@ -11,7 +11,7 @@ use rules_states::state_after;
 
 // A rule record: rule number, vertex and state. The state is a number, since an enum has no layout in C.
 #[repr(C)]
-#[derive(Drop)]
+#[derive(Clone, Copy)]
 pub struct Rule {
     pub rule: u32,
     pub vertex: u32,
@@ -20,14 +20,14 @@ pub struct Rule {
 
 // What the desk is given: a refusal with its extra number, or 0 and 0.
 #[repr(C)]
-#[derive(Drop)]
+#[derive(Clone, Copy)]
 pub struct RulesSettled {
     pub refusal: u32,
     pub extra: usize,
 }
 
 // What is to be done: the answer, the number of vertices, and how many records are to be turned.
-#[derive(Drop)]
+#[derive(Clone, Copy)]
 pub struct Work {
     pub refusal: u32,
     pub extra: usize,

@@ -5,7 +5,7 @@ ghost use Rattle.stored.specs.Rows.{Rows, Row};
 use numbers::num;
 
 // Where the children of a group stand: from which position on, and how many they are.
-#[derive(Drop)]
+#[derive(Clone, Copy)]
 pub struct Span {
     pub from: usize,
     pub len: usize,

@@ -18,7 +18,7 @@ pub const MOST_LABELLINGS: usize = 5;
 
 // A row of the table of forms: whether a form has this number, its width and its bounds, how many numbers a labelling has of each group by place, and whether it
 // is of plain hierarchies.
-#[derive(Drop)]
+#[derive(Clone, Copy)]
 pub struct Row {
     pub known: bool,
     pub width: usize,
@@ -32,7 +32,7 @@ pub struct Row {
 
 // The numbers n, k, c and d, the width of the sections' numbers, how many of them a labelling has of each group by place, and where each
 // section starts.
-#[derive(Drop)]
+#[derive(Clone, Copy)]
 pub struct Layout {
     pub width: usize,
     pub stride: usize,
@@ -50,7 +50,7 @@ pub struct Layout {
 }
 
 // What a header says: a layout, or a refusal with its number and its extra number.
-#[derive(Drop)]
+#[derive(Clone, Copy)]
 pub enum Header {
     Passed(Layout),
     Refused { number: u32, extra: u32 },

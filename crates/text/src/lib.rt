@@ -19,7 +19,7 @@ pub const MOST_ORDERS: usize = 5;
 pub const MOST_QUESTIONS: usize = 5461;
 
 // Lines of one letter, one after the other: how many, and where the text goes on.
-#[derive(Drop)]
+#[derive(Clone, Copy)]
 pub struct Block {
     pub count: usize,
     pub at: usize,
@@ -69,7 +69,7 @@ fn size_of(x: u32) -> usize
 }
 
 // What a good text says: n, and how many edges, orders and questions the lists hold; or the first bad line.
-#[derive(Drop)]
+#[derive(Clone, Copy)]
 pub enum Reading {
     Says {
         n: usize,

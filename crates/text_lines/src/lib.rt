@@ -7,7 +7,7 @@ ghost use Rattle.text_lines.specs.Reader.{is_letter, byte_in, digits_in, number_
 pub const MOST_DIGITS: usize = 5;
 
 // What stands at a position: a letter that begins a line, a digit's value, a space, LF, another byte, or the text's end.
-#[derive(Drop)]
+#[derive(Clone, Copy)]
 pub enum Byte {
     Letter(u8),
     Digit(u32),
@@ -40,7 +40,7 @@ pub fn byte_at(text: &[u8], at: usize) -> Byte
 }
 
 // A number that was read, and where it ends.
-#[derive(Drop)]
+#[derive(Clone, Copy)]
 pub enum Number {
     Good { value: u32, next: usize },
     Bad,
@@ -92,7 +92,7 @@ pub fn read_number(text: &[u8], at: usize, most: usize) -> Number
 }
 
 // A line that was read: where the next begins.
-#[derive(Drop)]
+#[derive(Clone, Copy)]
 pub enum Line {
     Good(usize),
     Bad,
