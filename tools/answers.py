@@ -74,12 +74,27 @@ class Function:
                     self.params[step[1]] = names["params"].get(callee)
         for (old, new), vs in names["loops"]:
             self.steps[norm(old)] = new
+        self.arms = {}
+        for arm in names["arms"]:
+            if arm:
+                for field, step, path in arm[2]:
+                    self.arms[(norm(step),) + tuple(path)] = (arm[0], field)
+        self.facts = {}
+        for old, parent, step, callee, more in names["places"]:
+            for a, b in more:
+                self.facts[(step[1], a)] = b
         self.typed = {norm(step): var for at in names["typed"] for var, step in at}
         self.asked = {norm(k): v for k, v in names["asked"].items()}
         self.pre = names["pre"]["fields"] if names["pre"] else None
 
+    def step(self, word):
+        for w in (norm(word), norm(word).lower(), re.sub("-lem$", "", norm(word))):
+            if w in self.steps:
+                return self.steps[w]
+        return None
+
     def place(self, word):
-        it = self.places.get(norm(word))
+        it = self.places.get(norm(word)) or {norm(k).lower(): v for k, v in self.places.items()}.get(norm(word).lower()) or self.places.get(re.sub("-lem$", "", norm(word)))
         if it is None:
             raise Failed(f"no place {word}")
         return it
@@ -216,10 +231,16 @@ def citation(f, root, chain):
         return ".".join([root, "well_formed"] + chain[1:])
     if norm(head) in f.typed and chain[1:2] == ["given"]:
         return ".".join([root, "type_inv", f.typed[norm(head)]] + chain[2:])
-    step = f.steps.get(norm(head))
+    for k in range(len(chain), 0, -1):
+        arm = f.arms.get((norm(chain[0]),) + tuple(chain[1:k]))
+        if arm:
+            return ".".join([root, arm[0], arm[1]] + chain[k:])
+    step = f.step(head)
     if step is None:
         return ".".join([root] + chain)
     rest = [{"taken": "true", "left": "false", "inv": "invariant"}.get(c, c) if k == 0 else c for k, c in enumerate(chain[1:])]
+    if rest and (step, rest[0]) in f.facts:
+        rest[0] = f.facts[(step, rest[0])]
     if rest and rest[0] == "ensures" and step in f.clauses and f.clauses[step]:
         got, more = select(rest[1:], f.clauses[step])
         if len(got) == 1:
@@ -321,7 +342,36 @@ def by_clause(body, fields):
     return before + (" " if before and not before[-1].isspace() else "") + "record { " + "; ".join(f"{a} = {b.strip()}" for a, b in zip(fields, items)) + " }"
 
 
+def sections(text):
+    """Sections over one place, `module _ (r : tie.P) where`, as functions of the place."""
+
+    def opened(m):
+        var, place, body = m[1], m[2], m[3]
+        body = re.sub(r"(?m)^  ", "", body)
+        blocks = [b for b in re.split(r"\n\s*\n", body) if b.strip()]
+        names = re.findall(r"(?m)^(?:abbrev |unfoldable |pub )*(" + ID + r") :", body)
+        out = []
+        for b in blocks:
+            k = re.search(r"(?m)^((?:abbrev |unfoldable |pub )*)(" + ID + r") : ", b)
+            comment, marks, name, rest = b[: k.start()], k[1], k[2], b[k.end() :]
+            c = re.search(r"\n(?:unfolding [^\n]*\n)?" + re.escape(name) + r"\b", rest)
+            sig, clause = rest[: c.start()], rest[c.start() :].lstrip("\n")
+
+            def cite(part):
+                return re.sub(r"(?<![\w'.₀-₉-])(" + "|".join(map(re.escape, names)) + r")(?![\w'₀-₉-]|\s=\s)", lambda w: f"({w[1]} {var})", part)
+
+            unf = ""
+            while clause.startswith("unfolding"):
+                u, clause = clause.split("\n", 1)
+                unf += u + "\n"
+            out.append(comment + f"{marks}{name} : ({var} : tie.{place}) → {cite(sig)}\n{unf}{name} {var}" + cite(clause[len(name) :]))
+        return "\n\n".join(out) + "\n\n"
+
+    return re.sub(r"(?m)^module _ \((" + ID + r") : tie\.(" + ID + r")[^)]*\) where\n((?:(?:  [^\n]*)?\n)+)", opened, text)
+
+
 def convert(f, text):
+    text = sections(text)
     blocks = []
     header = []
     lines = text.split("\n")
@@ -434,6 +484,7 @@ def convert(f, text):
         var = c[1] if c[1] != "_" else "c"
         body = turned(rest[c.end() :], [var])
         out = "".join(rename(f, tokens(body), [var], new, helpers, None)).rstrip()
+        out = re.sub(r"not-(?:true|false) _ (?:\((" + ID + r"(?:\." + ID + r")*\.(?:true|false))-raw\)|(" + ID + r"(?:\." + ID + r")*\.(?:true|false))-raw)", lambda m: m[1] or m[2], out)
         asked = f.asked.get(norm(old)) or f.asked.get(norm(new))
         if asked and len(asked) > 1 and not out.strip().startswith("search rules"):
             out = by_clause(out, asked)
@@ -453,6 +504,7 @@ def convert(f, text):
                 again = True
                 typ = "".join(rename(f, tokens(h.type), [h.var], None, helpers, h.place)).strip()
                 body = "".join(rename(f, tokens(h.body), [h.var], None, helpers, h.place)).rstrip()
+                body = re.sub(r"not-(?:true|false) _ (" + ID + r"(?:\." + ID + r")*\.(?:true|false))-raw", r"\1", body)
                 h.text = (
                     "".join(c + "\n" for c in comment)
                     + ("abbrev " if h.abbrev else "")

@@ -9,7 +9,7 @@ use lib.ListN.{length}
 use borrow.Author.Tests.{lt-ltb, le-ltb}
 use Rattle.lineage.specs.Numbers.{Width}
 use Rattle.lineage.specs.Stored.{Form, Counts, header_at, counts_in, form_of, counts_fit, offsets_fit}
-use Rattle.lineage.specs.Calls.{Check, refused, answered, outcome, FormsTaken, takes, words_for, words_in, form_checks}
+use Rattle.lineage.specs.Calls.{Check, refused, answered, outcome, FormsTaken, takes, words_in, form_checks}
 use Rattle.laws.proofs.Tests.{or_left, or_right}
 use Rattle.stored_header.specs.declared.Row.{Row}
 use Rattle.stored_header.specs.declared.Layout.{Layout}

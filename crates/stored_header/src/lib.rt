@@ -1,6 +1,7 @@
 // The header: twelve 32-bit numbers, checked in the document's order and read, with the marks and the words that every call on stored bytes is lent (10 to 13, then
 // 6); and written.
 #![tactic(auto)]
+
 ghost use Rattle.std.specs.Prelude.{◌≡◌, ◌+◌, ◌*◌, ◌^◌, ◌≤◌, ◌<◌, eqb, length};
 ghost use Rattle.lineage.specs.Lists.{Every};
 ghost use Rattle.lineage.specs.Numbers.{Width, written};

@@ -3,12 +3,10 @@ use native.Mathlib.Omega.{arith}
 use native.Mathlib.Nat.{mul-le-mul}
 use mathlib.Core.Path.{refl}
 use Prim.Native.Nat.{ℕ, ◌+◌, ◌*◌, ◌≤◌}
-use borrow.Author.Rules.{rules}
 use Rattle.lineage.specs.Stored.{most_labellings}
 use Rattle.numbers.specs.Bounds.{vertex_bound}
 use Rattle.stored_header.specs.Header.{Stride}
-use Rattle.stored_header.proofs.label_count.Statement.{statement}
-use Rattle.stored_header.proofs.label_count.Tie as tie
+use Rattle.stored_header.proofs.label_count.Goals as goal
 
 at_most : {z k d : ℕ} → Stride z → k ≤ vertex_bound → d ≤ most_labellings
     → ((z + 1) * k ≤ 4 * vertex_bound) × (d * ((z + 1) * k) ≤ most_labellings * (4 * vertex_bound))
@@ -16,17 +14,11 @@ at_most {z} {k} {d} Z hk hd =
     let by : z + 1 ≤ 4 = omega (arith, Z.high) in
     (mul-le-mul by hk, mul-le-mul hd (mul-le-mul by hk))
 
-add_result : tie.Need-overflow-add-result
-add_result c = search rules
+pub overflow_mul-result : goal.overflow_mul-result
+overflow_mul-result c = omega (arith, at_most c.requires.stride c.requires.k_le_vertex_bound.0 c.requires.k_le_vertex_bound.1)
 
-mul_result : tie.Need-overflow-mul-result
-mul_result c = omega (arith, at_most c.requires.0 c.requires.1.0 c.requires.1.1)
+pub overflow_mul-result-2 : goal.overflow_mul-result-2
+overflow_mul-result-2 c = omega (arith, at_most c.requires.stride c.requires.k_le_vertex_bound.0 c.requires.k_le_vertex_bound.1)
 
-mul_result_2 : tie.Need-overflow-mul-result-2
-mul_result_2 c = omega (arith, at_most c.requires.0 c.requires.1.0 c.requires.1.1)
-
-returns : tie.Need-returns
-returns c = (refl, (at_most c.requires.0 c.requires.1.0 c.requires.1.1).1)
-
-pub label_count_spec : {M : Type 1} → statement M
-label_count_spec = tie.close (tie.spec add_result mul_result mul_result_2 returns)
+pub returns : goal.returns
+returns c = (refl, (at_most c.requires.stride c.requires.k_le_vertex_bound.0 c.requires.k_le_vertex_bound.1).1)
