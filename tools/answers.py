@@ -329,6 +329,8 @@ def by_clause(body, fields):
         parts = split_tuple(left)
         if not parts or len(parts) < 2:
             left = left.strip()
+            if k == 0 and not re.fullmatch(r"[\w.'₀-₉-]+", left):
+                return body
             if not re.fullmatch(r"[\w.'₀-₉-]+", left):
                 before += (" " if before and not before.endswith((" ", "\n")) else "") + ""
                 left = f"({left})"

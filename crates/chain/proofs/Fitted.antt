@@ -128,8 +128,8 @@ module _
     can_place h named = (S.width, ((omega (arith, S.groups_long), S.groups_few), (list_rises S, (list_low S, name_listed S h named))))
 
     -- and its level read
-    pub can_level : {u name x : ℕ} → u < l.n → name ≡ num_at w names u → x ≡ place_of (numbers w groups k) name → Width w × (w * x + w ≤ length levels)
-    can_level {x = x} h named placed = (S.width, room w x k (length levels) (vertex_low S h named placed) (omega (arith, S.levels_long)))
+    pub can_level : {u name x : ℕ} → u < l.n → name ≡ num_at w names u → x ≡ place_of (numbers w groups k) name → record { width : Width w; w_in_bounds : w * x + w ≤ length levels }
+    can_level {x = x} h named placed = record { width = S.width; w_in_bounds = room w x k (length levels) (vertex_low S h named placed) (omega (arith, S.levels_long)) }
 
     -- the target's group is reached from exactly the marked groups
     module _ {u v : ℕ} (hu : u < l.n) (hv : v < l.n) {marks : List ℕ} (E : Exact (index_in b) (place_in (index_in b) v) marks) where

@@ -123,8 +123,8 @@ module _
       long = omega (arith, S.labels_long);
     }
 
-    pub name_read : {p : ℕ} → p < k → Width w × (w * p + w ≤ length groups)
-    name_read {p} h = (S.width, room w p k (length groups) h (omega (arith, S.groups_long)))
+    pub name_read : {p : ℕ} → p < k → record { width : Width w; w_in_bounds : w * p + w ≤ length groups }
+    name_read {p} h = record { width = S.width; w_in_bounds = room w p k (length groups) h (omega (arith, S.groups_long)) }
 
     pub name_low : {p v marks : ℕ} → p < k → v ≡ num_at w groups p → l.n ≤ marks → v < marks
     name_low {p} {marks = marks} h e room = omega (arith, (spots O P marks room).name_low p h)
@@ -175,8 +175,8 @@ module _
           )
 
     module _ {places : List ℕ} (R : Part labels (w * (0 * ((z + 1) * k) + z * k)) (w * k) places) {r : ℕ} (h : r < k) where
-      pub place_read : Width w × (w * r + w ≤ length places)
-      place_read = (S.width, room w r k (length places) h (omega (arith, R.long)))
+      pub place_read : record { width : Width w; w_in_bounds : w * r + w ≤ length places }
+      place_read = record { width = S.width; w_in_bounds = room w r k (length places) h (omega (arith, R.long)) }
 
       pub place_low : {v : ℕ} → v ≡ num_at w places r → v < k
       place_low e = omega (arith, (ranked O P places R).place_low r h)

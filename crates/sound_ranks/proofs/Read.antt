@@ -33,8 +33,8 @@ module _ {w z k : ℕ} {tuples : List ℕ} (T : Tuples w z tuples k) {p : ℕ} (
   pub tuples_few : z * p + z ≤ entry_bound
   tuples_few = omega (arith, room z p k (z * k) low (omega arith), T.held.few)
 
-  pub can_read_number : {i : ℕ} → i < z → Width w × (w * (z * p + i) + w ≤ length tuples)
+  pub can_read_number : {i : ℕ} → i < z → record { width : Width w; w_in_bounds : w * (z * p + i) + w ≤ length tuples }
   can_read_number {i} h = can_read T.held (number_low z k p i low h)
 
-  pub can_read_first : Width w × (w * (z * p) + w ≤ length tuples)
+  pub can_read_first : record { width : Width w; w_in_bounds : w * (z * p) + w ≤ length tuples }
   can_read_first = rw add-zero at (can_read_number {i = 0} (omega (arith, T.stride.low)))

@@ -19,7 +19,7 @@ use Rattle.laws.proofs.Lists.{table_long}
 use Rattle.numbers.proofs.Numbers.{numbers_long}
 use Rattle.stored_header.specs.declared.Layout.{Layout}
 use Rattle.stored_header.specs.Header.{layout_in, Laid}
-use Rattle.stored_header.proofs.Forms.{Within, form_within}
+use Rattle.stored_header.proofs.Forms.{form_within}
 use Rattle.stored_header.proofs.Laid.{width_is, stride_is, n_is, k_is, c_is, d_is}
 use Rattle.stored.specs.Sections.{Section, Six, index_at}
 use Rattle.stored.proofs.Sections.{decode_is}

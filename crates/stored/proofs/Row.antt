@@ -37,7 +37,7 @@ module _ {w k c : ℕ} {starts : List ℕ} (R : Rows w starts k c) where
 -- one row
 module _ {w k c p from len : ℕ} {starts children : List ℕ} (K : Children w starts children k c) (R : Row w starts k c p from len) where
   -- child i can be read
-  pub can_read_child : {i : ℕ} → i < len → Width w × (w * (from + i) + w ≤ length children)
+  pub can_read_child : {i : ℕ} → i < len → record { width : Width w; w_in_bounds : w * (from + i) + w ≤ length children }
   can_read_child {i} h = can_read K.held (omega (arith, R.within))
 
   -- the row has that many children
