@@ -59,45 +59,40 @@ class Function:
         self.n = names
         self.goals = {norm(a): b for a, b in names["needs"]}
         self.goals_new = {norm(b): b for a, b in names["needs"]}
-        self.places = {}
-        self.steps = {}
-        self.clauses = {}
-        self.params = {}
-        for place, new, cl in zip(names["places"], names["places_by_name"], names["clauses"]):
-            old, parent, step, callee, more = place
-            self.places[norm(old)] = new
+        self.at = {b: names["asked_at"][k][0] for k, (a, b) in enumerate(names["needs"])}
+        self.places, self.parent, self.own, self.new, self.facts, self.arms = {}, {}, {}, {}, {}, {}
+        self.steps, self.clauses, self.params = {}, {}, {}
+        for (old, parent, step, callee, more), new, cl, arm in zip(names["places"], names["places_by_name"], names["clauses"], names["arms"]):
+            for k in (norm(old), norm(old).lower()):
+                self.places.setdefault(k, old)
+            self.parent[old], self.own[old], self.new[old] = parent, step, new
+            self.facts[old] = dict(more)
+            if arm:
+                self.arms[old] = [((norm(st),) + tuple(path), (arm[0], field)) for field, st, path in arm[2]]
             if step[0]:
-                self.steps[norm(step[0])] = step[1]
+                self.steps.setdefault(norm(step[0]), step[1])
                 if cl:
                     self.clauses[step[1]] = cl["fields"]
                 if callee:
                     self.params[step[1]] = names["params"].get(callee)
         for (old, new), vs in names["loops"]:
             self.steps[norm(old)] = new
-        self.arms = {}
-        for arm in names["arms"]:
-            if arm:
-                for field, step, path in arm[2]:
-                    self.arms[(norm(step),) + tuple(path)] = (arm[0], field)
-        self.facts = {}
-        for old, parent, step, callee, more in names["places"]:
-            for a, b in more:
-                self.facts[(step[1], a)] = b
         self.typed = {norm(step): var for at in names["typed"] for var, step in at}
         self.asked = {norm(k): v for k, v in names["asked"].items()}
         self.pre = names["pre"]["fields"] if names["pre"] else None
 
-    def step(self, word):
-        for w in (norm(word), norm(word).lower(), re.sub("-lem$", "", norm(word))):
-            if w in self.steps:
-                return self.steps[w]
-        return None
-
     def place(self, word):
-        it = self.places.get(norm(word)) or {norm(k).lower(): v for k, v in self.places.items()}.get(norm(word).lower()) or self.places.get(re.sub("-lem$", "", norm(word)))
-        if it is None:
-            raise Failed(f"no place {word}")
-        return it
+        """The old name of a place."""
+        for w in (norm(word), norm(word).lower(), re.sub("-lem$", "", norm(word))):
+            if w in self.places:
+                return self.places[w]
+        raise Failed(f"no place {word}")
+
+    def named(self, place):
+        """The new name of a place; of the parts of an arm, that of the whole arm."""
+        new = self.new[place]
+        whole = re.sub(r"-\d+$", "", new)
+        return whole if whole != new and whole.startswith("In") and whole in self.new.values() else new
 
 
 def select(path, fields):
@@ -114,109 +109,112 @@ def select(path, fields):
     return fields[i:], path
 
 
-def flatten(f, ts, roots, helpers):
-    """Drops .before behind place variables, and calls that lead to a place. roots: the names of place variables."""
-    out = []
-    i = 0
-    while i < len(ts):
-        t = ts[i]
-        if t == "." and i + 1 < len(ts) and ts[i + 1] == "before":
-            i += 2
-            continue
-        if is_id(t) and t in helpers and helpers[t].leads and not (out and out[-1] == "."):
-            j = i + 1
-            while j < len(ts) and ts[j].isspace():
-                j += 1
-            if j < len(ts) and (ts[j] == "(" or is_id(ts[j])):
-                k = balanced(ts, j)
-                out += flatten(f, ts[j:k], roots, helpers)
-                i = k
-                continue
-        out.append(t)
-        i += 1
-    return bare(out, roots)
-
-
-def bare(out, roots):
-    """(c).x is c.x"""
-    again = True
-    while again:
-        again = False
-        for i in range(len(out) - 2):
-            if out[i] == "(" and is_id(out[i + 1]) and out[i + 2] == ")" and out[i + 1] in roots:
-                out[i : i + 3] = [out[i + 1]]
-                again = True
-                break
-    return out
-
-
-def drop_aliases(ts, roots):
-    """`let t = c in`, where c is a place variable, goes, and t is c."""
-    s = "".join(ts)
-    while True:
-        m = re.search(r"let (" + ID + r") = (" + "|".join(map(re.escape, roots)) + r") in[ \n]+", s)
-        if not m:
-            return bare(tokens(s), roots)
-        name, root = m[1], m[2]
-        rest = s[m.end() :]
-        rest = re.sub(r"(?<![\w'.₀-₉-])" + re.escape(name) + r"(?![\w'₀-₉-])", root, rest)
-        s = s[: m.start()] + rest
-
-
 class Helper:
     pass
 
 
-def rename(f, ts, roots, at, helpers, place):
-    """Renames steps, clauses and helper calls behind place variables. at: what gives the record of a place, or None in a helper of that place."""
+def skip(ts, i):
+    while i < len(ts) and ts[i].isspace():
+        i += 1
+    return i
+
+
+def place_at(f, ts, i, env, helpers):
+    """The place that the atom at i is, without its fields, and the index behind it; or None."""
+    if i >= len(ts) or (i > 0 and ts[i - 1] == "."):
+        return None
+    if is_id(ts[i]) and ts[i] in env:
+        place, j = env[ts[i]], i + 1
+    elif ts[i] == "(":
+        got = place_term(f, ts, skip(ts, i + 1), env, helpers)
+        if not got:
+            return None
+        j = skip(ts, got[1])
+        if j >= len(ts) or ts[j] != ")":
+            return None
+        place, j = got[0], j + 1
+    else:
+        return None
+    while ts[j : j + 2] == [".", "before"]:
+        place = f.parent[place]
+        if place is None:
+            raise Failed("nothing is before the start")
+        j += 2
+    return place, j
+
+
+def place_term(f, ts, i, env, helpers):
+    """The same for a term: an atom, or a function that leads from place to place with its argument."""
+    if i < len(ts) and is_id(ts[i]) and ts[i] in helpers and helpers[ts[i]].leads:
+        got = place_at(f, ts, skip(ts, i + 1), env, helpers)
+        return got and (helpers[ts[i]].to, got[1])
+    return place_at(f, ts, i, env, helpers)
+
+
+def walk(f, ts, env, root, at, helpers, own):
+    """A term with what it cites of places written for one flat record, root. at: the goal that it answers, or None in a function of the place own."""
+    env = dict(env)
     out = []
     i = 0
     while i < len(ts):
         t = ts[i]
-        if is_id(t) and t in roots and not (out and out[-1] == ".") and i + 2 < len(ts) and ts[i + 1] == "." and is_id(ts[i + 2]):
+        if t == "let":
+            j = skip(ts, i + 1)
+            if j < len(ts) and is_id(ts[j]):
+                k = skip(ts, j + 1)
+                if ts[k] == "=":
+                    got = place_term(f, ts, skip(ts, k + 1), env, helpers)
+                    if got:
+                        e = skip(ts, got[1])
+                        if e < len(ts) and ts[e] == "in":
+                            env[ts[j]] = got[0]
+                            i = skip(ts, e + 1)
+                            continue
+        if is_id(t) and t in helpers and not (out and out[-1] == "."):
+            h = helpers[t]
+            got = place_at(f, ts, skip(ts, i + 1), env, helpers)
+            if got and not (ts[got[1] : got[1] + 1] == ["."]):
+                if h.leads:
+                    out.append(root)
+                elif at is not None:
+                    h.used = True
+                    out += tokens(f"{t} (goal.at.{at} {root}).{h.place_name}")
+                elif own == h.place_name:
+                    h.used = True
+                    out += tokens(f"{t} {root}")
+                else:
+                    inner = "".join(walk(f, tokens(h.body), {h.var: h.place}, root, at, helpers, own)).strip()
+                    kind = "".join(walk(f, tokens(h.type), {h.var: h.place}, root, at, helpers, own)).strip()
+                    out += tokens(f"({inner})" if h.abbrev or not kind else f"(let {t} : {kind} = {inner} in {t})")
+                i = got[1]
+                continue
+        got = place_at(f, ts, i, env, helpers)
+        if got is None and t == "(":
+            inner = place_term(f, ts, skip(ts, i + 1), env, helpers)
+            if inner:
+                j = skip(ts, inner[1])
+                if j < len(ts) and ts[j] == ")":
+                    got = (inner[0], j + 1)
+        if got:
+            place, j = got
             chain = []
-            j = i + 1
             while j + 1 < len(ts) and ts[j] == "." and (is_id(ts[j + 1]) or ts[j + 1].isdigit()):
                 chain.append(ts[j + 1])
                 j += 2
-            out += tokens(citation(f, t, chain))
+            out += tokens(citation(f, root, place, chain)) if chain else [root]
             i = j
             continue
-        if is_id(t) and t in helpers and not helpers[t].leads and not (out and out[-1] == "."):
-            h = helpers[t]
-            j = i + 1
-            while j < len(ts) and ts[j].isspace():
-                j += 1
-            if j < len(ts) and ts[j] in roots:
-                root = ts[j]
-                if place is None:
-                    h.used = True
-                    out += [t, " "] + tokens(f"(goal.at.{at} {root}).{h.place}")
-                elif place == h.place:
-                    h.used = True
-                    out += [t, " ", root]
-                else:
-                    body = h.body if h.var == root else sub_root(h.body, h.var, root)
-                    typ = h.type if h.var == root else sub_root(h.type, h.var, root)
-                    inner = rename(f, tokens(body), [root], at, helpers, place)
-                    kind = rename(f, tokens(typ), [root], at, helpers, place)
-                    if h.abbrev or not typ:
-                        out += ["("] + inner + [")"]
-                    else:
-                        name = t.split("-")[0]
-                        out += tokens(f"(let {name} : {''.join(kind).strip()} = {''.join(inner).strip()} in {name})")
-                i = j + 1
-                continue
         out.append(t)
         i += 1
-    return out
+    text = "".join(out)
+    return tokens(re.sub(r"not-(?:true|false) _ (" + ID + r"(?:\." + ID + r")*\.(?:true|false))-raw", r"\1", text))
 
 
 def sub_root(s, var, root):
     return re.sub(r"(?<![\w'.₀-₉-])" + re.escape(var) + r"(?![\w'₀-₉-])", root, s)
 
 
-def citation(f, root, chain):
+def citation(f, root, place, chain):
     head = chain[0]
     if head in ("pre", "requires"):
         if not f.pre or len(f.pre) == 1 and f.pre == [None]:
@@ -224,7 +222,7 @@ def citation(f, root, chain):
         got, rest = select(chain[1:], f.pre)
         if len(got) == 1:
             return ".".join([root, "requires", got[0]] + rest)
-        return "(" + ", (".join(f"{root}.requires.{g}" for g in got) + ")" * len(got)[:0] if False else tuple_of([f"{root}.requires.{g}" for g in got])
+        return tuple_of([f"{root}.requires.{g}" for g in got])
     if head in ("args", "ranges", "lifetimes", "type_inv", "result"):
         return ".".join([root] + chain)
     if head == "well-formed":
@@ -232,16 +230,22 @@ def citation(f, root, chain):
     if norm(head) in f.typed and chain[1:2] == ["given"]:
         return ".".join([root, "type_inv", f.typed[norm(head)]] + chain[2:])
     for k in range(len(chain), 0, -1):
-        arm = f.arms.get((norm(chain[0]),) + tuple(chain[1:k]))
-        if arm:
-            return ".".join([root, arm[0], arm[1]] + chain[k:])
-    step = f.step(head)
+        for key, (step, field) in f.arms.get(place, []):
+            if key == (norm(chain[0]),) + tuple(chain[1:k]):
+                return ".".join([root, step, field] + chain[k:])
+    step = None
+    for w in (norm(head), norm(head).lower(), re.sub("-lem$", "", norm(head))):
+        if norm(f.own[place][0]) == w:
+            step = f.own[place][1]
+            break
+        if w in f.steps and step is None:
+            step = f.steps[w]
     if step is None:
         return ".".join([root] + chain)
     rest = [{"taken": "true", "left": "false", "inv": "invariant"}.get(c, c) if k == 0 else c for k, c in enumerate(chain[1:])]
-    if rest and (step, rest[0]) in f.facts:
-        rest[0] = f.facts[(step, rest[0])]
-    if rest and rest[0] == "ensures" and step in f.clauses and f.clauses[step]:
+    if rest and rest[0] in f.facts.get(place, {}):
+        rest[0] = f.facts[place][rest[0]]
+    if rest and rest[0] == "ensures" and f.clauses.get(step):
         got, more = select(rest[1:], f.clauses[step])
         if len(got) == 1:
             return ".".join([root, step, "ensures", got[0]] + more)
@@ -330,7 +334,11 @@ def by_clause(body, fields):
         if not parts or len(parts) < 2:
             left = left.strip()
             if k == 0 and not re.fullmatch(r"[\w.'₀-₉-]+", left):
-                return body
+                if re.match(r"can_|search |grind ", left):
+                    return body
+                left = left.replace("\n", " ")
+                n = len(fields)
+                return before + (" " if before and not before[-1].isspace() else "") + f"let both = {left} in record {{ " + "; ".join(f"{a} = both" + ".1" * j + (".0" if j < n - 1 else "") for j, a in enumerate(fields)) + " }"
             if not re.fullmatch(r"[\w.'₀-₉-]+", left):
                 before += (" " if before and not before.endswith((" ", "\n")) else "") + ""
                 left = f"({left})"
@@ -374,6 +382,10 @@ def sections(text):
 
 def convert(f, text):
     text = sections(text)
+    # a name that an earlier script respelled at its declaration alone
+    brought = re.findall(r"[a-z]\w*_\w*", " ".join(re.findall(r"(?m)^use Rattle\.[\w.]+\.\{([^}]*)\}", text)))
+    for name in set(re.findall(r"(?m)^(?:abbrev |unfoldable |pub )*([a-z]\w*_\w*) :", text)) | set(brought):
+        text = re.sub(r"(?<![\w'.₀-₉-])" + name.replace("_", "[_-]") + r"(?![\w'₀-₉-])", name, text)
     blocks = []
     header = []
     lines = text.split("\n")
@@ -440,10 +452,12 @@ def convert(f, text):
                 h.var, h.place, h.type = None, f.place(b[1]), s[b.end() :]
             else:
                 raise Failed(f"the signature of {name}: {s[:80]}")
-            if re.match(r"tie\.", h.type):
+            h.place_name = f.named(h.place)
+            to = re.match(r"tie\.(" + ID + ")", h.type)
+            if to:
                 if "→" in h.type:
                     raise Failed(f"two places in {name}")
-                h.leads = True
+                h.leads, h.to = True, f.place(to[1])
                 helpers[name] = h
                 continue
             if "tie." in h.type:
@@ -463,20 +477,12 @@ def convert(f, text):
             continue
         order.append(("plain", comment, d, name))
 
-    def turned(s, roots):
-        return "".join(drop_aliases(flatten(f, tokens(s), roots, helpers), roots))
-
-    # names of helpers as they may be spelled at uses
-    for h in list(helpers.values()):
-        if not h.leads:
-            h.body = turned(h.body, [h.var])
-            h.type = turned(h.type, [h.var])
     goals = []
     for kind, comment, it, name in order:
         if kind != "goal":
             continue
         old, unf, rest = it
-        new = f.goals.get(norm(old)) or f.goals_new.get(norm(old))
+        new = f.goals.get(norm(old)) or f.goals_new.get(norm(old)) or f.goals.get(re.sub("-lem", "", norm(old)))
         if new is None:
             print(f"  {f.path}: no goal {old}")
             continue
@@ -484,9 +490,10 @@ def convert(f, text):
         if not c:
             raise Failed(f"the clause of {name}")
         var = c[1] if c[1] != "_" else "c"
-        body = turned(rest[c.end() :], [var])
-        out = "".join(rename(f, tokens(body), [var], new, helpers, None)).rstrip()
-        out = re.sub(r"not-(?:true|false) _ (?:\((" + ID + r"(?:\." + ID + r")*\.(?:true|false))-raw\)|(" + ID + r"(?:\." + ID + r")*\.(?:true|false))-raw)", lambda m: m[1] or m[2], out)
+        try:
+            out = "".join(walk(f, tokens(rest[c.end() :]), {var: f.at[new]}, var, new, helpers, None)).rstrip()
+        except Failed as e:
+            raise Failed(f"{name}: {e}")
         asked = f.asked.get(norm(old)) or f.asked.get(norm(new))
         if asked and len(asked) > 1 and not out.strip().startswith("search rules"):
             out = by_clause(out, asked)
@@ -504,15 +511,14 @@ def convert(f, text):
             if kind == "helper" and h.used and name not in done:
                 done.add(name)
                 again = True
-                typ = "".join(rename(f, tokens(h.type), [h.var], None, helpers, h.place)).strip()
-                body = "".join(rename(f, tokens(h.body), [h.var], None, helpers, h.place)).rstrip()
-                body = re.sub(r"not-(?:true|false) _ (" + ID + r"(?:\." + ID + r")*\.(?:true|false))-raw", r"\1", body)
+                typ = "".join(walk(f, tokens(h.type), {h.var: h.place}, h.var, None, helpers, h.place_name)).strip()
+                body = "".join(walk(f, tokens(h.body), {h.var: h.place}, h.var, None, helpers, h.place_name)).rstrip()
                 h.text = (
                     "".join(c + "\n" for c in comment)
                     + ("abbrev " if h.abbrev else "")
-                    + f"{name} : ({h.var} : {h.place}) → {typ}\n{h.unf}{name} {h.var} = {body}"
+                    + f"{name} : ({h.var} : {h.place_name}) → {typ}\n{h.unf}{name} {h.var} = {body}"
                 )
-    places = sorted({h.place for h in helpers.values() if not h.leads and h.used})
+    places = sorted({h.place_name for h in helpers.values() if not h.leads and h.used})
     parts = []
     for kind, comment, it, name in order:
         if kind == "plain":

@@ -1,6 +1,7 @@
 // The test on two intervals, over the labels of a stored index (rules 2 and 4): whether x's inner interval contains t's e, or x's outer interval does not contain
 // t's, by the first labelling that decides either way.
 #![tactic(auto)]
+
 ghost use Rattle.std.specs.Prelude.{◌≡◌, ◌+◌, ◌*◌, ◌≤◌, ◌<◌, leb, length};
 ghost use Rattle.lineage.specs.Numbers.{Width, num_at};
 ghost use Rattle.stored.specs.Sections.{Labellings, labels_in};

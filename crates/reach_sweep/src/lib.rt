@@ -1,6 +1,7 @@
 // The downward sweep: through the places by rank, from a highest rank down to 1, each marked group marks its children. Children have lower ranks than
 // their group, so one pass marks all that is reached from the groups marked before. A group's mark stands at its name.
 #![tactic(auto)]
+
 ghost use Rattle.std.specs.Prelude.{[], ◌≡◌, ◌≤◌, ◌<◌, length, get_or};
 ghost use Rattle.lineage.specs.Numbers.{numbers};
 ghost use Rattle.stored.specs.Sections.{children_in};
