@@ -1,5 +1,6 @@
 // The place of a group: where its name stands in the group list, found by halves, since the list rises.
 #![tactic(auto)]
+
 ghost use Rattle.std.specs.Prelude.{true, ◌≡◌, ℕ, ◌-◌, ◌*◌, ◌≤◌, ◌<◌, length};
 ghost use Rattle.lineage.specs.Lists.{among};
 ghost use Rattle.lineage.specs.Graph.{place_of};
