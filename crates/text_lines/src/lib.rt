@@ -1,5 +1,6 @@
 // The line reader. A match on byte values and ranges says what stands at a position; numbers and lines are read by that alone.
 #![tactic(auto)]
+
 ghost use Rattle.std.specs.Prelude.{◌≡◌, true, ◌∷◌, [], ◌+◌, ◌*◌, ◌^◌, ◌≤◌, length, drop};
 ghost use Rattle.text_lines.specs.Lines.{most_digits};
 ghost use Rattle.text_lines.specs.Reader.{is_letter, byte_in, digits_in, number_in, line_in, Into};
