@@ -1,6 +1,7 @@
 // The tests of names, group list, child starts, children and levels: with those of the labels they decide whether contents are sound. Each goes once over the
 // vertices, the groups or the child entries.
 #![tactic(auto)]
+
 ghost use Rattle.std.specs.Prelude.{◌&&◌, ◌≡◌, ◌+◌, ◌<◌};
 ghost use Rattle.lineage.specs.Lists.{all_below};
 ghost use Rattle.lineage.specs.Numbers.{numbers};
