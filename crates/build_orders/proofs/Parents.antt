@@ -1,6 +1,6 @@
 -- Where row q holds the places that have q among their children, an empty row says that q is nobody's child.
 use mathlib.Core.Bool.{Bool, true, false}
-use mathlib.Core.Path.{◌≡◌, refl, sym, ◌∙◌}
+use mathlib.Core.Path.{◌≡◌, refl, sym, subst, ◌∙◌}
 use mathlib.Core.List.{List, [], ◌∷◌}
 use Prim.Native.Nat.{ℕ, suc, ◌+◌, ◌-◌, ◌<◌}
 use native.Mathlib.Omega.{arith}
@@ -12,7 +12,7 @@ use Rattle.lineage.specs.Stored.{row_at}
 use Rattle.lineage.specs.Sound.{child_of}
 use Rattle.laws.proofs.Tests.{clash}
 use Rattle.laws.proofs.Joined.{in_joined, joined_in}
-use Rattle.laws.proofs.Lists.{here, here_at, position_low, those_same}
+use Rattle.laws.proofs.Lists.{here, position_low, those_same}
 use Rattle.laws.proofs.Parts.{part_length}
 use Rattle.laws.proofs.Laid.{start_low, row_below, below_in}
 use Rattle.build_rows.specs.Rows.{RowsOnce}
@@ -39,7 +39,7 @@ module _
         at : (xs : List ℕ) → row_at starts values q ≡ xs → length xs ≡ 0
         at [] z = refl
         at (p ∷ xs) z =
-            let i : among p (row_at starts values q) ≡ true = here_at _ p xs z in
+            let i : among p (row_at starts values q) ≡ true = subst (λ (ys : List ℕ). among p ys ≡ true) (sym z) (here p xs) in
             let l : p < k = below_in k (row_at starts values q) (row_below R.laid k R.low q h) p i in
             clash (in_joined children p q (sym (R.holds q p h l) ∙ i)) e
 

@@ -1,5 +1,6 @@
 // What build looks at in its input: edge ends, orders as permutations; and an order as places, with the groups to start from.
 #![tactic(auto)]
+
 ghost use Rattle.std.specs.Prelude.{◌≡◌, ◌+◌, ◌*◌, ◌^◌, ◌≤◌, ◌<◌, length};
 ghost use Rattle.lineage.specs.Lists.{upto, any, those, first_of, part};
 ghost use Rattle.lineage.specs.Graph.{group_list};
