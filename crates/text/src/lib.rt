@@ -1,5 +1,6 @@
 // What a text says: lines of one letter, then of the next.
 #![tactic(auto)]
+
 ghost use Rattle.std.specs.Prelude.{◌≡◌, true, ◌*◌, ◌≤◌, ◌<◌, length, take};
 ghost use Rattle.text_lines.specs.Reader.{is_letter};
 ghost use Rattle.text.specs.Text.{most_bytes, of_pairs};
