@@ -1,6 +1,7 @@
 // The tests of s, m and e of a labelling, rank by rank: each is the rank of its place, whose m is a rank not above e; and group by group: e falls along its children, s is
 // the least below.
 #![tactic(auto)]
+
 ghost use Rattle.std.specs.Prelude.{◌≡◌, ◌+◌, ◌-◌, ◌*◌, ◌^◌, ◌<◌};
 ghost use Rattle.lineage.specs.Lists.{all_below};
 ghost use Rattle.lineage.specs.Numbers.{num_at};
