@@ -1,6 +1,7 @@
 // The tests of a labelling's intervals in one pass over the groups, and of its roots. The inner interval of each group is its own rank and, side by side, those of children
 // of its own, and all ranks are those of roots. The walks over the blocks of all groups pass each place at most once, and look a child up in its parent's row by halves.
 #![tactic(auto)]
+
 ghost use Rattle.std.specs.Prelude.{◌≡◌, ◌≤◌, ◌<◌, length};
 ghost use Rattle.lineage.specs.Lists.{all_below};
 ghost use Rattle.lineage.specs.Sound.{child_of, walk_ends, block_passes};
