@@ -61,8 +61,8 @@ module _ {w k d t : ℕ} {groups levels starts children labels : List ℕ} {mark
           → get_or (get_or (children_in w starts children k (count w children)) p []) i 0 < k
       at i l =
           let j : i < num_at w starts (p + 1) - num_at w starts p =
-          omega (arith, row_long w starts children k (count w children) p h (F.start_rises p h) (F.End-low p h)) in
-          rw (row_at_lem w starts children k (count w children) p h (F.start_rises p h) (F.End-low p h) i j)
+          omega (arith, row_long w starts children k (count w children) p h (F.start_rises p h) (F.end_low p h)) in
+          rw (row_at_lem w starts children k (count w children) p h (F.start_rises p h) (F.end_low p h) i j)
           (F.child_low p (num_at w starts p + i) h (omega arith) (omega arith))
 
   pub net_within : Within N k marks

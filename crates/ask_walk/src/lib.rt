@@ -2,6 +2,7 @@
 // as they are lent; a group's mark stands at its name. A group is opened where its mark is this walk's stamp, so a later walk with a higher stamp needs no
 // cleared marks.
 #![tactic(auto)]
+
 ghost use Rattle.std.specs.Prelude.{◌≡◌, ◌+◌, ◌*◌, ◌≤◌, ◌<◌, length};
 ghost use Rattle.lineage.specs.Numbers.{Width, num_at};
 ghost use Rattle.lineage.specs.Walk.{walked, open_at, try_at};
