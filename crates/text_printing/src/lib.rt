@@ -1,5 +1,6 @@
 // The printer: bytes, words and decimals, put into a lent buffer at a position. Each call gives back the position behind what it put.
 #![tactic(auto)]
+
 ghost use Rattle.std.specs.Prelude.{◌∷◌, [], ◌≡◌, ◌+◌, ◌%◌, ◌≤◌, ◌<◌, length};
 ghost use Rattle.text_lines.specs.Lines.{decimal};
 ghost use Rattle.text.specs.Output.{two_numbers, three_numbers, question, refusal, said};
