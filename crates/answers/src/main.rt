@@ -1,14 +1,32 @@
 // The text program: standard input is read to its end, and what the run prints is written to standard output.
 #![tactic(auto)]
-use libc::{STDIN_FILENO, STDOUT_FILENO};
+ghost use Rattle.std.specs.Prelude.{◌≤◌, length, IfOk};
+
+use std::io;
+use std::io::{Read, Write};
 use text::MOST_BYTES;
 use text_run::MOST_OUTPUT;
 
+// Fills a buffer from a reader, up to the end of either.
+fn read_full<R: Read + Drop>(from: &mut R, text: &mut [u8]) -> io::Result<usize>
+    ensures { IfOk result (λ n. n ≤ length text.old) }
+{
+    let mut n: usize = 0;
+    for _ in 0..u64::MAX {
+        let got = from.read(&mut text[n..])?;
+        if got == 0 {
+            break;
+        }
+        n += got;
+    }
+    Ok(n)
+}
+
 // One byte past the bound is read, which tells too many bytes; what stands behind it changes nothing.
-fn main() {
+fn main(rt: HostRuntime) -> io::Result<()> {
     let mut text = [0u8; MOST_BYTES + 1];
-    let n = io::read_full(STDIN_FILENO, &mut text);
+    let n = read_full(&mut rt.stdin(), &mut text)?;
     let mut out = [0u8; MOST_OUTPUT];
     let r = text_run::run(&text[..n], &mut out);
-    io::write_all(STDOUT_FILENO, &out[..r]);
+    io::writer(&rt).write_all(&out[..r])
 }
