@@ -1,6 +1,7 @@
 // Who is somebody's child, told by marks; and where no group may be a child of two others, whether one is. A group stands once in a row, so it has as many parents as child
 // entries.
 #![tactic(auto)]
+
 ghost use Rattle.std.specs.Prelude.{not, ◌||◌, ◌≡◌, ◌≤◌, eqb, length};
 ghost use Rattle.lineage.specs.Lists.{upto, any, first_of, cleared};
 ghost use Rattle.lineage.specs.Numbers.{numbers};
