@@ -1,5 +1,6 @@
 // Rows stripped: each row without its own number and without repeats.
 #![tactic(auto)]
+
 ghost use Rattle.std.specs.Prelude.{◌≡◌, [], ◌∷◌, ◌++◌, ℕ, ◌+◌, ◌-◌, ◌≤◌, ◌<◌, get_or};
 ghost use Rattle.lineage.specs.Lists.{part};
 ghost use Rattle.numbers.specs.Regions.{Kept};
