@@ -1,5 +1,5 @@
 -- The first byte of a line says what the line is: a comment begins with `%` and nothing else does, and a row of numbers begins with a digit.
-use mathlib.Core.Bool.{Bool, true, false, ◌&&◌, and-false}
+use mathlib.Core.Bool.{Bool, true, false, and-false}
 use mathlib.Core.List.{List, [], ◌∷◌}
 use mathlib.Core.Path.{◌≡◌, refl, sym, ap, ap₂, ◌∙◌, subst}
 use Prim.Native.Nat.{ℕ, suc, ◌≤◌, ◌<◌}

@@ -14,7 +14,7 @@ use Rattle.lineage.specs.Lists.{Every}
 use Rattle.lineage.specs.Graph.{Graph}
 use Rattle.laws.proofs.Tests.{clash}
 use Rattle.text_lines.specs.Lines.{lf, first_piece, other_pieces, pieces}
-use Rattle.matrix_lines.specs.Matrix.{Raw, header, is_header, is_comment, number, is_size, is_entry, Run, stop, with_line, go_on, run, is_done, ends, MatrixReading, says, bad_line, judged, matrix_reading}
+use Rattle.matrix_lines.specs.Matrix.{Raw, header, is_header, is_comment, number, is_size, is_entry, Run, go_on, run, is_done, ends, bad_line, judged, matrix_reading}
 use Rattle.matrix_lines.specs.Grammar.{Front, none, headed as headedFront, sized as sizedFront, FirstBad}
 use Rattle.matrix_lines.proofs.Runs.{line_passes, pass_then, pass_least, more_behind, run_few}
 use Rattle.matrix_lines.proofs.Round.{row_no_comment, one_taken}

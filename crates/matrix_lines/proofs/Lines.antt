@@ -8,7 +8,7 @@ use native.Mathlib.Omega.{arith}
 use lib.Dec.{eqb, eqb-suc-suc}
 use lib.ListN.{length, get_or, take, drop, set, drop_of_length-le, length-drop}
 use lib.Seq.{drop-cons, drop-drop}
-use borrow.Author.Tests.{eqb-true, eq-eqb, ne_eqb}
+use borrow.Author.Tests.{eq-eqb, ne_eqb}
 use Rattle.lineage.specs.Lists.{same_list, all_of}
 use types.Run.{OneOf, miss}
 use Rattle.laws.proofs.Tests.{clash, or_false_right}
@@ -17,10 +17,10 @@ use Rattle.text_lines.specs.declared.Byte.{Byte}
 use Rattle.text_lines.specs.declared.Line.{Line as LineRead}
 use Rattle.text_lines.specs.declared.Number.TheVariants.{Good as GoodNumber, Bad as BadNumber}
 use Rattle.text_lines.specs.Lines.{lf, space, keep, first_piece, begin, other_pieces, pieces, is_decimal, value, Line, line_is}
-use Rattle.text_lines.specs.Reader.{Found, found, none, after, is_more, is_break, word, is_ended, number_by, number_in, found_if, found_by, words_in, line_in}
+use Rattle.text_lines.specs.Reader.{Found, found, none, after, is_more, is_break, word, is_ended, number_by, number_in, found_if, found_by, line_in}
 use Rattle.text_lines.proofs.Bytes.{tag, letter_goes, digit_goes, Sees, letter, digit, blank, newline, other, nothing}
 use Rattle.text_lines.proofs.Words.{word_first, word_passed, no_break, after_after, Read, number_read}
-use Rattle.matrix_lines.specs.Matrix.{Raw, header, is_header, is_comment, most_digits, is_row, Run, stop, with_line, run}
+use Rattle.matrix_lines.specs.Matrix.{header, is_comment, most_digits, is_row, Run, stop, with_line}
 use Rattle.matrix_lines.specs.Reader.{starts_with, header_in, all_run, RunInto, found_row, row_in}
 use Rattle.matrix_lines.proofs.Pieces.{Lacks, lacks_first, lacks_more}
 use Rattle.matrix_lines.proofs.Runs.{run_on, run_stops}

@@ -1,14 +1,13 @@
 -- Pieces put together with separators are cut apart again: the words of a row, and the lines of a text.
 use mathlib.Core.Bool.{Bool, true, false, not}
 use mathlib.Core.List.{List, [], ◌∷◌, ◌++◌, map}
-use mathlib.Core.Path.{◌≡◌, refl, sym, ap, ap₂, ◌∙◌}
-use Prim.Native.Nat.{ℕ, zero, suc, ◌+◌, ◌≤◌, ◌<◌}
+use mathlib.Core.Path.{◌≡◌, refl, ap, ap₂, ◌∙◌}
+use Prim.Native.Nat.{ℕ, ◌≤◌, ◌<◌}
 use native.Mathlib.Omega.{arith}
 use lib.Dec.{eqb, leb}
-use lib.ListN.{length}
 use borrow.Author.Tests.{eq-eqb, ne_eqb, leb-true, not-true}
 use Rattle.lineage.specs.Lists.{all_of, Every}
-use Rattle.laws.proofs.Tests.{and_both, both}
+use Rattle.laws.proofs.Tests.{both}
 use Rattle.text_lines.specs.Lines.{space, lf, is_digit, first_piece, other_pieces, pieces, decimal}
 use Rattle.matrix_lines.specs.Matrix.{Raw, ended, row}
 use Rattle.text_lines.proofs.Digits.{all_append, decimal_digits}

@@ -1,22 +1,22 @@
 -- What an accepted write call wrote, the read call takes, and it gives the same n and edge list, whatever the lent lists held.
-use mathlib.Core.Bool.{Bool, true, false, not, ◌||◌}
-use mathlib.Core.List.{List, [], ◌∷◌, ◌++◌}
-use mathlib.Core.Path.{◌≡◌, refl, sym, ap, ◌∙◌}
-use Prim.Native.Nat.{ℕ, ◌+◌, ◌≤◌, ◌<◌}
+use mathlib.Core.Bool.{Bool, false, not, ◌||◌}
+use mathlib.Core.List.{List, ◌++◌}
+use mathlib.Core.Path.{◌≡◌, refl, ap, ◌∙◌}
+use Prim.Native.Nat.{ℕ, ◌≤◌, ◌<◌}
 use native.Mathlib.Omega.{arith}
 use lib.Dec.{eqb, leb, ltb}
 use lib.ListN.{length, get_or, take, drop}
 use lib.Seq.{take_at}
 use borrow.Author.Tests.{ltb-false, leb-false, eqb-true, le-ltb, not-false}
-use Rattle.lineage.specs.Lists.{upto, any, first_of, Every}
+use Rattle.lineage.specs.Lists.{upto, any}
 use Rattle.lineage.specs.Graph.{Graph}
 use Rattle.lineage.specs.Stored.{Form}
-use Rattle.lineage.specs.Calls.{Check, Outcome, answered, any_applies, bad_edge}
+use Rattle.lineage.specs.Calls.{answered, any_applies, bad_edge}
 use Rattle.laws.proofs.Tests.{or_false_left, or_false_right}
 use Rattle.laws.proofs.Lists.{any_none, in_upto}
 use Rattle.laws.proofs.Every.{every_get_d}
-use Rattle.matrix_lines.specs.Matrix.{MatrixReading, says, matrix_reading, matrix_text}
-use Rattle.matrix_lines.specs.Calls.{MatrixSize, read_checks, read_into, matrix_read_answer, matrix_read_sources, matrix_read_targets, write_checks, matrix_write_output}
+use Rattle.matrix_lines.specs.Matrix.{says, matrix_reading, matrix_text}
+use Rattle.matrix_lines.specs.Calls.{read_checks, matrix_read_answer, matrix_read_sources, matrix_read_targets, write_checks, matrix_write_output}
 use Rattle.matrix_lines.specs.Grammar.{most_written, Writable}
 use Rattle.matrix_lines.proofs.Round.{matrix_round}
 

@@ -1,8 +1,8 @@
 -- Reading a text of the subset gives its n and edge list; so what was written is read back.
 use mathlib.Core.Bool.{Bool, true, false, ◌&&◌}
-use mathlib.Core.List.{List, [], ◌∷◌, ◌++◌, map, append_assoc}
+use mathlib.Core.List.{List, [], ◌∷◌, ◌++◌, append_assoc}
 use mathlib.Core.Path.{◌≡◌, refl, sym, ap, ap₂, ◌∙◌}
-use Prim.Native.Nat.{ℕ, zero, suc, ◌+◌, ◌-◌, ◌≤◌, ◌<◌}
+use Prim.Native.Nat.{ℕ, suc, ◌-◌, ◌≤◌, ◌<◌}
 use native.Mathlib.Omega.{arith}
 use lib.Dec.{eqb, leb}
 use lib.ListN.{length, get_or, length-append}
@@ -11,9 +11,8 @@ use Rattle.lineage.specs.Lists.{all_of, Every}
 use Rattle.lineage.specs.Graph.{Graph}
 use Rattle.laws.proofs.Tests.{both}
 use Rattle.laws.proofs.Every.{every_from, every_append}
-use Rattle.text_lines.specs.Lines.{lf, space, is_digit, first_piece, other_pieces, pieces, is_decimal, value, decimal}
-use Rattle.text_lines.specs.Reader.{is_more}
-use Rattle.matrix_lines.specs.Matrix.{Raw, header, is_header, is_comment, number, most_digits, is_row, is_size, is_vertex, is_entry, Run, stop, with_line, run, ends, says, saying, matrix_reading, ended, row, entry_rows, matrix_text}
+use Rattle.text_lines.specs.Lines.{lf, space, is_digit, pieces, is_decimal, value, decimal}
+use Rattle.matrix_lines.specs.Matrix.{Raw, header, is_header, is_comment, number, most_digits, is_row, is_size, is_vertex, is_entry, Run, with_line, run, ends, says, saying, matrix_reading, row, entry_rows, matrix_text}
 use Rattle.matrix_lines.specs.Grammar.{most_written, Writable, Comment, commented}
 use Rattle.text_lines.proofs.Digits.{decimal_digits, decimal_some, decimal_is, decimal_value}
 use Rattle.matrix_lines.proofs.Pieces.{Lacks, row_pieces, row_lacks, ended_pieces}

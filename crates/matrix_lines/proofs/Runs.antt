@@ -2,17 +2,17 @@
 use mathlib.Core.Bool.{Bool, true, false, false≢true, ◌&&◌, and-false}
 use mathlib.Core.List.{List, [], ◌∷◌, ◌++◌}
 use mathlib.Core.Path.{◌≡◌, refl, sym, ap, ◌∙◌}
-use Prim.Native.Nat.{ℕ, zero, suc, ◌+◌, ◌≤◌, ◌<◌}
+use Prim.Native.Nat.{ℕ, zero, suc, ◌≤◌, ◌<◌}
 use native.Mathlib.Omega.{arith}
 use lib.Dec.{eqb, eqb-suc-zero}
-use lib.ListN.{length, get_or, drop, drop_of_length-le, length-append}
+use lib.ListN.{length, get_or, drop, drop_of_length-le}
 use lib.Seq.{drop-cons}
 use borrow.Author.Tests.{ne_eqb}
 use Rattle.lineage.specs.Lists.{joined, Every}
 use Rattle.text_lines.specs.Lines.{lf, keep, first_piece, begin, other_pieces, pieces}
 use Rattle.text_lines.specs.Reader.{is_more}
 use Rattle.text_lines.proofs.Words.{line_behind}
-use Rattle.matrix_lines.specs.Matrix.{Raw, Run, stop, with_line, go_on, run, is_done, is_header, is_comment, is_size, is_entry, size_at, MatrixReading, saying, matrix_reading}
+use Rattle.matrix_lines.specs.Matrix.{Raw, Run, stop, with_line, go_on, run, is_done, is_header, is_comment, is_size, is_entry, size_at, saying, matrix_reading}
 
 -- a line stands behind these
 pub more_behind : (ls : List Raw) (last : Raw) (rest : List Raw) → is_more (ls ++ (last ∷ rest)) ≡ true

@@ -1,7 +1,7 @@
 -- What a text says is what stands in it: a text that says an edge list is the header, comments, the size line and the entries of this edge list, every number as its decimal.
 -- The four runs cut the text's lines into these, with nothing left; each line that passes its test is the row of its own numbers; and lines put together again are the text.
 use mathlib.Core.Bool.{Bool, true, false, true≢false, ◌&&◌}
-use mathlib.Core.List.{List, [], ◌∷◌, ◌++◌, map, append_assoc, append-nil}
+use mathlib.Core.List.{List, [], ◌∷◌, ◌++◌, append_assoc, append-nil}
 use mathlib.Core.Path.{◌≡◌, refl, sym, ap, ap₂, ◌∙◌, subst}
 use Prim.Native.Nat.{ℕ, zero, suc, ◌+◌, ◌-◌, ◌≤◌, ◌<◌}
 use native.Mathlib.Omega.{arith}
@@ -12,9 +12,9 @@ use Rattle.lineage.specs.Lists.{joined, all_of, Every}
 use Rattle.lineage.specs.Graph.{Graph}
 use Rattle.laws.proofs.Tests.{both}
 use Rattle.laws.proofs.Lists.{same_list_lem}
-use Rattle.text_lines.specs.Lines.{lf, space, first_piece, other_pieces, pieces, is_decimal}
-use Rattle.matrix_lines.specs.Matrix.{Raw, header, is_header, is_comment, number, most_digits, is_row, is_size, is_vertex, is_entry, Run, stop, with_line, go_on, run, is_done, size_at, ends, MatrixReading, says, bad_line, judged, matrix_reading, ended, row, entry_rows}
-use Rattle.matrix_lines.specs.Grammar.{most_written, Writable, Comment, commented, Holds}
+use Rattle.text_lines.specs.Lines.{lf, space, pieces, is_decimal}
+use Rattle.matrix_lines.specs.Matrix.{Raw, header, is_header, is_comment, number, most_digits, is_row, is_size, is_vertex, is_entry, Run, go_on, run, is_done, ends, says, judged, matrix_reading, ended, row, entry_rows}
+use Rattle.matrix_lines.specs.Grammar.{most_written, Comment, commented, Holds}
 use Rattle.matrix_lines.proofs.Pieces.{Lacks}
 use Rattle.matrix_lines.proofs.Canonical.{decimal_low}
 use Rattle.matrix_lines.proofs.Joined.{between, pieces_back, pieces_lack, ended_between, row_two, row_three}

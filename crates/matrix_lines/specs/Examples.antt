@@ -4,7 +4,7 @@ use Prim.Native.String.{String}
 use Rattle.lineage.specs.Lists.{Every}
 use Rattle.lineage.specs.Graph.{Graph}
 use Rattle.lineage.specs.Stored.{Form, form1}
-use Rattle.lineage.specs.Calls.{Outcome, refused, answered}
+use Rattle.lineage.specs.Calls.{refused, answered}
 use Rattle.text_lines.specs.Lines.{bytes, decimal_by}
 use Rattle.matrix_lines.specs.Matrix.{header, says, bad_line, matrix_reading, matrix_text}
 use Rattle.matrix_lines.specs.Calls.{MatrixSize, matrix_read_answer, matrix_read_sources, matrix_read_targets, matrix_write_answer, matrix_write_output}

@@ -3,7 +3,7 @@
 use Rattle.std.specs.Prelude.{true, not, List, [], ◌∷◌, ◌++◌, ◌≡◌, ℕ, suc, ◌≤◌, ◌<◌, eqb, length, take}
 use Rattle.lineage.specs.Lists.{all_of, Every}
 use Rattle.lineage.specs.Graph.{Graph}
-use Rattle.text_lines.specs.Lines.{lf, first_piece, other_pieces, pieces}
+use Rattle.text_lines.specs.Lines.{lf, pieces}
 use Rattle.matrix_lines.specs.Matrix.{Raw, header, is_comment, number, is_size, is_entry, ended, row, entry_rows}
 
 -- the greatest number of seven digits

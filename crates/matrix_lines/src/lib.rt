@@ -1,6 +1,7 @@
 // The lines of a Matrix Market text: its header, the comments behind it, and rows of numbers. A match on its first byte says what a line is; the text program's
 // reader, whose match says what stands at any other position, reads the rows.
 #![tactic(auto)]
+
 ghost use Rattle.std.specs.Prelude.{◌≡◌, ◌+◌, ◌≤◌, length, drop};
 ghost use Rattle.text_lines.specs.Lines.{lf, first_piece};
 ghost use Rattle.text_lines.specs.Reader.{Into};

@@ -1,0 +1,7 @@
+-- `matrix_lines::header_stands` meets its contract: the header and the LF behind it stand first.
+use mathlib.Core.Path.{◌∙◌}
+use Rattle.matrix_lines.proofs.Lines.{header_starts}
+use Rattle.matrix_lines.proofs.header_stands.Goals as goal
+
+pub returns : goal.returns
+returns c = c.begins.ensures ∙ header_starts _
