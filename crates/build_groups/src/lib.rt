@@ -1,5 +1,6 @@
 // From the names that were found to names, group list and places side by side.
 #![tactic(auto)]
+
 ghost use Rattle.std.specs.Prelude.{◌≡◌, ◌+◌, ◌*◌, ◌≤◌};
 ghost use Rattle.lineage.specs.Lists.{part};
 ghost use Rattle.lineage.specs.Graph.{group_list};
