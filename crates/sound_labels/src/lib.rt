@@ -1,6 +1,7 @@
 // The tests of labellings: with those of the groups they decide whether contents are sound. Each labelling is tested by its ranks, its intervals and its roots, while
 // marks tell who is somebody's child; and a plain hierarchy by who has two parents.
 #![tactic(auto)]
+
 ghost use Rattle.std.specs.Prelude.{not, ◌&&◌, ◌||◌, ◌≡◌, ◌≤◌, ◌<◌, eqb, length};
 ghost use Rattle.lineage.specs.Lists.{all_of, cleared};
 ghost use Rattle.lineage.specs.Sound.{is_tree, labels_pass};
