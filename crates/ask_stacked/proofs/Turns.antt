@@ -132,7 +132,8 @@ module _ {w k d t : ℕ} {groups levels starts children labels : List ℕ} {n L 
     opens =
         let one : L - depth ≡ suc (L - (depth + 1)) = omega (arith, low.1) in
         let marks : set m (N.spot h) 1 ≡ m' = rw (← net_spot C.fit h turn_low) (sym E.marked) in
-        let stack : rest cs behind ∷ frames cs work depth ≡ frames cs work' (depth + 1) = rw (add-one depth, noted) (sym (frames_more work depth behind turn_room cs)) in
+        let stack : rest cs behind ∷ frames cs work depth ≡ frames cs work' (depth + 1) =
+        sym (frames_more work depth behind turn_room cs) ∙ λ i. frames cs (sym noted i) (sym (add-one depth) i) in
         (λ i. try_rows N (one i) (ahead i) (frames cs work depth) m)
         ∙ rows_open N h (rest cs behind) m missed (L - (depth + 1)) passes (frames cs work depth)
         ∙ λ i. added 1 (try_rows N (L - (depth + 1)) (sym (row_children C.fit turn_low E) i) (stack i) (marks i))

@@ -1,6 +1,7 @@
 // The walk as one loop, with its stack in lent words: two words a frame, where a row goes on and where it ends. It is the walk of the two functions that call each
 // other (`ask_walk`), and needs no call stack however deep it goes.
 #![tactic(auto)]
+
 ghost use Rattle.std.specs.Prelude.{◌≡◌, ◌+◌, ◌*◌, ◌^◌, ◌≤◌, ◌<◌, length, get_or, set};
 ghost use Rattle.lineage.specs.Numbers.{Width, num_at};
 ghost use Rattle.lineage.specs.Walk.{walked, open_at};
