@@ -1,5 +1,6 @@
 // Opening a stored index: it opens exactly when some edge list and some orders made its bytes.
 #![tactic(auto)]
+
 ghost use Rattle.std.specs.Prelude.{◌≡◌, ◌≤◌, length};
 ghost use Rattle.lineage.specs.Lists.{cleared};
 ghost use Rattle.lineage.specs.Stored.{header_at, form_of};
