@@ -1,6 +1,7 @@
 // The climb: through the places by rank, from the lowest rank up, a group with a marked child is marked. Children have lower ranks than their group, so
 // one pass marks all groups that reach one marked before. A group's mark stands at its name.
 #![tactic(auto)]
+
 ghost use Rattle.std.specs.Prelude.{[], ◌≡◌, ◌<◌, length, get_or};
 ghost use Rattle.lineage.specs.Lists.{first_of};
 ghost use Rattle.lineage.specs.Numbers.{numbers};
