@@ -1,20 +1,19 @@
 -- The read call, case by case.
-use mathlib.Core.Bool.{Bool, true, false, ◌||◌, or-true}
-use mathlib.Core.List.{List, [], ◌∷◌, ◌++◌, map}
-use mathlib.Core.Path.{◌≡◌, refl, sym, ap, ◌∙◌, subst}
-use Prim.Native.Nat.{ℕ, ◌+◌, ◌-◌, ◌≤◌, ◌<◌}
+use mathlib.Core.Bool.{true, false, or-true}
+use mathlib.Core.List.{List, ◌++◌}
+use mathlib.Core.Path.{◌≡◌, ◌∙◌, subst}
+use Prim.Native.Nat.{ℕ, ◌-◌, ◌≤◌, ◌<◌}
 use native.Mathlib.Omega.{arith}
 use lib.Dec.{ltb}
 use lib.ListN.{length, drop, length-map}
 use borrow.Author.Tests.{lt-ltb, le-ltb}
 use Rattle.lineage.specs.Stored.{form2}
-use Rattle.matrix_lines.specs.Matrix.{Raw, number, ends, says, bad_line, matrix_reading}
+use Rattle.matrix_lines.specs.Matrix.{Raw, number, ends, bad_line, matrix_reading}
 use Rattle.matrix_lines.specs.Calls.{matrix_read_answer, matrix_read_sources, matrix_read_targets}
-use Rattle.matrix_read.specs.declared.MatrixRead.{MatrixRead}
 use Rattle.matrix_read.specs.declared.MatrixRead.TheVariants.{Says, Refused}
 use Rattle.matrix_read.specs.Over.{entries_from, Stands, Surveyed}
 use Rattle.matrix_read.specs.declared.Survey.{Survey}
-use Rattle.matrix_read.specs.Answer.{read_of, Answered}
+use Rattle.matrix_read.specs.Answer.{Answered}
 
 pub bad_text_lem : (text S T : List ℕ) (line : ℕ) → matrix_reading text ≡ bad_line line → Answered text S T (Refused 18 line) S T
 unfolding matrix_read_answer matrix_read_sources matrix_read_targets

@@ -1,8 +1,8 @@
 -- A row that was read says what its line is; entries passed one by one are the run of them.
 use mathlib.Core.Bool.{Bool, true, false, true≢false, ◌&&◌, and-false}
-use mathlib.Core.List.{List, [], ◌∷◌, ◌++◌, map}
+use mathlib.Core.List.{List, [], ◌∷◌, map}
 use mathlib.Core.Path.{◌≡◌, refl, sym, ap, ◌∙◌, subst}
-use Prim.Native.Nat.{ℕ, zero, suc, ◌+◌, ◌-◌, ◌≤◌, ◌<◌}
+use Prim.Native.Nat.{ℕ, suc, ◌+◌, ◌-◌, ◌≤◌, ◌<◌}
 use native.Mathlib.Nat.{sub-zero, zero-add}
 use native.Mathlib.Omega.{arith}
 use lib.Dec.{eqb, leb}
@@ -23,7 +23,6 @@ use Rattle.matrix_lines.specs.Reader.{kind_in, found_row, row_in, RunInto}
 use Rattle.matrix_lines.proofs.Firsts.{tag, row_not}
 use Rattle.matrix_lines.proofs.Lines.{ended_long}
 use Rattle.matrix_lines.proofs.Runs.{run_more, run_stops}
-use Rattle.matrix_read.specs.declared.Entry.{Entry}
 use Rattle.matrix_read.specs.declared.Entry.TheVariants.{Good as GoodEntry, Bad as BadEntry}
 use Rattle.matrix_read.specs.declared.Size.TheVariants.{Good as GoodSize, Bad as BadSize}
 use Rattle.matrix_read.specs.Over.{entries_from}

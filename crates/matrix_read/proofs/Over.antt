@@ -1,19 +1,18 @@
 -- The four kinds of lines, one after the other, and what they come to.
 use mathlib.Core.Bool.{Bool, true, false, true≢false, ◌&&◌, and-false}
-use mathlib.Core.List.{List, [], ◌∷◌, ◌++◌, map}
+use mathlib.Core.List.{List, [], ◌∷◌}
 use mathlib.Core.Path.{◌≡◌, refl, sym, ap, ◌∙◌, subst}
-use Prim.Native.Nat.{ℕ, zero, suc, ◌+◌, ◌-◌, ◌≤◌, ◌<◌}
+use Prim.Native.Nat.{ℕ, suc, ◌+◌, ◌≤◌, ◌<◌}
 use native.Mathlib.Omega.{arith}
 use lib.Dec.{eqb}
-use lib.ListN.{length, get_or, take, drop, length-drop}
+use lib.ListN.{length, drop, length-drop}
 use lib.Seq.{drop-drop}
-use borrow.Author.Tests.{eqb-true, eq-eqb, ne_eqb}
-use Rattle.lineage.specs.Lists.{same_list}
+use borrow.Author.Tests.{eq-eqb, ne_eqb}
 use Rattle.laws.proofs.Tests.{both}
 use Rattle.laws.proofs.Lists.{same_list_lem}
-use Rattle.text_lines.specs.Lines.{lf, space, first_piece, other_pieces, pieces, value}
+use Rattle.text_lines.specs.Lines.{lf, first_piece, other_pieces, pieces}
 use Rattle.text_lines.specs.Reader.{is_more}
-use Rattle.matrix_lines.specs.Matrix.{Raw, header, is_header, is_comment, number, is_size, is_entry, Run, stop, with_line, run, is_done, size_at, ends, MatrixReading, says, bad_line, judged, saying, matrix_reading}
+use Rattle.matrix_lines.specs.Matrix.{Raw, header, is_header, is_comment, number, is_size, is_entry, Run, stop, with_line, run, is_done, size_at, bad_line, saying, matrix_reading}
 use Rattle.matrix_lines.specs.Reader.{header_in, all_run, RunInto}
 use Rattle.matrix_lines.proofs.Lines.{ended_long}
 use Rattle.matrix_lines.proofs.Runs.{run_more, run_stops, run_end, run_left, run_few, reading_is}

@@ -1,14 +1,13 @@
 -- Entries stored one by one: what stands in a list, then the ends still to be stored, are the ends of all.
-use mathlib.Core.Bool.{true≢false, true, false}
-use mathlib.Core.List.{List, [], ◌∷◌, ◌++◌, map, append_assoc, append-nil}
+use mathlib.Core.List.{List, [], ◌∷◌, ◌++◌, append_assoc, append-nil}
 use mathlib.Core.Path.{◌≡◌, refl, sym, ap, ◌∙◌}
-use Prim.Native.Nat.{ℕ, zero, suc, ◌+◌, ◌-◌, ◌≤◌, ◌<◌}
+use Prim.Native.Nat.{ℕ, suc, ◌+◌, ◌-◌, ◌≤◌, ◌<◌}
 use native.Mathlib.Nat.{sub-zero}
 use native.Mathlib.Numerals.{add-one}
 use native.Mathlib.Omega.{arith}
 use lib.ListN.{length, take, drop, set, length-set, take-append-drop}
 use lib.Seq.{drop-drop, drop-set-lt, take-suc-set}
-use Rattle.text_lines.specs.Lines.{lf, first_piece, other_pieces, pieces}
+use Rattle.text_lines.specs.Lines.{lf, first_piece, pieces}
 use Rattle.matrix_lines.specs.Matrix.{Raw, number, is_entry, Run, stop, with_line, run, ends}
 use Rattle.matrix_lines.proofs.Runs.{run_more, run_stops}
 use Rattle.matrix_read.specs.declared.Entry.TheVariants.{Good as GoodEntry, Bad as BadEntry}

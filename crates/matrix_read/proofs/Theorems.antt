@@ -1,17 +1,16 @@
 -- What the read call says of a text. It answers exactly for the texts of the subset whose edge list has room and is within form 2's bounds: it then tells n and the number of
 -- entries of the one edge list that the text holds, which stands in the lists in its order, repeated entries too; behind it they are as they were. Every refusal leaves both
 -- lists as they were, and 18 tells the first bad line. Two results that the contract allows are equal.
-use mathlib.Core.Bool.{Bool, true, false, true≢false, ◌||◌}
-use mathlib.Core.List.{List, [], ◌∷◌, ◌++◌}
+use mathlib.Core.Bool.{Bool, true, false, true≢false}
+use mathlib.Core.List.{List, [], ◌++◌}
 use mathlib.Core.Path.{◌≡◌, refl, sym, ap, ap₂, ◌∙◌}
 use Prim.Native.Nat.{ℕ, ◌≤◌}
 use native.Mathlib.Omega.{arith}
-use lib.Dec.{ltb}
 use lib.ListN.{length, drop}
 use borrow.Author.Tests.{le-ltb}
 use Rattle.lineage.specs.Graph.{Graph}
 use Rattle.lineage.specs.Stored.{form2}
-use Rattle.lineage.specs.Calls.{Check, Outcome, refused, answered, any_applies}
+use Rattle.lineage.specs.Calls.{Check, any_applies}
 use Rattle.laws.specs.Checks.{Pass}
 use Rattle.laws.proofs.Checks.{stops_early, answered_pass, answered_is, refused_comes}
 use Rattle.matrix_lines.specs.Matrix.{MatrixReading, says, bad_line, matrix_reading}

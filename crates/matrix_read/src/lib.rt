@@ -1,6 +1,7 @@
 // A Matrix Market text read into an edge list (document 02, [1]). The text is looked over first, to its last line, so that a bad one leaves the lists as they were;
 // then the entries are read again and stored.
 #![tactic(auto)]
+
 ghost use Rattle.std.specs.Prelude.{◌++◌, ◌≡◌, ◌≤◌, length, drop};
 ghost use Rattle.text_lines.specs.Lines.{lf, pieces};
 ghost use Rattle.matrix_lines.specs.Matrix.{is_entry, run, ends};
