@@ -1,5 +1,6 @@
 // Asking a stored index: is the target reached from the source, by which rule, how many groups were opened for it, and which labelling decided.
 #![tactic(auto)]
+
 ghost use Rattle.std.specs.Prelude.{◌≡◌, [], ◌∷◌, ◌≤◌, ◌<◌, length};
 ghost use Rattle.lineage.specs.Question.{answer};
 ghost use Rattle.lineage.specs.Calls.{outcome, forms_taken, host, ordinary, contents_check, index_in, said_of, ask_answer, ask_marks, ask_work};
