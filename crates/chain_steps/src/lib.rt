@@ -1,5 +1,6 @@
 // The steps of the chain, where exactly the groups that reach the target are marked: each step goes to the lowest marked child.
 #![tactic(auto)]
+
 ghost use Rattle.std.specs.Prelude.{◌≡◌, suc, ◌+◌, ◌≤◌, length};
 ghost use Rattle.numbers.specs.Bounds.{vertex_bound};
 ghost use Rattle.numbers.specs.Put.{put};
