@@ -1,5 +1,6 @@
 // The levels of the groups, from their places by rank.
 #![tactic(auto)]
+
 ghost use Rattle.std.specs.Prelude.{◌≡◌, map, ℕ, suc, ◌+◌, ◌^◌, ◌<◌, get_or};
 ghost use Rattle.lineage.specs.Lists.{greatest, part};
 ghost use Rattle.lineage.specs.Graph.{levels_of};
