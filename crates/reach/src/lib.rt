@@ -1,5 +1,6 @@
 // What is reached in stored bytes whose contents are sound: a vertex's group is marked, and the sweep, by the first labelling, marks all that marked groups reach.
 #![tactic(auto)]
+
 ghost use Rattle.std.specs.Prelude.{◌≡◌, ◌≤◌, ◌<◌, length};
 ghost use Rattle.lineage.specs.Lists.{cleared};
 ghost use Rattle.lineage.specs.Calls.{index_in};
