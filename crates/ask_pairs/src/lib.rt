@@ -1,6 +1,7 @@
 // Many pairs of vertices, asked one after the other over the sections of a sound index. The place of every vertex's group is laid out once. The marks are not cleared
 // between two pairs: each walk marks with a stamp of its own, 1 to 255, and they are cleared where the stamps run out.
 #![tactic(auto)]
+
 ghost use Rattle.std.specs.Prelude.{cond, ◌≡◌, [], ◌∷◌, ◌+◌, ◌*◌, ◌≤◌, ◌<◌, eqb, length, replicate};
 ghost use Rattle.lineage.specs.Question.{between, answer};
 ghost use Rattle.numbers.specs.Bounds.{vertex_bound};

@@ -1,0 +1,57 @@
+-- `ask_pairs::next_reply` meets its contract: the new stamp is on no mark, so the walk starts from none; where nothing is opened no mark bears it afterwards either.
+use native.Mathlib.Omega.{arith}
+use mathlib.Core.Path.{◌≡◌, ap, ◌∙◌}
+use mathlib.Core.List.{List}
+use Prim.Native.Nat.{ℕ, ◌+◌, ◌-◌, ◌<◌}
+use lib.ListN.{length, replicate}
+use Rattle.lineage.specs.Question.{between}
+use Rattle.numbers.specs.Regions.{Kept}
+use Rattle.ask_walk.specs.Fit.{groups_in}
+use Rattle.ask_walk.specs.Stamps.{seen_as, Under}
+use Rattle.ask_walk.proofs.Stamped.{seen_new}
+use Rattle.ask_stacked.specs.Words.{stack_words}
+use Rattle.ask.specs.Replies.{answer_by}
+use Rattle.ask_pairs.proofs.next_reply.Goals as goal
+use Rattle.ask_pairs.proofs.next_reply.Goals.{After-decide-reply}
+
+-- the walk starts from no marks
+none : (s n : ℕ) (m : List ℕ) → Under s m → length m ≡ n → seen_as s m ≡ replicate n 0
+none s n m U e = seen_new s m U ∙ ap (λ (z : ℕ). replicate z 0) e
+
+-- nothing was opened
+unused : (s : ℕ) (m m' : List ℕ) → 0 < s → m' ≡ m → Under s m → Under (s - 1 + 1) m'
+unused s m m' h e U = let same : s - 1 + 1 ≡ s = omega arith in rw (same, e) U
+
+-- what the walk answers, and the words that it leaves
+told : (d : After-decide-reply) → let s = d.args in
+    (answer_by d.decide-reply.result (seen_as d.next_stamp-stamp.result d.decide-reply.new.marks)
+    ≡ between (groups_in s.w s.k s.d s.groups.now s.levels.now s.starts.now s.children.now s.labels.now) s.x s.t (replicate (length s.marks.now) 0))
+    × Kept s.work.now d.decide-reply.new.work 0 (stack_words s.w (length s.marks.now))
+told d =
+    let s = d.args in
+    let e = d.next_stamp-stamp.ensures in (
+      d.decide-reply.ensures.marks_after
+          ∙ ap (between (groups_in s.w s.k s.d s.groups.now s.levels.now s.starts.now s.children.now s.labels.now) s.x s.t) (none _ _ _ e.1.0 e.1.1),
+      rw e.1.1 at d.decide-reply.ensures.kept,
+    )
+
+pub decide-reply-requires : goal.decide-reply-requires
+decide-reply-requires c =
+    let e = c.next_stamp-stamp.ensures in
+    let p = c.requires.x_lt_k in record {
+      fit = rw e.1.1 c.requires.fit;
+      x_lt_k = (p.0, (omega (arith, e.1.1, p.1.0), (e.1.0, rw e.1.1 p.1.1.1)));
+    }
+
+pub returns-then-reply-eq0 : goal.returns-then-reply-eq0
+returns-then-reply-eq0 c =
+    let both = told (goal.at.returns-then-reply-eq0 c).After-decide-reply in
+    let e = c.next_stamp-stamp.ensures in record {
+      marks_after = both.0;
+      under = unused _ _ _ e.0 (c.decide-reply.ensures.marks_unchanged c.if-reply-eq0.true) e.1.0;
+      kept = both.1;
+    }
+
+pub returns : goal.returns
+returns c =
+    let both = told (goal.at.returns c).After-decide-reply in record { marks_after = both.0; under = c.decide-reply.ensures.under; kept = both.1 }
