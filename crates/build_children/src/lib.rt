@@ -1,5 +1,6 @@
 // The children of every group, and its parents, laid out in work memory.
 #![tactic(auto)]
+
 ghost use Rattle.build_children.specs.Window.{ChildrenFit, ChildrenFound};
 
 // Lays out the children and the parents of each of k groups, told by their places, and returns how many children there are in all. The edges laid out by
