@@ -5,12 +5,11 @@ use mathlib.Core.Logic.Iff
 use mathlib.Core.Logic.{◌↔◌}
 use mathlib.Core.Path.{◌≡◌, refl}
 use mathlib.Core.List.{List}
-use Prim.Native.Nat.{ℕ, ◌≤◌, ◌<◌}
+use Prim.Native.Nat.{ℕ, ◌<◌}
 use native.Mathlib.Omega.{arith}
 use lib.Dec.{leb}
 use lib.ListN.{length}
 use borrow.Author.Tests.{leb-true, leb-false}
-use Rattle.lineage.specs.Lists.{among}
 use Rattle.lineage.specs.Graph.{Graph, Reaches}
 use Rattle.lineage.specs.Index.{Index, Made}
 use Rattle.lineage.specs.Question.{place_in}

@@ -1,6 +1,6 @@
 -- States turned one after the other, by a function of vertex and state: with those of the first i vertices turned, turning the one at i turns those of the first i + 1;
 -- and where either list is at its end, all are turned. Each goes by induction on both lists and i together. And one state, by the tests that told it.
-use mathlib.Core.Path.{◌≡◌, refl, sym, ap, ap₂, ◌∙◌}
+use mathlib.Core.Path.{◌≡◌, refl, ap, ap₂, ◌∙◌}
 use mathlib.Core.List.{List, [], ◌∷◌}
 use Prim.Native.Nat.{ℕ, zero, suc, ◌+◌, min, ◌≤◌, ◌<◌}
 use native.Mathlib.Nat.{not-suc-le-zero}

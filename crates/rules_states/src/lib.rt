@@ -1,5 +1,6 @@
 // The rule desk's states, in stored bytes whose contents are sound: the vertices that the changed ones reach are marked, and each state follows the mark of its vertex.
 #![tactic(auto)]
+
 ghost use Rattle.std.specs.Prelude.{◌≡◌, ◌≤◌, leb, length};
 ghost use Rattle.lineage.specs.Lists.{cleared};
 ghost use Rattle.lineage.specs.Numbers.{numbers};
