@@ -185,7 +185,8 @@ def walk(f, ts, env, root, at, helpers, own):
                 else:
                     inner = "".join(walk(f, tokens(h.body), {h.var: h.place}, root, at, helpers, own)).strip()
                     kind = "".join(walk(f, tokens(h.type), {h.var: h.place}, root, at, helpers, own)).strip()
-                    out += tokens(f"({inner})" if h.abbrev or not kind else f"(let {t} : {kind} = {inner} in {t})")
+                    plain = not re.search(r"\b(omega|search|grind|simp|rw|cc)\b", inner)
+                    out += tokens(f"({inner})" if h.abbrev or not kind or plain else f"(let {t} : {kind} = {inner} in {t})")
                 i = got[1]
                 continue
         got = place_at(f, ts, i, env, helpers)
@@ -250,14 +251,14 @@ def citation(f, root, place, chain):
         if len(got) == 1:
             return ".".join([root, step, "ensures", got[0]] + more)
         return tuple_of([f"{root}.{step}.ensures.{g}" for g in got])
-    if rest and rest[0] in ("kept", "auto") and f.params.get(step):
+    if rest and rest[0] in ("kept", "auto", "new") and f.params.get(step):
         k = 0
         path = rest[1:]
         while path and path[0] == "1":
             path = path[1:]
             k += 1
         if path and path[0] == "0" and k < len(f.params[step]):
-            return ".".join([root, step, "auto", f.params[step][k]] + path[1:])
+            return ".".join([root, step, "auto" if rest[0] == "kept" else rest[0], f.params[step][k]] + path[1:])
     return ".".join([root, step] + rest)
 
 

@@ -1,5 +1,6 @@
 // The stored form, written from work memory: all that stands before the labels, and one labelling.
 #![tactic(auto)]
+
 ghost use Rattle.std.specs.Prelude.{◌≡◌, ◌++◌, map, ◌+◌, ◌*◌, ◌≤◌, length};
 ghost use Rattle.lineage.specs.Lists.{upto, joined};
 ghost use Rattle.lineage.specs.Numbers.{Width, written};
