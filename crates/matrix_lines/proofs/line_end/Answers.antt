@@ -20,9 +20,6 @@ inside c = within _ _ (seen _ _ c.byte_at.ensures) (λ e. miss (0 ∷ 1 ∷ 2 �
 pub loop-p-init : goal.loop-p-init
 loop-p-init c = (omega arith, refl)
 
-pub byte_at-requires : goal.byte_at-requires
-byte_at-requires c = tt
-
 pub returns-in-Lf : goal.returns-in-Lf
 returns-in-Lf c =
     let none = line_over (seen _ _ c.byte_at.ensures) c.in-Lf.in-Lf-own.keys1 in

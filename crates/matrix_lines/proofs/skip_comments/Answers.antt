@@ -8,12 +8,6 @@ use Rattle.matrix_lines.proofs.skip_comments.Goals as goal
 pub loop-end-init : goal.loop-end-init
 loop-end-init c = skip_begins _ _ c.requires
 
-pub kind_at-requires : goal.kind_at-requires
-kind_at-requires c = tt
-
-pub enum_told-1 : goal.enum_told-1
-enum_told-1 c = c.in-Comment.in-Comment-own.keys1
-
 pub line_end-end-requires : goal.line_end-end-requires
 line_end-end-requires c = c.loop-end.invariant.inside
 
@@ -27,9 +21,6 @@ overflow_add-p c = omega (arith, c.if-text-end.false)
 
 pub overflow_add-i : goal.overflow_add-i
 overflow_add-i c = omega (arith, c.loop-end.invariant.spent, c.line_end-end.ensures.0, c.if-text-end.false)
-
-pub loop-end-smaller : goal.loop-end-smaller
-loop-end-smaller c = omega (arith, c.line_end-end.ensures.0, c.if-text-end.false)
 
 pub loop-end-preserved : goal.loop-end-preserved
 loop-end-preserved c =

@@ -7,15 +7,6 @@ use Rattle.matrix_read.proofs.good_entries.Goals as goal
 pub loop-i-init : goal.loop-i-init
 loop-i-init c = pass_begins _ _ _ _ c.requires
 
-pub read_entry-requires : goal.read_entry-requires
-read_entry-requires c = tt
-
-pub enum_known-source : goal.enum_known-source
-enum_known-source c = c.in-Good.in-Good-own.keys1
-
-pub enum_told-1 : goal.enum_told-1
-enum_told-1 c = c.in_default.in_default-own.keys2
-
 pub returns-in_default : goal.returns-in_default
 returns-in_default c =
     let a = c.args in

@@ -14,21 +14,6 @@ room c = (omega (arith, c.loop-i-test.true, c.loop-i.invariant.sources.long, c.r
 pub loop-i-init : goal.loop-i-init
 loop-i-init c = store_begins _ _ _ _ _ _ c.requires.at_in_bounds.1
 
-pub read_entry-requires : goal.read_entry-requires
-read_entry-requires c = tt
-
-pub enum_known-source : goal.enum_known-source
-enum_known-source c = c.in-Good.in-Good-own.keys1
-
-pub enum_told-1 : goal.enum_told-1
-enum_told-1 c = c.in_default.in_default-own.keys2
-
-pub shape_of-sources-in_default : goal.shape_of-sources-in_default
-shape_of-sources-in_default c = c.loop-i.invariant.sources.long
-
-pub shape_of-targets-in_default : goal.shape_of-targets-in_default
-shape_of-targets-in_default c = c.loop-i.invariant.targets.long
-
 pub returns-in_default : goal.returns-in_default
 returns-in_default c = absurd (store_never _ _ _ _ _ _ _ _ _ _ c.loop-i.invariant c.loop-i-test.true (sym c.in_default.is ∙ c.read_entry.ensures))
 
@@ -47,19 +32,10 @@ bounds-targets-i c = (room (goal.at.bounds-targets-i c).In-loop-i).1
 pub overflow_add-i : goal.overflow_add-i
 overflow_add-i c = omega (arith, (room (goal.at.overflow_add-i c).In-loop-i).0, c.loop-i.invariant.sources.long)
 
-pub loop-i-smaller : goal.loop-i-smaller
-loop-i-smaller c = omega (arith, c.loop-i-test.true)
-
 pub loop-i-preserved : goal.loop-i-preserved
 loop-i-preserved c =
     let r = room (goal.at.loop-i-preserved c).In-loop-i in
     store_turns _ _ _ _ _ _ _ _ _ _ c.loop-i.invariant _ _ _ c.loop-i-test.true r.0 r.1 (sym c.in-Good.is ∙ c.read_entry.ensures)
-
-pub shape_of-sources : goal.shape_of-sources
-shape_of-sources c = c.loop-i.invariant.sources.long
-
-pub shape_of-targets : goal.shape_of-targets
-shape_of-targets c = c.loop-i.invariant.targets.long
 
 pub returns : goal.returns
 returns c = let both = store_ends _ _ _ _ _ _ _ _ _ _ c.loop-i.invariant (omega (arith, c.loop-i-test.false)) in record { sources_after = both.0; targets_after = both.1 }

@@ -21,15 +21,6 @@ overflow_mul-i c = omega (arith, room (goal.at.overflow_mul-i c).In-loop-i, c.lo
 pub read_line-requires : goal.read_line-requires
 read_line-requires c = (c.requires.0, room (goal.at.read_line-requires c).In-loop-i)
 
-pub enum_known-next : goal.enum_known-next
-enum_known-next c = c.in-Good.in-Good-own.keys1
-
-pub enum_told-1 : goal.enum_told-1
-enum_told-1 c = c.in_default.in_default-own.keys2
-
-pub shape_of-into-in_default : goal.shape_of-into-in_default
-shape_of-into-in_default c = c.read_line.auto.into ∙ c.loop-i.invariant.long
-
 pub returns-in_default : goal.returns-in_default
 returns-in_default c =
     let q = c.loop-i.invariant in
@@ -43,16 +34,10 @@ returns-in_default c =
 pub overflow_add-i : goal.overflow_add-i
 overflow_add-i c = omega (arith, c.loop-i-test.true)
 
-pub loop-i-smaller : goal.loop-i-smaller
-loop-i-smaller c = omega (arith, c.loop-i-test.true)
-
 pub loop-i-preserved : goal.loop-i-preserved
 loop-i-preserved c =
     passing_turns _ _ _ _ _ _ _ _ _ _ _ c.loop-i.invariant c.loop-i-test.true c.read_line.auto.into
     (into_is c.in-Good.is c.read_line.ensures)
-
-pub shape_of-into : goal.shape_of-into
-shape_of-into c = c.loop-i.invariant.long
 
 pub returns : goal.returns
 returns c =

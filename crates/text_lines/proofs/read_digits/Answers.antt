@@ -21,12 +21,6 @@ room c = digit_room _ _ _ c.loop-d.invariant.1 (pos_of_ne-zero c.if-l-eq0.false)
 pub loop-d-init : goal.loop-d-init
 loop-d-init c = (refl, c.requires)
 
-pub byte_at-requires : goal.byte_at-requires
-byte_at-requires c = tt
-
-pub enum_known-d : goal.enum_known-d
-enum_known-d c = c.in-Digit.in-Digit-own.keys1
-
 pub returns-then-l-eq0 : goal.returns-then-l-eq0
 returns-then-l-eq0 c = digit_over _ _ _ (here (goal.at.returns-then-l-eq0 c).In-Digit) c.if-l-eq0.true ∙ c.loop-d.invariant.0
 
@@ -41,9 +35,6 @@ overflow_sub-l c = pos_of_ne-zero c.if-l-eq0.false
 
 pub overflow_add-i : goal.overflow_add-i
 overflow_add-i c = omega (arith, within c.args.text.now c.loop-d.i (here (goal.at.overflow_add-i c).In-Digit) (λ e. omega arith), c.well_formed)
-
-pub loop-d-smaller : goal.loop-d-smaller
-loop-d-smaller c = omega (arith, pos_of_ne-zero c.if-l-eq0.false)
 
 pub loop-d-preserved : goal.loop-d-preserved
 loop-d-preserved c = (digit_turn _ _ _ _ (here (goal.at.loop-d-preserved c).In-Digit) (pos_of_ne-zero c.if-l-eq0.false) ∙ c.loop-d.invariant.0, room (goal.at.loop-d-preserved c).Else-l-eq0)

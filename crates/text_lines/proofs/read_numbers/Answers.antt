@@ -32,15 +32,6 @@ full c = omega (arith, c.loop-j-test.false, c.loop-j.invariant.0)
 pub loop-j-init : goal.loop-j-init
 loop-j-init c = (omega arith, (refl, (refl, still_begins _ _ _ _ _ _)))
 
-pub byte_at-requires : goal.byte_at-requires
-byte_at-requires c = tt
-
-pub enum_told-1 : goal.enum_told-1
-enum_told-1 c = c.in-Space.in-Space-own.keys1
-
-pub shape_of-into-in_default : goal.shape_of-into-in_default
-shape_of-into-in_default c = c.loop-j.invariant.1.0
-
 pub returns-in_default : goal.returns-in_default
 returns-in_default c =
     let i = c.loop-j.invariant in
@@ -54,15 +45,6 @@ overflow_add-p c = omega (arith, inside (goal.at.overflow_add-p c).In-Space)
 
 pub read_number-requires : goal.read_number-requires
 read_number-requires c = c.requires.0
-
-pub enum_known-value : goal.enum_known-value
-enum_known-value c = c.in-Good.in-Good-own.keys1
-
-pub enum_told-in_default-read_number : goal.enum_told-in_default-read_number
-enum_told-in_default-read_number c = c.in_default-read_number.in_default-read_number-own.keys2
-
-pub shape_of-into-in_default-read_number : goal.shape_of-into-in_default-read_number
-shape_of-into-in_default-read_number c = c.loop-j.invariant.1.0
 
 pub returns-in_default-read_number : goal.returns-in_default-read_number
 returns-in_default-read_number c =
@@ -86,9 +68,6 @@ bounds-into-base c = room (goal.at.bounds-into-base c).In-Space
 pub overflow_add-j : goal.overflow_add-j
 overflow_add-j c = omega (arith, room (goal.at.overflow_add-j c).In-Space, c.loop-j.invariant.1.0)
 
-pub loop-j-smaller : goal.loop-j-smaller
-loop-j-smaller c = omega (arith, c.loop-j-test.true)
-
 pub loop-j-preserved : goal.loop-j-preserved
 loop-j-preserved c =
     let low = c.loop-j-test.true in
@@ -96,25 +75,13 @@ loop-j-preserved c =
     let number = sym c.in-Good.is ∙ c.read_number.ensures in
     (omega (arith, low), (simp length-set i.1.0, (front_kept c.loop-j.into c.args.base c.loop-j.j _ ∙ i.1.1.0, still_turns _ _ _ _ _ _ _ _ _ low (room (goal.at.loop-j-preserved c).In-Space) (spaced (goal.at.loop-j-preserved c).In-Space) number ∙ i.1.1.1)))
 
-pub byte_at-requires-2 : goal.byte_at-requires-2
-byte_at-requires-2 c = tt
-
-pub enum_told-in-Lf : goal.enum_told-in-Lf
-enum_told-in-Lf c = c.in-Lf.in-Lf-own.keys1
-
 pub overflow_add-result : goal.overflow_add-result
 overflow_add-result c = omega (arith, within c.args.text.now c.loop-j.p (ended (goal.at.overflow_add-result c).In-Lf) (λ e. omega arith), c.well_formed)
-
-pub shape_of-into-in-Lf : goal.shape_of-into-in-Lf
-shape_of-into-in-Lf c = c.loop-j.invariant.1.0
 
 pub returns-in-Lf : goal.returns-in-Lf
 returns-in-Lf c =
     let i = c.loop-j.invariant in
     record { kept = i.1.1.0; read = still_ends _ _ _ _ _ _ _ (full (goal.at.returns-in-Lf c).After-loop-j) (ended (goal.at.returns-in-Lf c).In-Lf) ∙ i.1.1.1 }
-
-pub shape_of-into-in_default-byte_at : goal.shape_of-into-in_default-byte_at
-shape_of-into-in_default-byte_at c = c.loop-j.invariant.1.0
 
 pub returns-in_default-byte_at : goal.returns-in_default-byte_at
 returns-in_default-byte_at c =
