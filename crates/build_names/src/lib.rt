@@ -1,5 +1,6 @@
 // The name of each vertex's group, by one traversal of rows in work memory.
 #![tactic(auto)]
+
 ghost use Rattle.std.specs.Prelude.{◌≡◌, ◌+◌, ◌*◌, ◌≤◌, ◌<◌, length, replicate};
 ghost use Rattle.lineage.specs.Lists.{part};
 ghost use Rattle.laws.specs.OnePass.{least_of, GroupNames};
