@@ -1,5 +1,6 @@
 // Asking a stored index many pairs at once: the bytes are checked once, and each pair gets the answer of a single question.
 #![tactic(auto)]
+
 ghost use Rattle.std.specs.Prelude.{◌≡◌, ◌++◌, ◌+◌, ◌≤◌, length, get_or, drop};
 ghost use Rattle.lineage.specs.Question.{answer};
 ghost use Rattle.lineage.specs.Calls.{outcome, forms_taken, host, ordinary, index_in};
