@@ -1,5 +1,6 @@
 // The questions of a text, asked one after the other: one line each.
 #![tactic(auto)]
+
 ghost use Rattle.std.specs.Prelude.{◌+◌, ◌*◌, ◌≤◌, length};
 ghost use Rattle.text.specs.Output.{told, question_line, answer_to, answers_to};
 ghost use Rattle.text_printing.specs.Printer.{Put};
