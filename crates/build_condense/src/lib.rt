@@ -1,5 +1,6 @@
 // From an edge list to the groups: names, group list and places, in work memory.
 #![tactic(auto)]
+
 ghost use Rattle.build_orders.specs.Input.{graph_of};
 ghost use Rattle.build_condense.specs.Window.{CondenseFit, GroupsFound};
 
