@@ -127,6 +127,8 @@ module _ (names : List ℕ) where
   pub still_closed :
       (S T marks : List ℕ) → one_led_out names S T marks ≡ false → (a b : ℕ) → Edge S T a b → is_marked names marks a ≡ true → is_marked names marks b ≡ true
   unfolding one_led_out crossed leads_out
+  still_closed [] T marks h a b e m = elim e [ ]
+  still_closed (s ∷ S) [] marks h a b e m = elim e [ ]
   still_closed (s ∷ S) (t ∷ T) marks h a b first m = at (is_marked names marks t) refl
     where
       at : (b : Bool) → is_marked names marks t ≡ b → is_marked names marks t ≡ true

@@ -24,6 +24,8 @@ mapped_edge f (later e) = later (mapped_edge f e)
 
 edge_mapped :
     (P : ℕ → ℕ → Type 0) (f : ℕ → ℕ) (S T : List ℕ) → ((a b : ℕ) → Edge S T a b → P (f a) (f b)) → {p q : ℕ} → Edge (map f S) (map f T) p q → P p q
+edge_mapped P f [] T all {p = p} {q = q} e = elim e [ ]
+edge_mapped P f (s ∷ S) [] all {p = p} {q = q} e = elim e [ ]
 edge_mapped P f (s ∷ S) (t ∷ T) all first = all s t first
 edge_mapped P f (s ∷ S) (t ∷ T) all (later e) = edge_mapped P f S T (λ a b x. all a b (later x)) e
 

@@ -1,6 +1,7 @@
 // What is reached in stored bytes whose contents are sound, together with added edges: sweeps down the children, and between them rounds over the added edges, each of
 // which marks the groups that the edges lead to out of marked groups. A group's mark stands at its name.
 #![tactic(auto)]
+
 ghost use Rattle.std.specs.Prelude.{◌≡◌, ◌≤◌, ◌<◌, length};
 ghost use Rattle.lineage.specs.Numbers.{numbers};
 ghost use Rattle.lineage.specs.Calls.{index_in};
