@@ -90,9 +90,9 @@ module _ {T : FormsTaken} {b : List ℕ} {work : ℕ} (R : Right T b work) where
     ask_early_lem : (marks : ℕ) → Fewer (ask_early T b u v marks work) (ask_checks n u v marks)
     ask_early_lem marks = front marks (keep _ (keep _ none))
 
-    asked_by : (marks : ℕ) → ask_answer T b u v marks work ≡ asked_by n (index_in b) u v marks
+    asked_by_lem : (marks : ℕ) → ask_answer T b u v marks work ≡ asked_by n (index_in b) u v marks
     unfolding ask_answer
-    asked_by marks = fewer_outcome (said_of (answer (index_in b) u v)) (ask_fewer marks)
+    asked_by_lem marks = fewer_outcome (said_of (answer (index_in b) u v)) (ask_fewer marks)
 
     ask_marks_by_lem : (marks : List ℕ) → ask_marks T b u v marks work ≡ ask_marks_by n (index_in b) u v marks
     unfolding ask_marks
@@ -106,9 +106,9 @@ module _ {T : FormsTaken} {b : List ℕ} {work : ℕ} (R : Right T b work) where
     list_early_lem : (marks : ℕ) → Fewer (list_early T b u marks work) (vertex_checks n u marks)
     list_early_lem marks = front marks (keep _ none)
 
-    listed_by : (marks out : ℕ) → list_answer T b u marks work out ≡ listed_by n (index_in b) u marks out
+    listed_by_lem : (marks out : ℕ) → list_answer T b u marks work out ≡ listed_by n (index_in b) u marks out
     unfolding list_answer
-    listed_by marks out = fewer_outcome (length (downstream (index_in b) u)) (list_fewer marks out)
+    listed_by_lem marks out = fewer_outcome (length (downstream (index_in b) u)) (list_fewer marks out)
 
     list_output_by_lem : (marks : ℕ) (out : List ℕ) → list_output T b u marks work out ≡ list_output_by n (index_in b) u marks out
     unfolding list_output
@@ -144,7 +144,7 @@ module _ {T : FormsTaken} {b b' : List ℕ} {work work' : ℕ} (S : Alike T b b'
     -- yes or no, the reason, the groups opened and the labelling, or the refusal; and the marks
     pub asked_same : (marks : ℕ) → ask_answer T b' u v marks work' ≡ ask_answer T b u v marks work
     asked_same marks =
-        asked_by S.right' u v marks ∙ by_same (λ (n : ℕ) (I : Index). asked_by n I u v marks) ∙ sym (asked_by S.right u v marks)
+        asked_by_lem S.right' u v marks ∙ by_same (λ (n : ℕ) (I : Index). asked_by n I u v marks) ∙ sym (asked_by_lem S.right u v marks)
 
     pub ask_marks_same : (marks : List ℕ) → ask_marks T b' u v marks work' ≡ ask_marks T b u v marks work
     ask_marks_same marks =
@@ -153,7 +153,7 @@ module _ {T : FormsTaken} {b b' : List ℕ} {work work' : ℕ} (S : Alike T b b'
   module _ (u : ℕ) where
     pub listed_same : (marks out : ℕ) → list_answer T b' u marks work' out ≡ list_answer T b u marks work out
     listed_same marks out =
-        listed_by S.right' u marks out ∙ by_same (λ (n : ℕ) (I : Index). listed_by n I u marks out) ∙ sym (listed_by S.right u marks out)
+        listed_by_lem S.right' u marks out ∙ by_same (λ (n : ℕ) (I : Index). listed_by n I u marks out) ∙ sym (listed_by_lem S.right u marks out)
 
     pub list_output_same : (marks : ℕ) (out : List ℕ) → list_output T b' u marks work' out ≡ list_output T b u marks work out
     list_output_same marks out =

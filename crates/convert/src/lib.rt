@@ -1,5 +1,6 @@
 // Converting a stored index: the bytes of one form as those of another, without the edge list (document 02, [7]).
 #![tactic(auto)]
+
 ghost use Rattle.std.specs.Prelude.{true, ◌≡◌, ◌≤◌, ◌<◌, length, get_or};
 ghost use Rattle.lineage.specs.Numbers.{written};
 ghost use Rattle.lineage.specs.Stored.{counts_in, form_of, is_form, section};
