@@ -1,5 +1,6 @@
 // The labelling of the groups under one order, made in work memory.
 #![tactic(auto)]
+
 ghost use Rattle.lineage.specs.Lists.{part};
 ghost use Rattle.build_labelled.specs.Window.{OrderRows, Labelled};
 ghost use Rattle.build_labelled.specs.Fit.{OrderFit, LabelFit};
