@@ -1,6 +1,7 @@
 // The labels of a plain hierarchy, which have one labelling (document 02, [14]): the rules 1 to 4 over pairs s, e; and labels in triples written in pairs, or in pairs
 // written in triples.
 #![tactic(auto)]
+
 ghost use Rattle.std.specs.Prelude.{map, ◌≡◌};
 ghost use Rattle.lineage.specs.Lists.{upto, joined};
 ghost use Rattle.lineage.specs.Numbers.{written};
