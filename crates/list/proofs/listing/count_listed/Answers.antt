@@ -1,0 +1,29 @@
+-- `list::listing::count_listed` meets its contract, by the invariant beside this file.
+use Prim.Native.Nat.{◌-◌}
+use native.Mathlib.Omega.{arith}
+use Rattle.lineage.specs.Numbers.{numbers}
+use Rattle.list.specs.Listing.{is_listed}
+use Rattle.list.proofs.Writing.{Counted, counted_none, counted_more, counted_over, counted_most, counted_all}
+use Rattle.list.proofs.listing.count_listed.Goals as goal
+use Rattle.list.proofs.listing.count_listed.Goals.{then-is_listed, else-is_listed}
+
+pub loop-v-init : goal.loop-v-init
+loop-v-init c = counted_none _ _
+
+pub is_listed-requires : goal.is_listed-requires
+is_listed-requires c = record { names = c.requires; v_lt_n = c.loop-v-test.true }
+
+pub overflow_add-count : goal.overflow_add-count
+overflow_add-count c = omega (arith, counted_most c.loop-v.invariant)
+
+pub loop-v-preserved : goal.loop-v-preserved
+loop-v-preserved c =
+    let h = c.loop-v-test.true in
+    let e = c.is_listed.ensures in
+    elim c.if-is_listed.branch [
+      | then-is_listed w ↦ rw w.count-is (counted_more c.loop-v.invariant h e w.if-is_listed.true)
+      | else-is_listed w ↦ rw w.count-is (counted_over c.loop-v.invariant h e w.if-is_listed.false)
+    ]
+
+pub returns : goal.returns
+returns c = counted_all _ _ _ _ _ _ c.loop-v.invariant c.loop-v-test.false

@@ -1,0 +1,49 @@
+-- `list::listing::write_listed` meets its contract, by the invariant beside this file.
+use Prim.Native.Nat.{◌-◌, ◌<◌}
+use native.Mathlib.Omega.{arith}
+use lib.ListN.{length}
+use Rattle.lineage.specs.Numbers.{numbers}
+use Rattle.list.specs.Listing.{is_listed}
+use Rattle.list.proofs.Writing.{Counted, counted_none, counted_more, counted_over, Written, written_none, written_more, written_over, written_all, listed_room}
+use Rattle.list.proofs.listing.write_listed.Goals as goal
+use Rattle.list.proofs.listing.write_listed.Goals.{Then-is_listed, then-is_listed, else-is_listed}
+
+-- there is room for one that is listed
+room : (c : Then-is_listed) → c.loop-v.at < length c.args.out.now
+room c = listed_room _ _ _ _ _ _ c.loop-v.invariant.0 c.loop-v-test.true c.is_listed.ensures c.if-is_listed.true c.requires.own_in_bounds
+
+pub loop-v-init : goal.loop-v-init
+loop-v-init c = (counted_none _ _, written_none _ _)
+
+pub is_listed-requires : goal.is_listed-requires
+is_listed-requires c = record { names = c.requires.names; v_lt_n = c.loop-v-test.true }
+
+pub overflow_cast-out : goal.overflow_cast-out
+overflow_cast-out c = omega (arith, c.requires.names.held.few)
+
+pub offset_bounds-out-at : goal.offset_bounds-out-at
+offset_bounds-out-at c = omega (arith, room (goal.at.offset_bounds-out-at c).Then-is_listed)
+
+pub bounds-out-at : goal.bounds-out-at
+bounds-out-at c = omega (arith, room (goal.at.bounds-out-at c).Then-is_listed, c.loop-v.invariant.1.long)
+
+pub overflow_add-at : goal.overflow_add-at
+overflow_add-at c = omega (arith, room (goal.at.overflow_add-at c).Then-is_listed)
+
+pub loop-v-preserved : goal.loop-v-preserved
+loop-v-preserved c =
+    let h = c.loop-v-test.true in
+    let e = c.is_listed.ensures in
+    let C = c.loop-v.invariant.0 in
+    let W = c.loop-v.invariant.1 in
+    elim c.if-is_listed.branch [
+      | then-is_listed w ↦ let t = w.if-is_listed.true in rw (w.at-is, w.out-is)
+          (counted_more C h e t, written_more C W h e t (listed_room _ _ _ _ _ _ C h e t c.requires.own_in_bounds))
+      | else-is_listed w ↦ rw (w.at-is, w.out-is) (counted_over C h e w.if-is_listed.false, written_over C W h e w.if-is_listed.false)
+    ]
+
+pub shape_of-out : goal.shape_of-out
+shape_of-out c = c.loop-v.invariant.1.long
+
+pub returns : goal.returns
+returns c = written_all _ _ _ _ _ _ c.loop-v.invariant.0 c.loop-v-test.false c.loop-v.invariant.1
