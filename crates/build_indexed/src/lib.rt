@@ -1,5 +1,6 @@
 // An index in lent memory: groups and children found in work memory, and what lies there written as the stored form, one labelling after the other.
 #![tactic(auto)]
+
 ghost use Rattle.std.specs.Prelude.{◌≡◌, ◌++◌, map, ◌+◌, ◌-◌, ◌*◌, ◌^◌, ◌≤◌, ◌<◌, length, drop};
 ghost use Rattle.lineage.specs.Lists.{upto, first_of, joined, part};
 ghost use Rattle.lineage.specs.Numbers.{written};
