@@ -1,6 +1,6 @@
 -- The exceptions of x marked rank by rank, where what x reaches is marked 1 and every other group 0. Those found so far are marked 2 and no other mark changes; so at
 -- each rank the mark tells whether x reaches the group that stands there, and at the end 2 marks the exceptions.
-use mathlib.Core.Bool.{Bool, true, false, not, ◌&&◌, ◌||◌, cond, and-false, and-true, or-false}
+use mathlib.Core.Bool.{Bool, true, false, not, ◌&&◌, cond, and-false, and-true, or-false}
 use mathlib.Core.Path.{◌≡◌, refl, sym, ap, ◌∙◌}
 use mathlib.Core.List.{List, [], ◌∷◌, ◌++◌}
 use Prim.Native.Nat.{ℕ, suc, ◌+◌, ◌<◌, ◌≤◌}

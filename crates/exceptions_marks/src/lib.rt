@@ -1,6 +1,7 @@
 // The exceptions of one group, told by marks: what it reaches is swept, and of the other groups whose ranks lie in its outer interval those that it contains in every
 // labelling are its exceptions.
 #![tactic(auto)]
+
 ghost use Rattle.std.specs.Prelude.{false, not, cond, ◌≡◌, ◌≤◌, ◌<◌, eqb, length};
 ghost use Rattle.lineage.specs.Lists.{cleared};
 ghost use Rattle.lineage.specs.Question.{outside, some_labelling};
