@@ -1,11 +1,11 @@
 -- The order of the export does not matter (document 02, [12]): two finished builds with the same n and the same orders store the same bytes of a form wherever their
 -- groups and their groups' children agree. What a finished build stores is the stored form of its index, and the same lineage comes to the same index under the same orders.
 use mathlib.Core.Path.{◌≡◌, sym, ap, ◌∙◌}
-use mathlib.Core.List.{List, map}
+use mathlib.Core.List.{map}
 use Prim.Native.Nat.{ℕ}
 use lib.ListN.{length, take}
 use Rattle.lineage.specs.Lists.{upto}
-use Rattle.lineage.specs.Graph.{Edge, Ends}
+use Rattle.lineage.specs.Graph.{Edge}
 use Rattle.lineage.specs.Index.{Index, index_of}
 use Rattle.lineage.specs.Stored.{Form, encode}
 use Rattle.lineage.specs.Calls.{Input, order_at, orders_of, built}

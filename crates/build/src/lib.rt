@@ -1,5 +1,6 @@
 // Build: from an edge list and some orders to exactly the bytes of the stored form, in lent memory.
 #![tactic(auto)]
+
 ghost use Rattle.std.specs.Prelude.{true, cond, ◌≡◌, ◌+◌, ◌^◌, ◌≤◌, ◌<◌, length};
 ghost use Rattle.lineage.specs.Lists.{upto, first_of, part};
 ghost use Rattle.lineage.specs.Stored.{form4, form_of, is_form};
