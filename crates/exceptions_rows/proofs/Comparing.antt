@@ -1,5 +1,5 @@
 -- The entries of x compared one by one with stored numbers from number `from` on: those of the places passed agree. The next one agrees too, or the list differs.
-use mathlib.Core.Bool.{Bool, true, false, ◌&&◌, cond}
+use mathlib.Core.Bool.{Bool, true, false}
 use mathlib.Core.Path.{◌≡◌, refl, sym, ap, ◌∙◌}
 use mathlib.Core.List.{List, [], ◌∷◌}
 use Prim.Native.Nat.{ℕ, ◌+◌, ◌-◌, ◌*◌, ◌≤◌, ◌<◌}
@@ -13,10 +13,9 @@ use Rattle.lineage.specs.Numbers.{num_at}
 use Rattle.laws.proofs.Tests.{and_left}
 use Rattle.laws.proofs.Lists.{all_broken}
 use Rattle.laws.proofs.Passed.{Passed, passed_none, passed_next, passed_all}
-use Rattle.laws_exceptions.specs.Exceptions.{is_exception, exceptions_of, entry, entries_of}
+use Rattle.laws_exceptions.specs.Exceptions.{is_exception, entry, entries_of}
 use Rattle.laws_exceptions.proofs.Through.{row_to, row_none, row_all, row_over, row_more, row_room, row_next}
 use Rattle.exceptions_rows.specs.Rows.{agrees, stands, compared}
-use Rattle.exceptions_rows.specs.declared.Compared.{Compared}
 use Rattle.exceptions_rows.specs.declared.Compared.TheVariants.{Ends, Differs}
 
 -- entry j agrees

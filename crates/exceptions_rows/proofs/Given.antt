@@ -1,8 +1,8 @@
 -- What the sections of sound bytes give the list of one group: its entries are told from them, and a group's mark tells whether it is an exception.
 use mathlib.Core.Bool.{true, false}
-use mathlib.Core.Path.{◌≡◌, refl, sym, ap, ◌∙◌}
+use mathlib.Core.Path.{◌≡◌, sym, ap, ◌∙◌}
 use mathlib.Core.List.{List}
-use Prim.Native.Nat.{ℕ, ◌≤◌, ◌<◌}
+use Prim.Native.Nat.{ℕ, ◌<◌}
 use native.Mathlib.Omega.{arith}
 use lib.Dec.{eqb}
 use lib.ListN.{length, get_or, length-map}
@@ -15,7 +15,7 @@ use Rattle.stored_header.specs.declared.Layout.{Layout}
 use Rattle.stored.specs.Sections.{Six, children_in, labels_in}
 use Rattle.sound_places.specs.Lent.{SoundBytes}
 use Rattle.reach.proofs.Fitted.{spots}
-use Rattle.exceptions_marks.specs.Marks.{mark_of, Excepted}
+use Rattle.exceptions_marks.specs.Marks.{Excepted}
 use Rattle.exceptions_marks.proofs.Fitted.{children_are, labels_are_lem, places_many, labelled, name_was}
 use Rattle.exceptions_rows.specs.Rows.{Telling, kinds_alone}
 

@@ -1,5 +1,6 @@
 // The list of one group, told from marks: its entries, rising by place, counted, written, and compared with stored ones.
 #![tactic(auto)]
+
 ghost use Rattle.std.specs.Prelude.{◌≡◌, ◌+◌, ◌*◌, ◌≤◌, ◌<◌, length};
 ghost use Rattle.lineage.specs.Lists.{cleared};
 ghost use Rattle.lineage.specs.Numbers.{written};
