@@ -151,9 +151,40 @@ def place_term(f, ts, i, env, helpers):
     return place_at(f, ts, i, env, helpers)
 
 
+def record_at(f, ts, i, env, helpers, root):
+    """Of `PLACE.requires in` or `PLACE.STEP.ensures in`, where there are several clauses: the record's path, their names, and the index behind `in`; or None."""
+    got = place_at(f, ts, i, env, helpers)
+    if got is None and i < len(ts) and ts[i] == "(":
+        inner = place_term(f, ts, skip(ts, i + 1), env, helpers)
+        if inner:
+            j = skip(ts, inner[1])
+            if j < len(ts) and ts[j] == ")":
+                got = (inner[0], j + 1)
+    if not got:
+        return None
+    place, j = got
+    chain = []
+    while j + 1 < len(ts) and ts[j] == "." and (is_id(ts[j + 1]) or ts[j + 1].isdigit()):
+        chain.append(ts[j + 1])
+        j += 2
+    e = skip(ts, j)
+    if e >= len(ts) or ts[e] != "in" or not chain:
+        return None
+    if chain in (["pre"], ["requires"]) and f.pre and len(f.pre) > 1:
+        return f"{root}.requires", f.pre, e + 1
+    if len(chain) == 2 and chain[1] == "ensures":
+        for w in (norm(chain[0]), norm(chain[0]).lower(), re.sub("-lem$", "", norm(chain[0]))):
+            step = f.own[place][1] if norm(f.own[place][0]) == w else f.steps.get(w)
+            if step:
+                fields = f.clauses.get(step)
+                return (f"{root}.{step}.ensures", fields, e + 1) if fields and len(fields) > 1 else None
+    return None
+
+
 def walk(f, ts, env, root, at, helpers, own):
     """A term with what it cites of places written for one flat record, root. at: the goal that it answers, or None in a function of the place own."""
     env = dict(env)
+    records = {}
     out = []
     i = 0
     while i < len(ts):
@@ -170,6 +201,22 @@ def walk(f, ts, env, root, at, helpers, own):
                             env[ts[j]] = got[0]
                             i = skip(ts, e + 1)
                             continue
+                    whole = record_at(f, ts, skip(ts, k + 1), env, helpers, root)
+                    if whole:
+                        records[ts[j]] = whole[1]
+                        out += tokens(f"let {ts[j]} = {whole[0]} in")
+                        i = whole[2]
+                        continue
+        if is_id(t) and t in records and not (out and out[-1] == "."):
+            chain = []
+            j = i + 1
+            while j + 1 < len(ts) and ts[j] == "." and ts[j + 1].isdigit():
+                chain.append(ts[j + 1])
+                j += 2
+            got, rest = select(chain, records[t])
+            out += tokens(".".join([t, got[0]] + rest) if len(got) == 1 else tuple_of([f"{t}.{g}" for g in got]))
+            i = j
+            continue
         if is_id(t) and t in helpers and not (out and out[-1] == "."):
             h = helpers[t]
             got = place_at(f, ts, skip(ts, i + 1), env, helpers)
