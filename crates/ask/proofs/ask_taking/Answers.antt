@@ -17,16 +17,39 @@ admits : (a : In-Passed) → let s = a.args in
 admits a = record { passes = sym (ap header_outcome a.in-Passed.is) ∙ a.admit.ensures }
 
 pub returns-in-Refused : goal.returns-in-Refused
-returns-in-Refused c = let s = c.args in let both = asks_refused _ _ _ s.marks.now (forms_taken s.least s.most) s.work.now (sym (ap header_outcome c.in-Refused.is) ∙ c.admit.ensures) in record { result_value = both.0; marks_after = both.1.0; work_after = both.1.1 }
+returns-in-Refused c =
+    let s = c.args in
+    let both = asks_refused _ _ _ s.marks.now (forms_taken s.least s.most) s.work.now (sym (ap header_outcome c.in-Refused.is) ∙ c.admit.ensures) in record {
+      result_value = both.0;
+      marks_after = both.1.0;
+      work_after = both.1.1;
+    }
 
 pub returns-then-l-u : goal.returns-then-l-u
-returns-then-l-u c = let A = admits (goal.at.returns-then-l-u c).In-Passed in let both = asks_source _ _ _ _ _ _ A (vertex_out (admitted_laid A) c.if-l-u.true) in record { result_value = both.0; marks_after = both.1.0; work_after = both.1.1 }
+returns-then-l-u c =
+    let A = admits (goal.at.returns-then-l-u c).In-Passed in
+    let both = asks_source _ _ _ _ _ _ A (vertex_out (admitted_laid A) c.if-l-u.true) in record {
+      result_value = both.0;
+      marks_after = both.1.0;
+      work_after = both.1.1;
+    }
 
 pub returns-then-l-v : goal.returns-then-l-v
-returns-then-l-v c = let A = admits (goal.at.returns-then-l-v c).In-Passed in let both = asks_target _ _ _ _ _ _ A (vertex_in (admitted_laid A) c.if-l-u.false) (vertex_out (admitted_laid A) c.if-l-v.true) in record { result_value = both.0; marks_after = both.1.0; work_after = both.1.1 }
+returns-then-l-v c =
+    let A = admits (goal.at.returns-then-l-v c).In-Passed in
+    let both = asks_target _ _ _ _ _ _ A (vertex_in (admitted_laid A) c.if-l-u.false) (vertex_out (admitted_laid A) c.if-l-v.true) in record {
+      result_value = both.0;
+      marks_after = both.1.0;
+      work_after = both.1.1;
+    }
 
 pub ask_laid-r-requires : goal.ask_laid-r-requires
-ask_laid-r-requires c = let A = admits (goal.at.ask_laid-r-requires c).In-Passed in record { laid = admitted_laid A; u_lt_n = (c.if-l-u.false, (c.if-l-v.false, (admitted_room A, omega (arith, admitted_words A, stack_fits c.in-Passed.l)))); stride_value = admitted_triples A c.requires }
+ask_laid-r-requires c =
+    let A = admits (goal.at.ask_laid-r-requires c).In-Passed in record {
+      laid = admitted_laid A;
+      u_lt_n = (c.if-l-u.false, (c.if-l-v.false, (admitted_room A, omega (arith, admitted_words A, stack_fits c.in-Passed.l))));
+      stride_value = admitted_triples A c.requires;
+    }
 
 pub words_needed-requires : goal.words_needed-requires
 words_needed-requires c =
@@ -39,4 +62,10 @@ clear_words-requires c = omega (arith, c.words_needed.ensures.0, admitted_words 
 pub returns : goal.returns
 returns c =
     let A = admits (goal.at.returns c).In-Passed in
-    let L = admitted_laid A in let both = asks_rest _ _ _ _ _ _ A (vertex_in L c.if-l-u.false) (vertex_in L c.if-l-v.false) (c.ask_laid-r.ensures.result_value, c.ask_laid-r.ensures.marks_after) c.ask_laid-r.ensures.kept c.words_needed.ensures.0 c.clear_words.ensures in record { result_value = both.0; marks_after = both.1.0; work_after = both.1.1 }
+    let L = admitted_laid A in
+    let both = asks_rest _ _ _ _ _ _ A (vertex_in L c.if-l-u.false) (vertex_in L c.if-l-v.false) (c.ask_laid-r.ensures.result_value, c.ask_laid-r.ensures.marks_after)
+        c.ask_laid-r.ensures.kept c.words_needed.ensures.0 c.clear_words.ensures in record {
+      result_value = both.0;
+      marks_after = both.1.0;
+      work_after = both.1.1;
+    }

@@ -16,10 +16,22 @@ admits : (a : In-Passed) → let s = a.args in
 admits a = record { passes = sym (ap header_outcome a.in-Passed.is) ∙ a.admit.ensures }
 
 pub returns-in-Refused : goal.returns-in-Refused
-returns-in-Refused c = let s = c.args in let both = all_refused _ _ _ s.marks.now _ (forms_taken s.least s.most) s.work.now (sym (ap header_outcome c.in-Refused.is) ∙ c.admit.ensures) in record { result_value = both.0; marks_after = both.1.0; work_after = both.1.1.0; answers_after = both.1.1.1 }
+returns-in-Refused c =
+    let s = c.args in
+    let both = all_refused _ _ _ s.marks.now _ (forms_taken s.least s.most) s.work.now (sym (ap header_outcome c.in-Refused.is) ∙ c.admit.ensures) in record {
+      result_value = both.0;
+      marks_after = both.1.0;
+      work_after = both.1.1.0;
+      answers_after = both.1.1.1;
+    }
 
 pub ask_laid-r-requires : goal.ask_laid-r-requires
-ask_laid-r-requires c = let A = admits (goal.at.ask_laid-r-requires c).In-Passed in record { laid = (admitted_laid A, admitted_room A); n_bound = (small A, admitted_words A); stride_value = admitted_triples A c.requires }
+ask_laid-r-requires c =
+    let A = admits (goal.at.ask_laid-r-requires c).In-Passed in record {
+      laid = (admitted_laid A, admitted_room A);
+      n_bound = (small A, admitted_words A);
+      stride_value = admitted_triples A c.requires;
+    }
 
 pub words_needed-requires : goal.words_needed-requires
 words_needed-requires c =
@@ -32,4 +44,11 @@ clear_words-requires c = omega (arith, c.words_needed.ensures.0, admitted_words 
 pub returns : goal.returns
 returns c =
     let e = c.ask_laid-r.ensures in
-    let s = c.args in let both = all_rest _ s.sources.now s.targets.now _ s.answers.now _ _ (admits (goal.at.returns c).In-Passed) (e.result_value, (e.marks_after, e.answers_after)) e.kept c.words_needed.ensures.0 c.clear_words.ensures in record { result_value = both.0; marks_after = both.1.0; work_after = both.1.1.0; answers_after = both.1.1.1 }
+    let s = c.args in
+    let both = all_rest _ s.sources.now s.targets.now _ s.answers.now _ _ (admits (goal.at.returns c).In-Passed) (e.result_value, (e.marks_after, e.answers_after)) e.kept
+        c.words_needed.ensures.0 c.clear_words.ensures in record {
+      result_value = both.0;
+      marks_after = both.1.0;
+      work_after = both.1.1.0;
+      answers_after = both.1.1.1;
+    }

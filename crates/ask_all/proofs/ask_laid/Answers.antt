@@ -16,21 +16,38 @@ contents_sound-requires c = record { laid = c.requires.laid.0; n_in_bounds = c.r
 pub returns-then-not-contents_sound : goal.returns-then-not-contents_sound
 returns-then-not-contents_sound c =
     let L = c.requires.laid.0 in
-    let (o, (m, a)) = replies_at _ c.args.sources.now c.args.targets.now _ c.args.answers.now L c.contents_sound.ensures.marks_after 0 (omega arith) (contents_applies L c.contents_sound.ensures.value ∙ (ap not c.if-not-contents_sound.true)) in record { result_value = o; marks_after = m; answers_after = a; kept = kept_same _ _ _ }
+    let (o, (m, a)) = replies_at _ c.args.sources.now c.args.targets.now _ c.args.answers.now L c.contents_sound.ensures.marks_after 0 (omega arith)
+        (contents_applies L c.contents_sound.ensures.value ∙ (ap not c.if-not-contents_sound.true)) in record {
+      result_value = o;
+      marks_after = m;
+      answers_after = a;
+      kept = kept_same _ _ _;
+    }
 
 pub returns-then-pairs-targets : goal.returns-then-pairs-targets
 returns-then-pairs-targets c =
     let L = c.requires.laid.0 in
     let (o, (m, a)) =
     replies_at _ c.args.sources.now c.args.targets.now _ c.args.answers.now L c.contents_sound.ensures.marks_after 1 (omega arith)
-    (contents_applies L c.contents_sound.ensures.value ∙ (ap not c.if-not-contents_sound.false), ap not (ne_eqb _ _ c.if-pairs-targets.true)) in record { result_value = o; marks_after = m; answers_after = a; kept = kept_same _ _ _ }
+    (contents_applies L c.contents_sound.ensures.value ∙ (ap not c.if-not-contents_sound.false), ap not (ne_eqb _ _ c.if-pairs-targets.true)) in record {
+      result_value = o;
+      marks_after = m;
+      answers_after = a;
+      kept = kept_same _ _ _;
+    }
 
 pub returns-then-answers-pairs : goal.returns-then-answers-pairs
 returns-then-answers-pairs c =
     let L = c.requires.laid.0 in
     let (o, (m, a)) =
     replies_at _ c.args.sources.now c.args.targets.now _ c.args.answers.now L c.contents_sound.ensures.marks_after 2 (omega arith)
-    (contents_applies L c.contents_sound.ensures.value ∙ (ap not c.if-not-contents_sound.false), (ap not (eq-eqb _ _ c.if-pairs-targets.false), lt-ltb _ _ (six_short _ _ c.if-answers-pairs.true))) in record { result_value = o; marks_after = m; answers_after = a; kept = kept_same _ _ _ }
+    (contents_applies L c.contents_sound.ensures.value ∙ (ap not c.if-not-contents_sound.false), (ap not (eq-eqb _ _ c.if-pairs-targets.false), lt-ltb _ _
+        (six_short _ _ c.if-answers-pairs.true))) in record {
+      result_value = o;
+      marks_after = m;
+      answers_after = a;
+      kept = kept_same _ _ _;
+    }
 
 pub ask_lent-requires : goal.ask_lent-requires
 ask_lent-requires c =
@@ -53,5 +70,6 @@ returns c =
     let f = c.ask_lent.ensures in
     let (o, (m, a)) =
     replies_answered _ c.args.sources.now c.args.targets.now _ c.args.answers.now L c.contents_sound.ensures.marks_after
-    (contents_applies L c.contents_sound.ensures.value ∙ (ap not c.if-not-contents_sound.false), (ap not (eq-eqb _ _ c.if-pairs-targets.false), (le-ltb _ _ (six_room _ _ c.if-answers-pairs.false), tt)))
+    (contents_applies L c.contents_sound.ensures.value ∙ (ap not c.if-not-contents_sound.false),
+        (ap not (eq-eqb _ _ c.if-pairs-targets.false), (le-ltb _ _ (six_room _ _ c.if-answers-pairs.false), tt)))
     f.marks_after f.answers_after in record { result_value = o; marks_after = m; answers_after = a; kept = f.kept }

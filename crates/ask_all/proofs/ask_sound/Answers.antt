@@ -43,9 +43,18 @@ pub slice_bounds-ask_pairs-end-2 : goal.slice_bounds-ask_pairs-end-2
 slice_bounds-ask_pairs-end-2 c = sym (ap length c.requires.sound_pairs.none ∙ length-replicate c.args.l.n 0)
 
 pub ask_pairs-requires : goal.ask_pairs-requires
-ask_pairs-requires c = let P = c.requires.sound_pairs in record { in_triples = record { lent = lent P.laid (six (goal.at.ask_pairs-requires c).After-labels) P.sound; triples = P.triples }; n_in_bounds = c.requires.n_in_bounds; marks_value = (P.none, (P.same, P.room)) }
+ask_pairs-requires c =
+    let P = c.requires.sound_pairs in record {
+      in_triples = record { lent = lent P.laid (six (goal.at.ask_pairs-requires c).After-labels) P.sound; triples = P.triples };
+      n_in_bounds = c.requires.n_in_bounds;
+      marks_value = (P.none, (P.same, P.room));
+    }
 
 pub returns : goal.returns
 returns c =
     let is = index_at_lem c.requires.sound_pairs.laid (six (goal.at.returns c).After-labels) in
-    let e = c.ask_pairs.ensures in record { marks_after = marks_is c.args.l.n _ _ _ _ _ _ _ e.marks_after is; answers_after = answers_is c.args.l.n _ _ _ _ _ _ _ e.answers_after is; kept = e.kept }
+    let e = c.ask_pairs.ensures in record {
+      marks_after = marks_is c.args.l.n _ _ _ _ _ _ _ e.marks_after is;
+      answers_after = answers_is c.args.l.n _ _ _ _ _ _ _ e.answers_after is;
+      kept = e.kept;
+    }

@@ -101,7 +101,10 @@ next_reply-a-requires c =
     let R = c.requires.ready in
     let A = c.loop-i.invariant.0 in
     let x = (word (goal.at.next_reply-a-requires c).At-loop-i _ c.if-n-u.false).1 in
-    let t = (word (goal.at.next_reply-a-requires c).At-loop-i _ c.if-n-v.false).1 in record { fit = rw (A.long, t) (R.fit _ (R.low _ c.if-n-v.false)); x_lt_k = (rw x (R.low _ c.if-n-u.false), (omega (arith, A.long, R.few), (A.under, rw A.long (omega (arith, c.loop-i.invariant.1.long, c.requires.n_in_bounds))))) }
+    let t = (word (goal.at.next_reply-a-requires c).At-loop-i _ c.if-n-v.false).1 in record {
+      fit = rw (A.long, t) (R.fit _ (R.low _ c.if-n-v.false));
+      x_lt_k = (rw x (R.low _ c.if-n-u.false), (omega (arith, A.long, R.few), (A.under, rw A.long (omega (arith, c.loop-i.invariant.1.long, c.requires.n_in_bounds)))));
+    }
 
 pub put_reply-requires : goal.put_reply-requires
 put_reply-requires c = room (goal.at.put_reply-requires c).At-loop-i c.loop-i-test.true
@@ -116,7 +119,8 @@ loop-i-preserved c =
     let x = (word (goal.at.loop-i-preserved c).At-loop-i _ c.if-n-u.false).1 in
     let t = (word (goal.at.loop-i-preserved c).At-loop-i _ c.if-n-v.false).1 in (
       asking_answer _ _ _ _ _ A c.requires.marks_value.1.1 c.loop-i-test.true _ _ refl refl c.if-n-u.false c.if-n-v.false c.next_reply-a.result.reply _ _ _
-          (e.marks_after ∙ λ i. between (index (goal.at.loop-i-preserved c).Start) (x i) (t i) (replicate (A.long i) 0)) e.under (c.next_reply-a.auto.marks ∙ A.long) c.put_reply.ensures,
+          (e.marks_after ∙ λ i. between (index (goal.at.loop-i-preserved c).Start) (x i) (t i) (replicate (A.long i) 0)) e.under (c.next_reply-a.auto.marks ∙ A.long)
+              c.put_reply.ensures,
       kept_then c.loop-i.invariant.1 (rw A.long at e.kept),
     )
 

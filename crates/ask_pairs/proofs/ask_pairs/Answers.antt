@@ -50,9 +50,17 @@ pub lay_out-requires : goal.lay_out-requires
 lay_out-requires c = let S = c.requires.in_triples.lent in (listed S, (named S, omega (arith, room (goal.at.lay_out-requires c).After-stack_words-base)))
 
 pub ask_each-last-requires : goal.ask_each-last-requires
-ask_each-last-requires c = record { ready = ready c.requires.in_triples (table (goal.at.ask_each-last-requires c).After-lay_out); n_in_bounds = omega (arith, (words (goal.at.ask_each-last-requires c).After-lay_out).long, c.requires.n_in_bounds); marks_value = c.requires.marks_value }
+ask_each-last-requires c = record {
+  ready = ready c.requires.in_triples (table (goal.at.ask_each-last-requires c).After-lay_out);
+  n_in_bounds = omega (arith, (words (goal.at.ask_each-last-requires c).After-lay_out).long, c.requires.n_in_bounds);
+  marks_value = c.requires.marks_value;
+}
 
 pub returns : goal.returns
 returns c =
     let same = answers_same c.requires.in_triples (table (goal.at.returns c).After-lay_out) in
-    let e = c.ask_each-last.ensures in record { answers_after = e.answers_after ∙ ap (put c.args.answers.now 0) (sixes_same _ _ _ same _ _ _); marks_after = c.settle.ensures ∙ e.marks_after ∙ marks_same _ _ _ same _ _ _; kept = kept_then (words (goal.at.returns c).After-lay_out) (kept_wider 0 _ (omega arith) (omega arith) e.kept) }
+    let e = c.ask_each-last.ensures in record {
+      answers_after = e.answers_after ∙ ap (put c.args.answers.now 0) (sixes_same _ _ _ same _ _ _);
+      marks_after = c.settle.ensures ∙ e.marks_after ∙ marks_same _ _ _ same _ _ _;
+      kept = kept_then (words (goal.at.returns c).After-lay_out) (kept_wider 0 _ (omega arith) (omega arith) e.kept);
+    }

@@ -14,7 +14,17 @@ pub copy_numbers-requires : goal.copy_numbers-requires
 copy_numbers-requires c =
     let T = c.requires.turns in
     let low = c.requires.i_bound.0 in
-    let held = c.size-size.ensures in record { width = turned_width T; width_2 = T.sound.laid.width; count_in_bounds = (section_room T _ low (placed (goal.at.copy_numbers-requires c).After-section-from) held c.requires.i_bound.1, section_held T _ low (placed (goal.at.copy_numbers-requires c).After-section-from) held c.section-from.ensures) }
+    let held = c.size-size.ensures in record {
+      width = turned_width T;
+      width_2 = T.sound.laid.width;
+      count_in_bounds = (
+        section_room T _ low (placed (goal.at.copy_numbers-requires c).After-section-from) held c.requires.i_bound.1,
+        section_held T _ low (placed
+            (goal.at.copy_numbers-requires c).After-section-from) held c.section-from.ensures,
+      );
+    }
 
 pub returns : goal.returns
-returns c = section_copied c.requires.turns _ c.requires.i_bound.0 (placed (goal.at.returns c).After-section-from) c.size-size.ensures c.section-from.ensures _ c.copy_numbers.ensures
+returns c =
+    section_copied c.requires.turns _ c.requires.i_bound.0 (placed (goal.at.returns c).After-section-from) c.size-size.ensures c.section-from.ensures _
+    c.copy_numbers.ensures

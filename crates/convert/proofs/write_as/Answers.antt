@@ -16,7 +16,8 @@ pub loop-i-init : goal.loop-i-init
 loop-i-init c = (omega arith, (omega arith, refl))
 
 pub copy_section-requires : goal.copy_section-requires
-copy_section-requires c = let p = c.requires in record { turns = p.turns; i_bound = (omega arith, omega (arith, long (goal.at.copy_section-requires c).In-loop-i, p.total_in_bounds)) }
+copy_section-requires c =
+    let p = c.requires in record { turns = p.turns; i_bound = (omega arith, omega (arith, long (goal.at.copy_section-requires c).In-loop-i, p.total_in_bounds)) }
 
 pub loop-i-preserved : goal.loop-i-preserved
 loop-i-preserved c =

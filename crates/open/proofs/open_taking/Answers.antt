@@ -15,7 +15,13 @@ admits : (a : In-Passed) → let s = a.args in
 admits a = record { passes = sym (ap header_outcome a.in-Passed.is) ∙ a.admit.ensures }
 
 pub returns-in-Refused : goal.returns-in-Refused
-returns-in-Refused c = let s = c.args in let both = opens_refused (forms_taken s.least s.most) _ s.marks.now s.work.now (sym (ap header_outcome c.in-Refused.is) ∙ c.admit.ensures) in record { result_value = both.0; marks_after = both.1.0; work_after = both.1.1 }
+returns-in-Refused c =
+    let s = c.args in
+    let both = opens_refused (forms_taken s.least s.most) _ s.marks.now s.work.now (sym (ap header_outcome c.in-Refused.is) ∙ c.admit.ensures) in record {
+      result_value = both.0;
+      marks_after = both.1.0;
+      work_after = both.1.1;
+    }
 
 pub words_needed-requires : goal.words_needed-requires
 words_needed-requires c = let L = admitted_laid (admits (goal.at.words_needed-requires c).In-Passed) in (L.vertices, (L.groups, L.entries))
@@ -27,7 +33,13 @@ pub contents_sound-requires : goal.contents_sound-requires
 contents_sound-requires c = let A = admits (goal.at.contents_sound-requires c).In-Passed in record { laid = admitted_laid A; n_in_bounds = admitted_room A }
 
 pub returns-then-not-contents_sound : goal.returns-then-not-contents_sound
-returns-then-not-contents_sound c = let both = opens_unsound _ _ _ _ (admits (goal.at.returns-then-not-contents_sound c).In-Passed) c.contents_sound.ensures.value c.contents_sound.ensures.marks_after c.words_needed.ensures.0 c.clear_words.ensures (ap not c.if-not-contents_sound.true) in record { result_value = both.0; marks_after = both.1.0; work_after = both.1.1 }
+returns-then-not-contents_sound c =
+    let both = opens_unsound _ _ _ _ (admits (goal.at.returns-then-not-contents_sound c).In-Passed) c.contents_sound.ensures.value c.contents_sound.ensures.marks_after
+        c.words_needed.ensures.0 c.clear_words.ensures (ap not c.if-not-contents_sound.true) in record {
+      result_value = both.0;
+      marks_after = both.1.0;
+      work_after = both.1.1;
+    }
 
 pub overflow_cast-result : goal.overflow_cast-result
 overflow_cast-result c = omega (arith, admitted_laid (admits (goal.at.overflow_cast-result c).In-Passed))
@@ -42,4 +54,10 @@ pub overflow_cast-result-4 : goal.overflow_cast-result-4
 overflow_cast-result-4 c = omega (arith, admitted_laid (admits (goal.at.overflow_cast-result-4 c).In-Passed))
 
 pub returns : goal.returns
-returns c = let both = opens_sound _ _ _ _ (admits (goal.at.returns c).In-Passed) c.contents_sound.ensures.value c.contents_sound.ensures.marks_after c.words_needed.ensures.0 c.clear_words.ensures (ap not c.if-not-contents_sound.false) in record { result_value = both.0; marks_after = both.1.0; work_after = both.1.1 }
+returns c =
+    let both = opens_sound _ _ _ _ (admits (goal.at.returns c).In-Passed) c.contents_sound.ensures.value c.contents_sound.ensures.marks_after c.words_needed.ensures.0
+        c.clear_words.ensures (ap not c.if-not-contents_sound.false) in record {
+      result_value = both.0;
+      marks_after = both.1.0;
+      work_after = both.1.1;
+    }

@@ -11,13 +11,19 @@ pub numbers_from-entries-requires : goal.numbers_from-entries-requires
 numbers_from-entries-requires c = record { width = c.requires.places.entries.held.width; count_bound = row_fits c.requires.places c.row_span-row.ensures }
 
 pub count_below-at-requires : goal.count_below-at-requires
-count_below-at-requires c = record { width = c.requires.places.entries.held.width; k_in_bounds = omega (arith, c.numbers_from-entries.ensures.long); rises = row_rises c.requires.places c.row_span-row.ensures c.numbers_from-entries.ensures; low_bound = (omega arith, (count_most _ _ _ _, omega arith)) }
+count_below-at-requires c = record {
+  width = c.requires.places.entries.held.width;
+  k_in_bounds = omega (arith, c.numbers_from-entries.ensures.long);
+  rises = row_rises c.requires.places c.row_span-row.ensures c.numbers_from-entries.ensures;
+  low_bound = (omega arith, (count_most _ _ _ _, omega arith));
+}
 
 pub returns-then-len-at : goal.returns-then-len-at
 returns-then-len-at c = child_none c.requires.places c.row_span-row.ensures c.numbers_from-entries.ensures _ c.count_below-at.ensures c.if-len-at.true
 
 pub num-requires : goal.num-requires
-num-requires c = record { width = c.requires.places.entries.held.width; w_in_bounds = room _ _ _ _ c.if-len-at.false (omega (arith, c.numbers_from-entries.ensures.long)) }
+num-requires c =
+    record { width = c.requires.places.entries.held.width; w_in_bounds = room _ _ _ _ c.if-len-at.false (omega (arith, c.numbers_from-entries.ensures.long)) }
 
 pub returns : goal.returns
 returns c = child_at c.requires.places c.row_span-row.ensures c.numbers_from-entries.ensures _ c.count_below-at.ensures c.if-len-at.false c.num.ensures.0

@@ -20,7 +20,8 @@ returns-then-not-names_pass c =
     (and_fails c.names_pass.ensures _ (ap not c.if-not-names_pass.true) ∙ groups_is _ _ _ _ _ _ _ _ _)
 
 pub rows_pass-requires : goal.rows_pass-requires
-rows_pass-requires c = let G = c.requires in record { children = children_after G (told_true c.starts_pass.ensures (ap not c.if-not-starts_pass.false)); holds = G.levels_held }
+rows_pass-requires c =
+    let G = c.requires in record { children = children_after G (told_true c.starts_pass.ensures (ap not c.if-not-starts_pass.false)); holds = G.levels_held }
 
 pub returns : goal.returns
 returns c =

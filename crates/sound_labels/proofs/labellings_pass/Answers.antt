@@ -10,7 +10,8 @@ pub labelling_passes-requires : goal.labelling_passes-requires
 labelling_passes-requires c = record { places = c.requires.places; labellings = c.requires.labellings; tells = c.requires.tells; j_lt_d = omega arith }
 
 pub returns-then-not-labelling_passes : goal.returns-then-not-labelling_passes
-returns-then-not-labelling_passes c = passed_not c.loop-j.invariant c.loop-j-test.true c.labelling_passes.ensures (ap not c.if-not-labelling_passes.true) ∙ labellings_are _ _ _ _ _ _
+returns-then-not-labelling_passes c =
+    passed_not c.loop-j.invariant c.loop-j-test.true c.labelling_passes.ensures (ap not c.if-not-labelling_passes.true) ∙ labellings_are _ _ _ _ _ _
 
 pub loop-j-preserved : goal.loop-j-preserved
 loop-j-preserved c = passed_more c.loop-j.invariant c.loop-j-test.true c.labelling_passes.ensures (ap not c.if-not-labelling_passes.false)

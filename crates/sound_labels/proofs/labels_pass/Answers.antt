@@ -21,7 +21,8 @@ pub returns-then-not-ranks_pass : goal.returns-then-not-ranks_pass
 returns-then-not-ranks_pass c = told_at _ _ _ _ _ _ _ c.if-z-eq3.true (and_fails c.ranks_pass.ensures _ (ap not c.if-not-ranks_pass.true) ∙ labels_is _ _ _ _ _ _ _ _)
 
 pub intervals_pass-requires : goal.intervals_pass-requires
-intervals_pass-requires c = record { places = c.requires.places; ranked = ranked_after (labels_at c.if-z-eq3.true c.requires.labels) c.ranks_pass.ensures (ap not c.if-not-ranks_pass.false) }
+intervals_pass-requires c =
+    record { places = c.requires.places; ranked = ranked_after (labels_at c.if-z-eq3.true c.requires.labels) c.ranks_pass.ensures (ap not c.if-not-ranks_pass.false) }
 
 pub returns-then-not-intervals_pass : goal.returns-then-not-intervals_pass
 returns-then-not-intervals_pass c =
@@ -31,7 +32,10 @@ returns-then-not-intervals_pass c =
     ∙ labels_is _ _ _ _ _ _ _ _)
 
 pub roots_pass-requires : goal.roots_pass-requires
-roots_pass-requires c = record { ranked = ranked_after (labels_at c.if-z-eq3.true c.requires.labels) c.ranks_pass.ensures (ap not c.if-not-ranks_pass.false); k_in_bounds = c.requires.tells.long }
+roots_pass-requires c = record {
+  ranked = ranked_after (labels_at c.if-z-eq3.true c.requires.labels) c.ranks_pass.ensures (ap not c.if-not-ranks_pass.false);
+  k_in_bounds = c.requires.tells.long;
+}
 
 pub returns-then-z-eq3 : goal.returns-then-z-eq3
 returns-then-z-eq3 c =
@@ -45,10 +49,16 @@ pub ranks_pass-requires-2 : goal.ranks_pass-requires-2
 ranks_pass-requires-2 c = labels_at (pairs (goal.at.ranks_pass-requires-2 c).Else-z-eq3) c.requires.labels
 
 pub returns-then-not-ranks_pass-2 : goal.returns-then-not-ranks_pass-2
-returns-then-not-ranks_pass-2 c = told_at _ _ _ _ _ _ _ (pairs (goal.at.returns-then-not-ranks_pass-2 c).Else-z-eq3) (and_fails c.ranks_pass-2.ensures _ (ap not c.if-not-ranks_pass-2.true) ∙ labels_is _ _ _ _ _ _ _ _)
+returns-then-not-ranks_pass-2 c =
+    told_at _ _ _ _ _ _ _ (pairs (goal.at.returns-then-not-ranks_pass-2 c).Else-z-eq3)
+        (and_fails c.ranks_pass-2.ensures _ (ap not c.if-not-ranks_pass-2.true) ∙ labels_is _ _ _ _ _ _ _ _)
 
 pub intervals_pass-requires-2 : goal.intervals_pass-requires-2
-intervals_pass-requires-2 c = record { places = c.requires.places; ranked = ranked_after (labels_at (pairs (goal.at.intervals_pass-requires-2 c).Else-z-eq3) c.requires.labels) c.ranks_pass-2.ensures (ap not c.if-not-ranks_pass-2.false) }
+intervals_pass-requires-2 c = record {
+  places = c.requires.places;
+  ranked = ranked_after (labels_at (pairs (goal.at.intervals_pass-requires-2 c).Else-z-eq3) c.requires.labels) c.ranks_pass-2.ensures
+      (ap not c.if-not-ranks_pass-2.false);
+}
 
 pub returns-then-not-intervals_pass-2 : goal.returns-then-not-intervals_pass-2
 returns-then-not-intervals_pass-2 c =
@@ -58,7 +68,11 @@ returns-then-not-intervals_pass-2 c =
     ∙ labels_is _ _ _ _ _ _ _ _)
 
 pub roots_pass-requires-2 : goal.roots_pass-requires-2
-roots_pass-requires-2 c = record { ranked = ranked_after (labels_at (pairs (goal.at.roots_pass-requires-2 c).Else-z-eq3) c.requires.labels) c.ranks_pass-2.ensures (ap not c.if-not-ranks_pass-2.false); k_in_bounds = c.requires.tells.long }
+roots_pass-requires-2 c = record {
+  ranked = ranked_after (labels_at (pairs (goal.at.roots_pass-requires-2 c).Else-z-eq3) c.requires.labels) c.ranks_pass-2.ensures
+      (ap not c.if-not-ranks_pass-2.false);
+  k_in_bounds = c.requires.tells.long;
+}
 
 pub returns : goal.returns
 returns c =

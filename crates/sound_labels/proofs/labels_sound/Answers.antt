@@ -10,7 +10,15 @@ pub parents_pass-single-requires : goal.parents_pass-single-requires
 parents_pass-single-requires c = record { within = record { held = c.requires.places.entries.held; low = entry_low c.requires.places }; k_le_n = c.requires.k_le_n }
 
 pub labellings_pass-passed-requires : goal.labellings_pass-passed-requires
-labellings_pass-passed-requires c = record { places = c.requires.places; labellings = c.requires.labellings; tells = tells c.requires.places c.args.z c.args.marks.now c.requires.k_le_n.0 c.requires.k_le_n.1 c.parents_pass-single.ensures.marks_after }
+labellings_pass-passed-requires c = record {
+  places = c.requires.places;
+  labellings = c.requires.labellings;
+  tells = tells c.requires.places c.args.z c.args.marks.now c.requires.k_le_n.0 c.requires.k_le_n.1 c.parents_pass-single.ensures.marks_after;
+}
 
 pub returns : goal.returns
-returns c = record { value = ap₂ ◌&&◌ c.labellings_pass-passed.ensures (c.parents_pass-single.ensures.value ∙ single_is c.requires.places c.args.z); marks_after = told_cleared c.requires.places c.args.z c.args.marks.now c.requires.k_le_n.0 c.requires.k_le_n.1 c.parents_pass-single.ensures.marks_after c.clear_marks.ensures }
+returns c = record {
+  value = ap₂ ◌&&◌ c.labellings_pass-passed.ensures (c.parents_pass-single.ensures.value ∙ single_is c.requires.places c.args.z);
+  marks_after = told_cleared c.requires.places c.args.z c.args.marks.now c.requires.k_le_n.0 c.requires.k_le_n.1 c.parents_pass-single.ensures.marks_after
+      c.clear_marks.ensures;
+}

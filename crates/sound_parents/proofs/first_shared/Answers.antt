@@ -10,4 +10,9 @@ count_children-requires c =
     record { held = W.held; low = λ j h. omega (arith, W.low j h) }
 
 pub returns : goal.returns
-returns c = let entries = numbers c.args.w c.args.children.now c.args.c in record { value = twice_found entries _ c.args.k _ c.clear_marks.ensures c.count_children.ensures c.requires.k_le_n.0 c.requires.k_le_n.1 c.first_twice-first.ensures; marks_after = counted_left entries _ c.args.k _ c.clear_marks.ensures c.count_children.ensures c.requires.k_le_n.0 (within_low c.requires.within) c.clear_marks-2.ensures }
+returns c =
+    let entries = numbers c.args.w c.args.children.now c.args.c in record {
+      value = twice_found entries _ c.args.k _ c.clear_marks.ensures c.count_children.ensures c.requires.k_le_n.0 c.requires.k_le_n.1 c.first_twice-first.ensures;
+      marks_after = counted_left entries _ c.args.k _ c.clear_marks.ensures c.count_children.ensures c.requires.k_le_n.0 (within_low c.requires.within)
+          c.clear_marks-2.ensures;
+    }

@@ -13,7 +13,10 @@ count_children-requires c =
 pub returns-then-z-eq2 : goal.returns-then-z-eq2
 returns-then-z-eq2 c =
     let entries = numbers c.args.w c.args.children.now c.args.c in
-    let cleared = c.clear_marks.ensures in record { value = pairs_pass entries _ c.args.k _ cleared c.count_children.ensures c.if-z-eq2.true c.requires.k_le_n.0 c.requires.k_le_n.1 c.first_twice.ensures; marks_after = pairs_told entries _ c.args.k _ cleared c.count_children.ensures c.if-z-eq2.true }
+    let cleared = c.clear_marks.ensures in record {
+      value = pairs_pass entries _ c.args.k _ cleared c.count_children.ensures c.if-z-eq2.true c.requires.k_le_n.0 c.requires.k_le_n.1 c.first_twice.ensures;
+      marks_after = pairs_told entries _ c.args.k _ cleared c.count_children.ensures c.if-z-eq2.true;
+    }
 
 pub mark_children-requires : goal.mark_children-requires
 mark_children-requires c =
@@ -21,4 +24,8 @@ mark_children-requires c =
     record { held = W.held; low = λ j h. omega (arith, W.low j h) }
 
 pub returns : goal.returns
-returns c = let entries = numbers c.args.w c.args.children.now c.args.c in record { value = triples_pass entries c.if-z-eq2.false c.args.k; marks_after = triples_told entries c.if-z-eq2.false _ _ c.clear_marks.ensures c.mark_children.ensures }
+returns c =
+    let entries = numbers c.args.w c.args.children.now c.args.c in record {
+      value = triples_pass entries c.if-z-eq2.false c.args.k;
+      marks_after = triples_told entries c.if-z-eq2.false _ _ c.clear_marks.ensures c.mark_children.ensures;
+    }

@@ -26,13 +26,16 @@ pub num-q-requires : goal.num-q-requires
 num-q-requires c = can_read_child c.requires.labelled_rows.below.entries c.row_span-row.ensures c.loop-i-test.true
 
 pub e_of-requires : goal.e_of-requires
-e_of-requires c = let L = c.requires.labelled_rows in record { tuples = L.tuples_held; p_lt_k = child_low L.below c.row_span-row.ensures c.loop-i-test.true c.num-q.ensures.0 }
+e_of-requires c =
+    let L = c.requires.labelled_rows in record { tuples = L.tuples_held; p_lt_k = child_low L.below c.row_span-row.ensures c.loop-i-test.true c.num-q.ensures.0 }
 
 pub returns-then-top-e_of : goal.returns-then-top-e_of
-returns-then-top-e_of c = falls_not c.requires.labelled_rows c.row_span-row.ensures c.loop-i-test.true c.num-q.ensures.0 c.e_of.ensures.0 c.e_of-top.ensures.0 _ c.if-top-e_of.true
+returns-then-top-e_of c =
+    falls_not c.requires.labelled_rows c.row_span-row.ensures c.loop-i-test.true c.num-q.ensures.0 c.e_of.ensures.0 c.e_of-top.ensures.0 _ c.if-top-e_of.true
 
 pub s_of-requires : goal.s_of-requires
-s_of-requires c = let L = c.requires.labelled_rows in record { tuples = L.tuples_held; p_lt_k = child_low L.below c.row_span-row.ensures c.loop-i-test.true c.num-q.ensures.0 }
+s_of-requires c =
+    let L = c.requires.labelled_rows in record { tuples = L.tuples_held; p_lt_k = child_low L.below c.row_span-row.ensures c.loop-i-test.true c.num-q.ensures.0 }
 
 pub loop-i-preserved : goal.loop-i-preserved
 loop-i-preserved c =

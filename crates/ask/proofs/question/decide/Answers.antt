@@ -28,7 +28,12 @@ under : (s : Start) → Under (s.args.stamp + 1) s.args.marks.now
 under s = under_more s.args.stamp (s.args.stamp + 1) s.args.marks.now (omega arith) s.requires.x_lt_k.1.1.0
 
 pub returns-then-x-t : goal.returns-then-x-t
-returns-then-x-t c = record { marks_after = rule_1 c.requires.fit c.args.x (marks (goal.at.returns-then-x-t c).Start) c.plain.result c.plain.ensures c.if-x-t.true; under = under (goal.at.returns-then-x-t c).Start; marks_unchanged = (λ e. refl); kept = kept_same _ _ _ }
+returns-then-x-t c = record {
+  marks_after = rule_1 c.requires.fit c.args.x (marks (goal.at.returns-then-x-t c).Start) c.plain.result c.plain.ensures c.if-x-t.true;
+  under = under (goal.at.returns-then-x-t c).Start;
+  marks_unchanged = (λ e. refl);
+  kept = kept_same _ _ _;
+}
 
 pub num-level-requires : goal.num-level-requires
 num-level-requires c = record { width = c.requires.fit.labelled.width; w_in_bounds = room _ _ _ _ c.requires.x_lt_k.0 c.requires.fit.levels_long }
@@ -37,14 +42,14 @@ pub num-requires : goal.num-requires
 num-requires c = record { width = c.requires.fit.labelled.width; w_in_bounds = room _ _ _ _ c.requires.fit.target_low c.requires.fit.levels_long }
 
 pub returns-then-level-num : goal.returns-then-level-num
-returns-then-level-num c =
-    record {
-      marks_after = rule_3 c.requires.fit c.args.x (marks (goal.at.returns-then-level-num c).Start) c.plain-then-level-num.result c.if-x-t.false c.requires.x_lt_k.0 _ _ c.num-level.ensures.0 c.num.ensures.0
-          c.plain-then-level-num.ensures c.if-level-num.true;
-      under = under (goal.at.returns-then-level-num c).Start;
-      marks_unchanged = (λ e. refl);
-      kept = kept_same _ _ _;
-    }
+returns-then-level-num c = record {
+  marks_after = rule_3 c.requires.fit c.args.x (marks (goal.at.returns-then-level-num c).Start) c.plain-then-level-num.result c.if-x-t.false c.requires.x_lt_k.0 _ _
+      c.num-level.ensures.0 c.num.ensures.0
+      c.plain-then-level-num.ensures c.if-level-num.true;
+  under = under (goal.at.returns-then-level-num c).Start;
+  marks_unchanged = (λ e. refl);
+  kept = kept_same _ _ _;
+}
 
 pub plain-requires-then-j-gt0 : goal.plain-requires-then-j-gt0
 plain-requires-then-j-gt0 c =
@@ -55,14 +60,14 @@ plain-requires-then-j-gt0 c =
     )
 
 pub returns-then-j-gt0 : goal.returns-then-j-gt0
-returns-then-j-gt0 c =
-    record {
-      marks_after = rule_2 c.requires.fit c.args.x (marks (goal.at.returns-then-j-gt0 c).Start) c.plain-then-j-gt0.result c.if-x-t.false c.requires.x_lt_k.0 _ _ c.num-level.ensures.0 c.num.ensures.0
-          c.if-level-num.false c.judge-j.ensures c.plain-then-j-gt0.ensures c.if-j-gt0.true;
-      under = under (goal.at.returns-then-j-gt0 c).Start;
-      marks_unchanged = (λ e. refl);
-      kept = kept_same _ _ _;
-    }
+returns-then-j-gt0 c = record {
+  marks_after = rule_2 c.requires.fit c.args.x (marks (goal.at.returns-then-j-gt0 c).Start) c.plain-then-j-gt0.result c.if-x-t.false c.requires.x_lt_k.0 _ _
+      c.num-level.ensures.0 c.num.ensures.0
+      c.if-level-num.false c.judge-j.ensures c.plain-then-j-gt0.ensures c.if-j-gt0.true;
+  under = under (goal.at.returns-then-j-gt0 c).Start;
+  marks_unchanged = (λ e. refl);
+  kept = kept_same _ _ _;
+}
 
 pub plain-requires-then-j-gt0-2 : goal.plain-requires-then-j-gt0-2
 plain-requires-then-j-gt0-2 c =
@@ -73,14 +78,14 @@ plain-requires-then-j-gt0-2 c =
     )
 
 pub returns-then-j-gt0-2 : goal.returns-then-j-gt0-2
-returns-then-j-gt0-2 c =
-    record {
-      marks_after = rule_4 c.requires.fit c.args.x (marks (goal.at.returns-then-j-gt0-2 c).Start) c.plain-then-j-gt0-2.result c.if-x-t.false c.requires.x_lt_k.0 _ _ c.num-level.ensures.0 c.num.ensures.0
-          c.if-level-num.false c.judge-j.ensures c.plain-then-j-gt0-2.ensures c.if-j-gt0-2.true;
-      under = under (goal.at.returns-then-j-gt0-2 c).Start;
-      marks_unchanged = (λ e. refl);
-      kept = kept_same _ _ _;
-    }
+returns-then-j-gt0-2 c = record {
+  marks_after = rule_4 c.requires.fit c.args.x (marks (goal.at.returns-then-j-gt0-2 c).Start) c.plain-then-j-gt0-2.result c.if-x-t.false c.requires.x_lt_k.0 _ _
+      c.num-level.ensures.0 c.num.ensures.0
+      c.if-level-num.false c.judge-j.ensures c.plain-then-j-gt0-2.ensures c.if-j-gt0-2.true;
+  under = under (goal.at.returns-then-j-gt0-2 c).Start;
+  marks_unchanged = (λ e. refl);
+  kept = kept_same _ _ _;
+}
 
 pub walk_from-a-requires : goal.walk_from-a-requires
 walk_from-a-requires c =
@@ -103,7 +108,8 @@ by_walk-requires c =
       walk_deciding c.requires.fit _ _ (marks (goal.at.by_walk-requires c).Start) r.result.found r.result.deciding r.result.opened _ r.ensures.marks_after,
       omega (
         arith,
-        walk_opened c.requires.fit _ c.args.x (marks (goal.at.by_walk-requires c).Start) r.result.found r.result.deciding r.result.opened _ r.ensures.marks_after c.requires.x_lt_k.0
+        walk_opened c.requires.fit _ c.args.x (marks (goal.at.by_walk-requires c).Start) r.result.found r.result.deciding r.result.opened _ r.ensures.marks_after
+            c.requires.x_lt_k.0
             (seen_long _ c.args.marks.now) (seen_other _ _ _ (c.requires.fit.name_low c.args.x c.requires.x_lt_k.0) (new_free _ _ c.requires.x_lt_k.1.1.0 _)),
         c.requires.x_lt_k.1.0,
       ),
@@ -113,7 +119,8 @@ pub returns : goal.returns
 returns c =
     let r = c.walk_from-a in
     let opens = walk_opens c.requires.fit _ c.args.x (marks (goal.at.returns c).Start) r.result.found r.result.deciding r.result.opened _ r.ensures.marks_after in record {
-      marks_after = rule_5_6 c.requires.fit c.args.x (marks (goal.at.returns c).Start) c.by_walk.result c.if-x-t.false c.requires.x_lt_k.0 _ _ c.num-level.ensures.0 c.num.ensures.0
+      marks_after = rule_5_6 c.requires.fit c.args.x (marks (goal.at.returns c).Start) c.by_walk.result c.if-x-t.false c.requires.x_lt_k.0 _ _ c.num-level.ensures.0
+          c.num.ensures.0
           c.if-level-num.false c.judge-j.ensures c.if-j-gt0.false c.if-j-gt0-2.false _ _ _ _ r.ensures.marks_after c.by_walk.ensures;
       under = r.ensures.under;
       marks_unchanged = (λ z. absurd (omega (arith, opens, z, ap (λ (q : Reply). q.opened) c.by_walk.ensures)));

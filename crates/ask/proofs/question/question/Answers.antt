@@ -13,20 +13,37 @@ pub num-requires : goal.num-requires
 num-requires c = let S = c.requires.in_triples.lent in record { width = S.width; w_in_bounds = room _ _ _ _ c.requires.u_lt_n.0 (omega (arith, S.names_long)) }
 
 pub place_of-x-requires : goal.place_of-x-requires
-place_of-x-requires c = let S = c.requires.in_triples.lent in record { width = S.width; k_in_bounds = (omega (arith, S.groups_long), S.groups_few); rises = list_rises S; by_index = list_low S; k_value = name_listed S c.requires.u_lt_n.0 c.num.ensures.0 }
+place_of-x-requires c =
+    let S = c.requires.in_triples.lent in record {
+      width = S.width;
+      k_in_bounds = (omega (arith, S.groups_long), S.groups_few);
+      rises = list_rises S;
+      by_index = list_low S;
+      k_value = name_listed S c.requires.u_lt_n.0 c.num.ensures.0;
+    }
 
 pub num-requires-2 : goal.num-requires-2
 num-requires-2 c = let S = c.requires.in_triples.lent in record { width = S.width; w_in_bounds = room _ _ _ _ c.requires.u_lt_n.1.0 (omega (arith, S.names_long)) }
 
 pub place_of-t-requires : goal.place_of-t-requires
-place_of-t-requires c = let S = c.requires.in_triples.lent in record { width = S.width; k_in_bounds = (omega (arith, S.groups_long), S.groups_few); rises = list_rises S; by_index = list_low S; k_value = name_listed S c.requires.u_lt_n.1.0 c.num-2.ensures.0 }
+place_of-t-requires c =
+    let S = c.requires.in_triples.lent in record {
+      width = S.width;
+      k_in_bounds = (omega (arith, S.groups_long), S.groups_few);
+      rises = list_rises S;
+      by_index = list_low S;
+      k_value = name_listed S c.requires.u_lt_n.1.0 c.num-2.ensures.0;
+    }
 
 pub decide-requires : goal.decide-requires
 decide-requires c =
     let S = c.requires.in_triples.lent in
     let long = c.requires.u_lt_n.1.1.0 in
     let x_low = vertex_low S c.requires.u_lt_n.0 c.num.ensures.0 c.place_of-x.ensures in
-    let t-low = vertex_low S c.requires.u_lt_n.1.0 c.num-2.ensures.0 c.place_of-t.ensures in record { fit = fit_marks c.requires.in_triples c.args.marks.now long _ t-low; x_lt_k = (x_low, (marks_few c.requires.in_triples c.args.marks.now long, (c.requires.u_lt_n.1.1.1.0, rw long c.requires.u_lt_n.1.1.1.1))) }
+    let t-low = vertex_low S c.requires.u_lt_n.1.0 c.num-2.ensures.0 c.place_of-t.ensures in record {
+      fit = fit_marks c.requires.in_triples c.args.marks.now long _ t-low;
+      x_lt_k = (x_low, (marks_few c.requires.in_triples c.args.marks.now long, (c.requires.u_lt_n.1.1.1.0, rw long c.requires.u_lt_n.1.1.1.1)));
+    }
 
 pub returns : goal.returns
 returns c =
