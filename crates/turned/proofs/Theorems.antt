@@ -5,15 +5,14 @@ use mathlib.Core.Logic.Iff
 use mathlib.Core.Logic.{◌↔◌}
 use mathlib.Core.Path.{◌≡◌, refl, sym, ap, subst, ◌∙◌}
 use mathlib.Core.List.{List}
-use Prim.Native.Nat.{ℕ, ◌≤◌, ◌<◌}
-use native.Mathlib.Omega.{arith}
+use Prim.Native.Nat.{ℕ, ◌≤◌}
 use lib.ListN.{length, take}
 use Rattle.lineage.specs.Lists.{among, Every}
 use Rattle.lineage.specs.Graph.{Graph, turned_graph, Ends, Reaches}
 use Rattle.lineage.specs.Labels.{Order}
 use Rattle.lineage.specs.Index.{Index, index_of, Made}
 use Rattle.lineage.specs.Stored.{Form, form3}
-use Rattle.lineage.specs.Calls.{Outcome, answered, outcome, FormsTaken, turned, Input, turned_input, orders_of, built, work_needed, length_of, build_early, build_answer, build_work, build_output, index_in, Said, ask_answer, list_answer, list_output}
+use Rattle.lineage.specs.Calls.{answered, outcome, FormsTaken, turned, Input, turned_input, orders_of, built, work_needed, length_of, build_early, build_answer, build_work, build_output, index_in, Said, ask_answer, list_answer, list_output}
 use Rattle.laws.proofs.Tests.{clash}
 use Rattle.open.proofs.Fits.{form_wide}
 use Rattle.build.specs.declared.Built.{Built}

@@ -1,6 +1,7 @@
 // The calls on a turned index, form 3 (document 02, [13]): what feeds this rule? The build turns the edges itself; the others are the calls on any index, told to take
 // form 3 alone. A turned question has the turned graph's source: asked from v to u, it says whether v is fed by u.
 #![tactic(auto)]
+
 ghost use Rattle.std.specs.Prelude.{◌≡◌, length};
 ghost use Rattle.lineage.specs.Stored.{form3};
 ghost use Rattle.lineage.specs.Calls.{turned, turned_input, build_answer, build_work, build_output, open_answer, open_marks, open_work, ask_answer, ask_marks, ask_work, list_answer, list_marks, list_work, list_output};
