@@ -1,7 +1,7 @@
 -- Where lists end. The first x + 1 lists have the entries of the first x and those of list x; so all numbers that are stored are k, the number of entries, 0, where each
 -- list ends, and the entries.
 use mathlib.Core.Path.{◌≡◌, refl, sym, ap, subst⁻¹, ◌∙◌}
-use mathlib.Core.List.{List, [], ◌∷◌, ◌++◌, map, map-append}
+use mathlib.Core.List.{List, [], ◌∷◌, ◌++◌, map-append}
 use Prim.Native.Nat.{ℕ, zero, suc, ◌+◌, ◌*◌, ◌≤◌, ◌<◌}
 use native.Mathlib.Decide.{ℕ_discrete}
 use native.Mathlib.Numerals.{add-one}
@@ -15,7 +15,7 @@ use Rattle.lineage.specs.Stored.{starts_from}
 use Rattle.laws.proofs.Lists.{table_long, table_at}
 use Rattle.laws.proofs.Joined.{joined_more}
 use Rattle.laws.proofs.Starts.{starts_long}
-use Rattle.laws_exceptions.specs.Exceptions.{exceptions_of, entries_of, exception_rows, exception_numbers}
+use Rattle.laws_exceptions.specs.Exceptions.{entries_of, exception_rows, exception_numbers}
 use Rattle.laws_exceptions.proofs.Rows.{rows_to, start_is, rows_few}
 use Rattle.numbers.specs.Bounds.{vertex_bound}
 use Rattle.exceptions_lists.specs.Lists.{entries_to, ends_to}

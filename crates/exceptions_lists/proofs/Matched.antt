@@ -2,17 +2,16 @@
 -- should: for those are all numbers of the lists, and bytes that are read as them are theirs.
 use mathlib.Core.Bool.{Bool, true, false, ◌&&◌}
 use mathlib.Core.Path.{◌≡◌, refl, sym, ap, ◌∙◌}
-use mathlib.Core.List.{List, [], ◌∷◌, ◌++◌}
-use Prim.Native.Nat.{ℕ, zero, suc, ◌+◌, ◌-◌, ◌*◌, ◌^◌, ◌≤◌, ◌<◌}
+use mathlib.Core.List.{List, ◌++◌}
+use Prim.Native.Nat.{ℕ, zero, suc, ◌+◌, ◌-◌, ◌*◌, ◌≤◌, ◌<◌}
 use native.Mathlib.Decide.{dec_lt}
-use native.Mathlib.Nat.{not-suc-le-zero}
 use native.Mathlib.Numerals.{add-one}
 use native.Mathlib.Omega.{arith}
 use lib.Dec.{eqb, leb}
 use lib.ListN.{length, get_or, length-append, get_or-append}
 use lib.Seq.{get_or-append-add}
-use borrow.Author.Tests.{eqb-true, eq-eqb, leb-true, le-leb}
-use Rattle.lineage.specs.Lists.{joined, all_below, same_list, Every}
+use borrow.Author.Tests.{eqb-true, eq-eqb, le-leb}
+use Rattle.lineage.specs.Lists.{all_below, same_list}
 use Rattle.lineage.specs.Index.{Index}
 use Rattle.lineage.specs.Numbers.{num_at}
 use Rattle.lineage.specs.Stored.{starts_from}

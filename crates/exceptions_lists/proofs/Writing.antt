@@ -15,7 +15,7 @@ use Rattle.numbers.proofs.Put.{put_none}
 use Rattle.numbers.proofs.Written.{written_long, written_next, written_one}
 use Rattle.exceptions_lists.specs.Lists.{entries_to, ends_to}
 use Rattle.exceptions_lists.proofs.Apart.{put_long, put_apart}
-use Rattle.exceptions_lists.proofs.Ends.{entries_in, entries_long, entries_none, entries_more, entries_behind, entries_up, entries_all, entries_count, ends_none, ends_more, ends_long, numbers_are_lem}
+use Rattle.exceptions_lists.proofs.Ends.{entries_in, entries_long, entries_none, entries_more, entries_behind, entries_up, entries_all, ends_none, ends_more, ends_long, numbers_are_lem}
 
 -- three numbers, one by one
 pub three_put : (s t u v : List ℕ) (a b c : ℕ) → 12 ≤ length s → t ≡ put s 0 (le_bytes 4 a) → u ≡ put t 4 (le_bytes 4 b) → v ≡ put u 8 (le_bytes 4 c)

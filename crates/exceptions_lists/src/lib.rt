@@ -1,5 +1,6 @@
 // All lists of an index: counted, written, and compared with stored ones, one group after the other. The marks are 0 below n before each group, and are so afterwards.
 #![tactic(auto)]
+
 ghost use Rattle.std.specs.Prelude.{◌&&◌, ◌≡◌, [], ◌∷◌, ◌++◌, ◌+◌, ◌*◌, ◌≤◌, eqb, length};
 ghost use Rattle.lineage.specs.Lists.{joined, all_below, same_list, cleared};
 ghost use Rattle.lineage.specs.Numbers.{written};
