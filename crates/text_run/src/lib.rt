@@ -1,5 +1,6 @@
 // The text program's whole run, text in and text out: the text is checked whole, then built, then asked.
 #![tactic(auto)]
+
 ghost use Rattle.std.specs.Prelude.{◌≡◌, ◌++◌, ◌+◌, ◌*◌, ◌≤◌, length, drop};
 ghost use Rattle.text_lines.specs.Lines.{bytes};
 ghost use Rattle.text.specs.Text.{says};

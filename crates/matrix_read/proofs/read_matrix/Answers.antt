@@ -30,18 +30,25 @@ pub returns-then-targets-entries : goal.returns-then-targets-entries
 returns-then-targets-entries c = short_targets _ _ _ _ _ _ (stands (goal.at.returns-then-targets-entries c).In-Good) c.if-targets-entries.true
 
 pub returns-then-form-size_of : goal.returns-then-form-size_of
-returns-then-form-size_of c = many_vertices _ _ _ _ _ _ (said (goal.at.returns-then-form-size_of c).After-size_of) c.if-sources-entries.false c.if-targets-entries.false (omega (arith, c.if-form-size_of.true, c.size_of.ensures, (bounds (goal.at.returns-then-form-size_of c).After-size_of).0))
+returns-then-form-size_of c =
+    let p = goal.at.returns-then-form-size_of c in
+    many_vertices _ _ _ _ _ _ (said p.After-size_of) c.if-sources-entries.false c.if-targets-entries.false (omega (arith, c.if-form-size_of.true, c.size_of.ensures, (bounds p.After-size_of).0))
 
 pub returns-then-form-entries : goal.returns-then-form-entries
-returns-then-form-entries c = many_edges _ _ _ _ _ _ (said (goal.at.returns-then-form-entries c).After-size_of) c.if-sources-entries.false c.if-targets-entries.false (few (goal.at.returns-then-form-entries c).Else-form-size_of) (omega (arith, c.if-form-entries.true, (bounds (goal.at.returns-then-form-entries c).After-size_of).1))
+returns-then-form-entries c =
+    let p = goal.at.returns-then-form-entries c in
+    many_edges _ _ _ _ _ _ (said p.After-size_of) c.if-sources-entries.false c.if-targets-entries.false (few p.Else-form-size_of) (omega (arith, c.if-form-entries.true, (bounds p.After-size_of).1))
 
 pub store_entries-requires : goal.store_entries-requires
-store_entries-requires c = record { at_in_bounds = ((said (goal.at.store_entries-requires c).After-size_of).inside, (said (goal.at.store_entries-requires c).After-size_of).counted); count_in_bounds = (c.if-sources-entries.false, c.if-targets-entries.false) }
+store_entries-requires c =
+    let p = goal.at.store_entries-requires c in
+    record { at_in_bounds = ((said p.After-size_of).inside, (said p.After-size_of).counted); count_in_bounds = (c.if-sources-entries.false, c.if-targets-entries.false) }
 
 pub returns-in-BadLine : goal.returns-in-BadLine
 returns-in-BadLine c = bad_text_lem _ _ _ _ (survey_is c.args.text.now c.in-BadLine.is c.look_over.ensures)
 
 pub returns-else-form-entries : goal.returns-else-form-entries
 returns-else-form-entries c =
-    all_read _ _ _ _ _ _ (said (goal.at.returns-else-form-entries c).After-size_of) c.if-sources-entries.false c.if-targets-entries.false (few (goal.at.returns-else-form-entries c).Else-form-size_of) (omega (arith, c.if-form-entries.false, (bounds (goal.at.returns-else-form-entries c).After-size_of).1)) _ _ c.store_entries.ensures.sources_after
+    let p = goal.at.returns-else-form-entries c in
+    all_read _ _ _ _ _ _ (said p.After-size_of) c.if-sources-entries.false c.if-targets-entries.false (few p.Else-form-size_of) (omega (arith, c.if-form-entries.false, (bounds p.After-size_of).1)) _ _ c.store_entries.ensures.sources_after
     c.store_entries.ensures.targets_after

@@ -38,4 +38,6 @@ loop-i-preserved c =
     store_turns _ _ _ _ _ _ _ _ _ _ c.loop-i.invariant _ _ _ c.loop-i-test.true r.0 r.1 (sym c.in-Good.is ∙ c.read_entry.ensures)
 
 pub returns : goal.returns
-returns c = let both = store_ends _ _ _ _ _ _ _ _ _ _ c.loop-i.invariant (omega (arith, c.loop-i-test.false)) in record { sources_after = both.0; targets_after = both.1 }
+returns c =
+    let both = store_ends _ _ _ _ _ _ _ _ _ _ c.loop-i.invariant (omega (arith, c.loop-i-test.false)) in
+    record { sources_after = both.0; targets_after = both.1 }

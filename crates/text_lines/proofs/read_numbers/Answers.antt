@@ -70,18 +70,20 @@ overflow_add-j c = omega (arith, room (goal.at.overflow_add-j c).In-Space, c.loo
 
 pub loop-j-preserved : goal.loop-j-preserved
 loop-j-preserved c =
+    let p = goal.at.loop-j-preserved c in
     let low = c.loop-j-test.true in
     let i = c.loop-j.invariant in
     let number = sym c.in-Good.is ∙ c.read_number.ensures in
-    (omega (arith, low), (simp length-set i.1.0, (front_kept c.loop-j.into c.args.base c.loop-j.j _ ∙ i.1.1.0, still_turns _ _ _ _ _ _ _ _ _ low (room (goal.at.loop-j-preserved c).In-Space) (spaced (goal.at.loop-j-preserved c).In-Space) number ∙ i.1.1.1)))
+    (omega (arith, low), (simp length-set i.1.0, (front_kept c.loop-j.into c.args.base c.loop-j.j _ ∙ i.1.1.0, still_turns _ _ _ _ _ _ _ _ _ low (room p.In-Space) (spaced p.In-Space) number ∙ i.1.1.1)))
 
 pub overflow_add-result : goal.overflow_add-result
 overflow_add-result c = omega (arith, within c.args.text.now c.loop-j.p (ended (goal.at.overflow_add-result c).In-Lf) (λ e. omega arith), c.well_formed)
 
 pub returns-in-Lf : goal.returns-in-Lf
 returns-in-Lf c =
+    let p = goal.at.returns-in-Lf c in
     let i = c.loop-j.invariant in
-    record { kept = i.1.1.0; read = still_ends _ _ _ _ _ _ _ (full (goal.at.returns-in-Lf c).After-loop-j) (ended (goal.at.returns-in-Lf c).In-Lf) ∙ i.1.1.1 }
+    record { kept = i.1.1.0; read = still_ends _ _ _ _ _ _ _ (full p.After-loop-j) (ended p.In-Lf) ∙ i.1.1.1 }
 
 pub returns-in_default-byte_at : goal.returns-in_default-byte_at
 returns-in_default-byte_at c =
