@@ -29,7 +29,7 @@ use Rattle.sound_places.proofs.Vertices.{lent_sound, list_rises, list_low, name_
 use Rattle.reach_climb.specs.Climb.{climbed}
 use Rattle.reach.specs.Marks.{mark_in}
 use Rattle.reach.proofs.Fitted.{index_sound, labels_some, names_count, index_is, names_are, places_are}
-use Rattle.chain_steps.specs.Chain.{chain_of}
+use Rattle.chain_steps.specs.Chain.{chain_of, chain_from}
 use Rattle.chain_steps.specs.Steps.{next_in, TrailIn, steps_in}
 use Rattle.chain.specs.Marks.{climbed_in, Exact}
 use Rattle.chain.proofs.Marked.{climb_exactly, climb_long, climb_cleared}
@@ -122,10 +122,20 @@ module _
     -- the place of a vertex's group can be found, by its name
     pub can_place :
         {u name : ℕ} → u < l.n → name ≡ num_at w names u
-        → Width w
-        × (((w * k ≤ length groups) × (k ≤ l.n))
-        × (Rises (numbers w groups k) × (((y : ℕ) → among y (numbers w groups k) ≡ true → y < l.n) × (among name (numbers w groups k) ≡ true))))
-    can_place h named = (S.width, ((omega (arith, S.groups_long), S.groups_few), (list_rises S, (list_low S, name_listed S h named))))
+        → record {
+          width : Width w;
+          k_in_bounds : (w * k ≤ length groups) × (k ≤ l.n);
+          rises : Rises (numbers w groups k);
+          by_index : (y : ℕ) → among y (numbers w groups k) ≡ true → y < l.n;
+          k_value : among name (numbers w groups k) ≡ true;
+        }
+    can_place h named = record {
+      width = S.width;
+      k_in_bounds = (omega (arith, S.groups_long), S.groups_few);
+      rises = list_rises S;
+      by_index = list_low S;
+      k_value = name_listed S h named;
+    }
 
     -- and its level read
     pub can_level : {u name x : ℕ} → u < l.n → name ≡ num_at w names u → x ≡ place_of (numbers w groups k) name → record { width : Width w; w_in_bounds : w * x + w ≤ length levels }
@@ -168,4 +178,9 @@ module _
 
         pub steps_are : steps_in w k c groups starts children marks t (suc lev) x ≡ chain_of (index_in b) u v
         unfolding index_from next_in chain_of
-        steps_are = steps_chain {I = I} (lent_sound S) exact rows_long (suc lev) x ∙ rw (index_is O P, ← t_is, ← x_is, ← level_is) refl
+        steps_are =
+            steps_chain {I = I} (lent_sound S) exact rows_long (suc lev) x
+            ∙ subst (λ (J : Index). chain_from I t (suc lev) x ≡ chain_of J u v) (sym (index_is O P))
+            (ap (λ (p : ℕ). chain_from I p (suc lev) x) t_is
+            ∙ ap (λ (f : ℕ). chain_from I (place_in I v) (suc f) x) level_is
+            ∙ ap (λ (p : ℕ). chain_from I (place_in I v) (suc (get_or (numbers w levels k) p 0)) p) x_is)
