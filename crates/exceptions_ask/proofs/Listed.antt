@@ -1,9 +1,9 @@
 -- In the stored lists of an index, list x is what the index's list is, and lies where its start says; so a place found in it by halves is an exception of x, and what is
 -- contained and not found is reached.
-use mathlib.Core.Bool.{Bool, true, false, not, ◌&&◌}
-use mathlib.Core.Path.{◌≡◌, refl, sym, ap, ap₂, ◌∙◌}
+use mathlib.Core.Bool.{Bool, false, not, ◌&&◌}
+use mathlib.Core.Path.{◌≡◌, sym, ap, ap₂, ◌∙◌}
 use mathlib.Core.List.{List}
-use Prim.Native.Nat.{ℕ, ◌+◌, ◌-◌, ◌*◌, ◌/◌, ◌^◌, ◌≤◌, ◌<◌}
+use Prim.Native.Nat.{ℕ, ◌+◌, ◌-◌, ◌*◌, ◌/◌, ◌≤◌, ◌<◌}
 use native.Mathlib.Omega.{arith}
 use lib.Dec.{eqb, ltb}
 use lib.ListN.{length, get_or}
@@ -11,9 +11,8 @@ use lib.Seq.{ext_get_or}
 use borrow.Author.Tests.{eqb-true, eq-eqb, ltb-true, lt-ltb, le-ltb}
 use Rattle.lineage.specs.Lists.{among, part}
 use Rattle.lineage.specs.Index.{Index}
-use Rattle.lineage.specs.Numbers.{Width, num_at, numbers}
-use Rattle.lineage.specs.Question.{outside, some_labelling, place_in}
-use Rattle.lineage.specs.Calls.{index_in}
+use Rattle.lineage.specs.Numbers.{num_at, numbers}
+use Rattle.lineage.specs.Question.{place_in}
 use Rattle.laws.specs.Rising.{Rises, count_below}
 use Rattle.laws.proofs.Tests.{and_both, both}
 use Rattle.laws_same.proofs.Lineage.{tests_same}
@@ -24,7 +23,7 @@ use Rattle.numbers.specs.Regions.{Part}
 use Rattle.numbers.proofs.Numbers.{num_part, numbers_long, numbers_at, count_most}
 use Rattle.numbers.proofs.Written.{written_long, written_at}
 use Rattle.exceptions_lists.specs.Lists.{entries_to}
-use Rattle.exceptions_lists.proofs.Ends.{entries_in, entries_long, entries_more, entries_up, entry_among}
+use Rattle.exceptions_lists.proofs.Ends.{entries_long, entries_more, entries_up, entry_among}
 use Rattle.exceptions_lists.proofs.Matched.{numbers_count, number_start, number_entry}
 use Rattle.exceptions_ask.specs.Listed.{start_in, long_in, list_in, has_place, ListIn}
 

@@ -1,5 +1,6 @@
 // A question by exception lists that belong to the index: the target's group is reached exactly where the source's contains it and does not list it. No group is opened.
 #![tactic(auto)]
+
 ghost use Rattle.std.specs.Prelude.{not, ◌&&◌, ◌≡◌, ◌≤◌, ◌<◌};
 ghost use Rattle.lineage.specs.Question.{outside, some_labelling};
 ghost use Rattle.lineage.specs.Calls.{index_in};
