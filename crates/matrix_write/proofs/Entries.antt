@@ -1,10 +1,10 @@
 -- The lines of the edges, one after the other: what is passed and what is still to come are the whole text. Counting adds the length of the next line, writing puts
 -- the next line behind the others; and since the whole has room, so has every line.
-use mathlib.Core.List.{List, [], ◌∷◌, ◌++◌, append_assoc, append-nil}
+use mathlib.Core.List.{List, [], ◌++◌, append_assoc, append-nil}
 use mathlib.Core.Path.{◌≡◌, refl, sym, ap, ap₂, ◌∙◌}
 use Prim.Native.Nat.{ℕ, suc, ◌+◌, ◌*◌, ◌^◌, ◌≤◌, ◌<◌}
 use native.Mathlib.Omega.{arith}
-use lib.ListN.{length, get_or, drop, length-append}
+use lib.ListN.{length, get_or, length-append}
 use Rattle.lineage.specs.Graph.{Graph}
 use Rattle.laws.proofs.Edges.{sources_below, targets_below}
 use Rattle.text_lines.specs.Lines.{decimal}

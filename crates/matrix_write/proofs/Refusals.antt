@@ -1,7 +1,7 @@
 -- What writing answers and leaves, by where its checks stop: at 1, 2, 3, 7 or 9, and then the output is as it was; or behind them, and then it holds the text.
 use mathlib.Core.Bool.{false, not, cond}
 use mathlib.Core.Path.{◌≡◌, sym, ap, ◌∙◌}
-use mathlib.Core.List.{List, [], ◌∷◌, ◌++◌}
+use mathlib.Core.List.{List, [], ◌++◌}
 use Prim.Native.Nat.{ℕ, suc, ◌+◌, ◌≤◌, ◌<◌}
 use native.Mathlib.Omega.{arith}
 use lib.Dec.{ltb}

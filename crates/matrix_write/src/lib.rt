@@ -1,5 +1,6 @@
 // Writing a Matrix Market file: the text of an edge list in lent memory (document 02, [1]). Its length is told before anything is written.
 #![tactic(auto)]
+
 ghost use Rattle.std.specs.Prelude.{◌∷◌, [], ◌≡◌, suc, ◌+◌, ◌^◌, ◌≤◌, ◌<◌, length};
 ghost use Rattle.lineage.specs.Stored.{form2};
 ghost use Rattle.text_lines.specs.Lines.{decimal};
