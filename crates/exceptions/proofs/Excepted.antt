@@ -10,9 +10,9 @@ use lib.ListN.{length, get_or}
 use Rattle.lineage.specs.Lists.{among}
 use Rattle.lineage.specs.Graph.{Reaches, place_of}
 use Rattle.lineage.specs.Index.{Index, Made}
-use Rattle.lineage.specs.Stored.{counts_in, form_of, header_at}
+use Rattle.lineage.specs.Stored.{form_of, header_at}
 use Rattle.lineage.specs.Question.{place_in}
-use Rattle.lineage.specs.Calls.{answered, host, contents_check, index_in}
+use Rattle.lineage.specs.Calls.{answered, host, index_in}
 use Rattle.laws.specs.Leads.{Down}
 use Rattle.laws.specs.Sound.{Sound}
 use Rattle.laws.proofs.Checks.{pass_front, pass_behind, answered_pass}

@@ -1,7 +1,7 @@
 -- The lists of sound bytes, from what the code has at its end: their count, the room, and the written output.
 use mathlib.Core.Path.{◌≡◌, sym, ap, ap₂, ◌∙◌}
 use mathlib.Core.List.{List}
-use Prim.Native.Nat.{ℕ, ◌+◌, ◌*◌, ◌^◌, ◌≤◌, ◌<◌}
+use Prim.Native.Nat.{ℕ, ◌+◌, ◌*◌, ◌≤◌, ◌<◌}
 use native.Mathlib.Omega.{arith}
 use lib.ListN.{length}
 use borrow.Author.Tests.{lt-ltb, le-ltb}
@@ -16,7 +16,7 @@ use Rattle.numbers.proofs.Put.{put_start}
 use Rattle.numbers.proofs.Written.{written_long, written_at}
 use Rattle.exceptions_lists.proofs.Ends.{entries_long, entries_count}
 use Rattle.exceptions_lists.proofs.Matched.{numbers_count, number_1}
-use Rattle.exceptions.specs.Calls.{ListCounts, list_counts}
+use Rattle.exceptions.specs.Calls.{list_counts}
 use Rattle.exceptions.specs.declared.Written.TheVariants.{Length, Refused}
 use Rattle.exceptions.specs.Written.{Fills}
 

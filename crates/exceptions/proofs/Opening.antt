@@ -3,13 +3,13 @@ use mathlib.Core.Bool.{true, false, not}
 use mathlib.Core.Logic.{◌↔◌}
 use mathlib.Core.Path.{◌≡◌, refl, sym, ap, subst, ◌∙◌}
 use mathlib.Core.List.{List, [], ◌∷◌, ◌++◌}
-use Prim.Native.Nat.{ℕ, ◌≤◌}
+use Prim.Native.Nat.{ℕ}
 use native.Mathlib.Omega.{arith}
 use lib.ListN.{length}
 use borrow.Author.Tests.{not-false}
 use Rattle.lineage.specs.Lists.{same_list}
 use Rattle.lineage.specs.Stored.{Counts, counts_in}
-use Rattle.lineage.specs.Calls.{Check, Outcome, answered, outcome, host, contents_check, index_in, open_answer, open_marks}
+use Rattle.lineage.specs.Calls.{Check, answered, host, contents_check, index_in, open_answer, open_marks}
 use Rattle.laws.specs.Checks.{Pass}
 use Rattle.laws.proofs.Lists.{same_list_lem, same_self}
 use Rattle.laws.proofs.Checks.{stops_outcome, pass_front, pass_behind, pass_both, answered_pass, answered_is}

@@ -1,20 +1,20 @@
 -- What a call on exception lists answers and leaves, by where its checks stop: at one of 10 to 13, or at one behind them, where the marks below n are 0. The same for every
 -- call, whatever it checks behind 13 and whatever it answers.
 use mathlib.Core.Bool.{Bool, true, false, not, cond}
-use mathlib.Core.Path.{◌≡◌, refl, sym, ap, ◌∙◌}
+use mathlib.Core.Path.{◌≡◌, sym, ap, ◌∙◌}
 use mathlib.Core.List.{List, [], ◌∷◌, ◌++◌}
-use Prim.Native.Nat.{ℕ, ◌≤◌, ◌<◌}
+use Prim.Native.Nat.{ℕ, ◌≤◌}
 use native.Mathlib.Omega.{arith}
 use lib.Dec.{leb, leb-suc-zero}
 use lib.ListN.{length, drop}
-use borrow.Author.Tests.{leb-true, lt-ltb, not-false}
+use borrow.Author.Tests.{leb-true, not-false}
 use Rattle.lineage.specs.Lists.{same_list, cleared}
 use Rattle.lineage.specs.Stored.{Form, form_of, header_at, counts_in, counts_fit, offsets_fit}
-use Rattle.lineage.specs.Calls.{Check, Outcome, refused, outcome, any_applies, host, takes, contents_check, index_in}
+use Rattle.lineage.specs.Calls.{Check, Outcome, refused, outcome, host, takes, contents_check, index_in}
 use Rattle.laws.specs.Checks.{Stops, Pass, stopped, Comes}
 use Rattle.laws.proofs.Tests.{both, neither}
 use Rattle.laws.proofs.Lists.{same_list_lem}
-use Rattle.laws.proofs.Checks.{stops_early, pass_both, refused_comes, stops_comes, rest_comes}
+use Rattle.laws.proofs.Checks.{pass_both, refused_comes, stops_comes, rest_comes}
 use Rattle.laws_exceptions.specs.Exceptions.{encode_exceptions, says_by_exceptions}
 use Rattle.stored_header.specs.declared.Layout.{Layout}
 use Rattle.stored_header.specs.Header.{layout_in}

@@ -1,5 +1,6 @@
 // Exception lists for the small sites (document 02, [8]): built from a stored index, opened beside it, and a question by them. All take an index of form 1.
 #![tactic(auto)]
+
 ghost use Rattle.std.specs.Prelude.{◌≡◌, ◌≤◌, length};
 ghost use Rattle.lineage.specs.Lists.{cleared};
 ghost use Rattle.lineage.specs.Calls.{index_in};
