@@ -1,3 +1,4 @@
+-- `ask_walk::open_group` and `ask_walk::try_children` meet their contracts, by the measures and the invariant beside this file.
 use Rattle.std.proofs.Common.{◌≡◌, ◌<◌, length, List, ℕ, ap, ◌∙◌, arith, set, length-set}
 use native.Mathlib.Nat.{pos_of_ne-zero}
 use Rattle.lineage.specs.Numbers.{num_at}

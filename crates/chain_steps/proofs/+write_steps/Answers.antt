@@ -1,5 +1,4 @@
--- `chain_steps::write_steps` meets its contract: it writes one name; behind the target, and at the floor, what follows is left, and otherwise it is what the call on
--- the lowest marked child begins with. The level falls.
+-- `chain_steps::write_steps` meets its contract, by the measure beside this file.
 use Rattle.std.proofs.Common.{◌≡◌, ◌<◌, ℕ, length, get_or, arith}
 use Rattle.lineage.specs.Numbers.{numbers}
 use Rattle.stored.proofs.Read.{can_read, was_read}
