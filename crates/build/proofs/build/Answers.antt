@@ -10,10 +10,14 @@ taken : (c : Else-not-takes) → takes ordinary c.args.form ≡ true
 taken c = sym c.takes.ensures ∙ c.if-not-takes.false
 
 pub returns-then-not-takes : goal.returns-then-not-takes
-returns-then-not-takes c = let both = call_refused _ _ _ _ (sym c.takes.ensures ∙ c.if-not-takes.true) in record { result_value = both.0; work_after = both.1.0; out_after = both.1.1 }
+returns-then-not-takes c =
+    let both = call_refused _ _ _ _ (sym c.takes.ensures ∙ c.if-not-takes.true) in record { result_value = both.0; work_after = both.1.0; out_after = both.1.1 }
 
 pub build_form-requires : goal.build_form-requires
 build_form-requires c = record { form_value = taken_known c.args.form (taken (goal.at.build_form-requires c).Else-not-takes); row_value = c.form_row.ensures }
 
 pub returns : goal.returns
-returns c = let both = call_answered _ _ _ _ (taken (goal.at.returns c).Else-not-takes) (c.build_form.ensures.result_value, (c.build_form.ensures.work_after, c.build_form.ensures.out_after)) in record { result_value = both.0; work_after = both.1.0; out_after = both.1.1 }
+returns c =
+    let both = call_answered _ _ _ _ (taken (goal.at.returns c).Else-not-takes)
+        (c.build_form.ensures.result_value, (c.build_form.ensures.work_after, c.build_form.ensures.out_after)) in
+    record { result_value = both.0; work_after = both.1.0; out_after = both.1.1 }

@@ -67,22 +67,31 @@ returns-then-most_vertices-n c =
 pub returns-then-edges-targets : goal.returns-then-edges-targets
 returns-then-edges-targets c =
     let s = (goal.at.returns-then-edges-targets c).Start in
-    stop s 1 (past₁ s c.if-most_vertices-n.false 0 (ap not (ne_eqb _ _ c.if-edges-targets.true)))
+    let p₁ = past₁ s c.if-most_vertices-n.false in
+    stop s 1 (p₁ 0 (ap not (ne_eqb _ _ c.if-edges-targets.true)))
 
 pub returns-then-most_edges-edges : goal.returns-then-most_edges-edges
 returns-then-most_edges-edges c =
     let s = (goal.at.returns-then-most_edges-edges c).Start in
-    stop s 2 (past₂ s (past₁ s c.if-most_vertices-n.false) c.if-edges-targets.false 0 (lt-ltb _ _ c.if-most_edges-edges.true))
+    let p₁ = past₁ s c.if-most_vertices-n.false in
+    let p₂ = past₂ s p₁ c.if-edges-targets.false in
+    stop s 2 (p₂ 0 (lt-ltb _ _ c.if-most_edges-edges.true))
 
 pub returns-then-d-eq0 : goal.returns-then-d-eq0
 returns-then-d-eq0 c =
     let s = (goal.at.returns-then-d-eq0 c).Start in
-    stop s 3 (past₃ s (past₂ s (past₁ s c.if-most_vertices-n.false) c.if-edges-targets.false) c.if-most_edges-edges.false 0 (or_left _ (eq-eqb _ _ c.if-d-eq0.true)))
+    let p₁ = past₁ s c.if-most_vertices-n.false in
+    let p₂ = past₂ s p₁ c.if-edges-targets.false in
+    let p₃ = past₃ s p₂ c.if-most_edges-edges.false in
+    stop s 3 (p₃ 0 (or_left _ (eq-eqb _ _ c.if-d-eq0.true)))
 
 pub returns-then-most_labellings-d : goal.returns-then-most_labellings-d
 returns-then-most_labellings-d c =
     let s = (goal.at.returns-then-most_labellings-d c).Start in
-    stop s 3 (past₃ s (past₂ s (past₁ s c.if-most_vertices-n.false) c.if-edges-targets.false) c.if-most_edges-edges.false 0 (or_right (eqb c.args.d 0) (lt-ltb _ _ c.if-most_labellings-d.true)))
+    let p₁ = past₁ s c.if-most_vertices-n.false in
+    let p₂ = past₂ s p₁ c.if-edges-targets.false in
+    let p₃ = past₃ s p₂ c.if-most_edges-edges.false in
+    stop s 3 (p₃ 0 (or_right (eqb c.args.d 0) (lt-ltb _ _ c.if-most_labellings-d.true)))
 
 pub overflow_mul-d : goal.overflow_mul-d
 overflow_mul-d c =
@@ -93,24 +102,45 @@ overflow_mul-d c =
 pub returns-then-orders-d : goal.returns-then-orders-d
 returns-then-orders-d c =
     let s = (goal.at.returns-then-orders-d c).Start in
-    stop s 4 (past₄ s (past₃ s (past₂ s (past₁ s c.if-most_vertices-n.false) c.if-edges-targets.false) c.if-most_edges-edges.false) c.if-d-eq0.false c.if-most_labellings-d.false 0 (ap not (ne_eqb _ _ c.if-orders-d.true)))
+    let p₁ = past₁ s c.if-most_vertices-n.false in
+    let p₂ = past₂ s p₁ c.if-edges-targets.false in
+    let p₃ = past₃ s p₂ c.if-most_edges-edges.false in
+    let p₄ = past₄ s p₃ c.if-d-eq0.false c.if-most_labellings-d.false in
+    stop s 4 (p₄ 0 (ap not (ne_eqb _ _ c.if-orders-d.true)))
 
 pub returns-then-work-needed : goal.returns-then-work-needed
 returns-then-work-needed c =
     let s = (goal.at.returns-then-work-needed c).Start in
-    stop s 5 (past₅ s (past₄ s (past₃ s (past₂ s (past₁ s c.if-most_vertices-n.false) c.if-edges-targets.false) c.if-most_edges-edges.false) c.if-d-eq0.false c.if-most_labellings-d.false) c.if-orders-d.false 0 (lt-ltb _ _ c.if-work-needed.true))
+    let p₁ = past₁ s c.if-most_vertices-n.false in
+    let p₂ = past₂ s p₁ c.if-edges-targets.false in
+    let p₃ = past₃ s p₂ c.if-most_edges-edges.false in
+    let p₄ = past₄ s p₃ c.if-d-eq0.false c.if-most_labellings-d.false in
+    let p₅ = past₅ s p₄ c.if-orders-d.false in
+    stop s 5 (p₅ 0 (lt-ltb _ _ c.if-work-needed.true))
 
 pub returns-then-first-edges : goal.returns-then-first-edges
 returns-then-first-edges c =
     let s = (goal.at.returns-then-first-edges c).Start in
+    let p₁ = past₁ s c.if-most_vertices-n.false in
+    let p₂ = past₂ s p₁ c.if-edges-targets.false in
+    let p₃ = past₃ s p₂ c.if-most_edges-edges.false in
+    let p₄ = past₄ s p₃ c.if-d-eq0.false c.if-most_labellings-d.false in
+    let p₅ = past₅ s p₄ c.if-orders-d.false in
+    let p₆ = past₆ s p₅ c.if-work-needed.false in
     let G = (input s).graph in
     let found = c.bad_edge-first.ensures in
     ap (refused 7) (first_found (bad_edge G) (length G.sources) _ found c.if-first-edges.true)
-    ∙ stop s 6 (past₆ s (past₅ s (past₄ s (past₃ s (past₂ s (past₁ s c.if-most_vertices-n.false) c.if-edges-targets.false) c.if-most_edges-edges.false) c.if-d-eq0.false c.if-most_labellings-d.false) c.if-orders-d.false) c.if-work-needed.false 0 (any_found (bad_edge G) (length G.sources) _ found c.if-first-edges.true))
+    ∙ stop s 6 (p₆ 0 (any_found (bad_edge G) (length G.sources) _ found c.if-first-edges.true))
 
 pub returns : goal.returns
 returns c =
     let s = (goal.at.returns c).Start in
+    let p₁ = past₁ s c.if-most_vertices-n.false in
+    let p₂ = past₂ s p₁ c.if-edges-targets.false in
+    let p₃ = past₃ s p₂ c.if-most_edges-edges.false in
+    let p₄ = past₄ s p₃ c.if-d-eq0.false c.if-most_labellings-d.false in
+    let p₅ = past₅ s p₄ c.if-orders-d.false in
+    let p₆ = past₆ s p₅ c.if-work-needed.false in
     let G = (input s).graph in
     stop s 7
-    (past₆ s (past₅ s (past₄ s (past₃ s (past₂ s (past₁ s c.if-most_vertices-n.false) c.if-edges-targets.false) c.if-most_edges-edges.false) c.if-d-eq0.false c.if-most_labellings-d.false) c.if-orders-d.false) c.if-work-needed.false 1 (none_found (bad_edge G) (length G.sources) _ c.bad_edge-first.ensures c.if-first-edges.false, tt))
+    (p₆ 1 (none_found (bad_edge G) (length G.sources) _ c.bad_edge-first.ensures c.if-first-edges.false, tt))

@@ -14,7 +14,10 @@ pub strip-c-requires : goal.strip-c-requires
 strip-c-requires c = strip_fits c.requires c.rows.ensures.kept c.rows.ensures.rows_at c.clear_part.ensures.kept c.clear_part.ensures.n_after
 
 pub count_up-requires : goal.count_up-requires
-count_up-requires c = record { n_in_bounds = omega (arith, c.requires.room, c.rows.ensures.kept.long, c.clear_part.ensures.kept.long, c.strip-c.ensures.kept.long); n_bound = omega (arith, c.requires.few_groups) }
+count_up-requires c = record {
+  n_in_bounds = omega (arith, c.requires.room, c.rows.ensures.kept.long, c.clear_part.ensures.kept.long, c.strip-c.ensures.kept.long);
+  n_bound = omega (arith, c.requires.few_groups);
+}
 
 pub turn-requires : goal.turn-requires
 turn-requires c =
@@ -23,5 +26,5 @@ turn-requires c =
 
 pub returns : goal.returns
 returns c =
-    found c.requires c.rows.ensures.kept c.rows.ensures.rows_at c.clear_part.ensures.kept c.clear_part.ensures.n_after
-    c.strip-c.ensures.kept c.strip-c.ensures.upper_bound c.strip-c.ensures.rows_at c.count_up.ensures.kept c.count_up.ensures.n_after c.turn.ensures.kept c.turn.ensures.rows_at
+    found c.requires c.rows.ensures.kept c.rows.ensures.rows_at c.clear_part.ensures.kept c.clear_part.ensures.n_after c.strip-c.ensures.kept
+        c.strip-c.ensures.upper_bound c.strip-c.ensures.rows_at c.count_up.ensures.kept c.count_up.ensures.n_after c.turn.ensures.kept c.turn.ensures.rows_at

@@ -83,10 +83,18 @@ loop-v-preserved c =
     let h = c.loop-v-test.true in
     let name = name_is f c.loop-v.invariant.1 h in
     let i = listing_copied f c.loop-v.invariant.1 h refl in
-    (omega arith, elim c.if-own-v.branch [ then-own-v w ↦ listing_own f i h _ name refl w.if-own-v.true w.work-is w.k-is | else-own-v w ↦ listing_other f i h _ name refl w.if-own-v.false w.work-is w.k-is ])
+    (
+      omega arith,
+      elim c.if-own-v.branch [
+        then-own-v w ↦ listing_own f i h _ name refl w.if-own-v.true w.work-is w.k-is
+        | else-own-v w ↦ listing_other f i h _ name refl w.if-own-v.false w.work-is w.k-is
+      ],
+    )
 
 pub shape_of-work : goal.shape_of-work
 shape_of-work c = c.loop-v.invariant.1.kept.long
 
 pub returns : goal.returns
-returns c = let both = listing_all c.requires (omega arith) c.loop-v.invariant.1 in record { kept = both.0; upper_bound = both.1.0; n_after = both.1.1.0; result_after = both.1.1.1.0; n_after_2 = both.1.1.1.1 }
+returns c =
+    let both = listing_all c.requires (omega arith) c.loop-v.invariant.1 in
+    record { kept = both.0; upper_bound = both.1.0; n_after = both.1.1.0; result_after = both.1.1.1.0; n_after_2 = both.1.1.1.1 }

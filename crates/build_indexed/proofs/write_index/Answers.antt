@@ -5,16 +5,19 @@ use Rattle.build_indexed.proofs.Written.{levels_there, index_kept, groups_fit, i
 use Rattle.build_indexed.proofs.write_index.Goals as goal
 
 pub levels-requires : goal.levels-requires
-levels-requires c = levels_there c.requires.ready c.children_from-children.ensures c.labels_from-base.ensures c.walk_from-walk.ensures c.write_labels.ensures.order_labelled
+levels-requires c =
+    levels_there c.requires.ready c.children_from-children.ensures c.labels_from-base.ensures c.walk_from-walk.ensures c.write_labels.ensures.order_labelled
 
 pub write_groups-requires : goal.write_groups-requires
-write_groups-requires c = groups_fit c.requires.ready c.children_from-children.ensures c.labels_from-base.ensures c.walk_from-walk.ensures c.write_labels.ensures.order_labelled c.levels.ensures.kept c.levels.ensures.k_after c.args.form c.requires.form_bound (omega (arith, c.write_labels.auto.out, c.requires.total_in_bounds))
+write_groups-requires c =
+    groups_fit c.requires.ready c.children_from-children.ensures c.labels_from-base.ensures c.walk_from-walk.ensures c.write_labels.ensures.order_labelled
+        c.levels.ensures.kept c.levels.ensures.k_after c.args.form c.requires.form_bound (omega (arith, c.write_labels.auto.out, c.requires.total_in_bounds))
 
 pub returns : goal.returns
-returns c =
-    record {
-      out_after = index_written c.requires.ready c.children_from-children.ensures c.labels_from-base.ensures c.walk_from-walk.ensures c.write_labels.ensures.order_labelled c.levels.ensures.kept c.levels.ensures.k_after c.args.form c.args.out.now _ _ c.requires.total_in_bounds
-          c.write_labels.ensures.out_after
-          c.write_groups.ensures;
-      kept = index_kept c.requires.ready c.children_from-children.ensures c.labels_from-base.ensures c.walk_from-walk.ensures c.write_labels.ensures.order_labelled c.levels.ensures.kept c.levels.ensures.k_after;
-    }
+returns c = record {
+  out_after = index_written c.requires.ready c.children_from-children.ensures c.labels_from-base.ensures c.walk_from-walk.ensures
+      c.write_labels.ensures.order_labelled c.levels.ensures.kept c.levels.ensures.k_after c.args.form c.args.out.now _ _ c.requires.total_in_bounds
+      c.write_labels.ensures.out_after c.write_groups.ensures;
+  kept = index_kept c.requires.ready c.children_from-children.ensures c.labels_from-base.ensures c.walk_from-walk.ensures c.write_labels.ensures.order_labelled
+      c.levels.ensures.kept c.levels.ensures.k_after;
+}

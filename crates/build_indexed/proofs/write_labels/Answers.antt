@@ -27,13 +27,18 @@ pub loop-j-init : goal.loop-j-init
 loop-j-init c = turns_none c.requires.ready c.args.out.now
 
 pub write_order-requires : goal.write_order-requires
-write_order-requires c = record { ready = turns_ready c.requires.ready c.loop-j.invariant; j_lt_d = (omega arith, omega (arith, turns_within c.requires.ready c.loop-j.invariant c.requires.total_in_bounds c.loop-j-test.true, c.loop-j.invariant.long)) }
+write_order-requires c = record {
+  ready = turns_ready c.requires.ready c.loop-j.invariant;
+  j_lt_d = (omega arith, omega (arith, turns_within c.requires.ready c.loop-j.invariant c.requires.total_in_bounds c.loop-j-test.true, c.loop-j.invariant.long));
+}
 
 pub overflow_add-at : goal.overflow_add-at
 overflow_add-at c = omega (arith, turns_within c.requires.ready c.loop-j.invariant c.requires.total_in_bounds c.loop-j-test.true, c.bytes_of-step.ensures.0)
 
 pub loop-j-preserved : goal.loop-j-preserved
-loop-j-preserved c = turns_more c.requires.ready c.loop-j.invariant _ c.requires.total_in_bounds c.loop-j-test.true c.bytes_of-step.ensures.0 c.write_order.auto.out c.write_order.ensures.order_labelled c.write_order.ensures.out_after
+loop-j-preserved c =
+    turns_more c.requires.ready c.loop-j.invariant _ c.requires.total_in_bounds c.loop-j-test.true c.bytes_of-step.ensures.0 c.write_order.auto.out
+        c.write_order.ensures.order_labelled c.write_order.ensures.out_after
 
 pub shape_of-out : goal.shape_of-out
 shape_of-out c = c.loop-j.invariant.long

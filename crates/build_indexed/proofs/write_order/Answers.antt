@@ -10,7 +10,13 @@ pub label-requires : goal.label-requires
 label-requires c = label_fits c.requires.ready c.children_from-children.ensures c.labels_from-base.ensures c.walk_from-walk.ensures c.args.j c.requires.j_lt_d.0
 
 pub write_labelling-requires : goal.write_labelling-requires
-write_labelling-requires c = labelling_fits c.requires.ready c.children_from-children.ensures c.labels_from-base.ensures c.walk_from-walk.ensures c.args.j c.label.ensures c.args.out.now c.args.at c.requires.j_lt_d.1
+write_labelling-requires c =
+    labelling_fits c.requires.ready c.children_from-children.ensures c.labels_from-base.ensures c.walk_from-walk.ensures c.args.j c.label.ensures c.args.out.now
+        c.args.at c.requires.j_lt_d.1
 
 pub returns : goal.returns
-returns c = record { order_labelled = order_labelled c.requires.ready c.children_from-children.ensures c.labels_from-base.ensures c.walk_from-walk.ensures c.args.j c.label.ensures; out_after = order_written c.requires.ready c.children_from-children.ensures c.labels_from-base.ensures c.walk_from-walk.ensures c.args.j c.label.ensures c.args.out.now _ c.args.at c.write_labelling.ensures }
+returns c = record {
+  order_labelled = order_labelled c.requires.ready c.children_from-children.ensures c.labels_from-base.ensures c.walk_from-walk.ensures c.args.j c.label.ensures;
+  out_after = order_written c.requires.ready c.children_from-children.ensures c.labels_from-base.ensures c.walk_from-walk.ensures c.args.j c.label.ensures
+      c.args.out.now _ c.args.at c.write_labelling.ensures;
+}

@@ -10,9 +10,11 @@ pub roots-q-requires : goal.roots-q-requires
 roots-q-requires c = roots_fit c.requires c.ranked.ensures.kept c.ranked.ensures.upper_bound c.ranked.ensures.result_after
 
 pub turn-requires : goal.turn-requires
-turn-requires c = turn_fits c.requires c.ranked.ensures.kept c.ranked.ensures.upper_bound c.ranked.ensures.result_after c.roots-q.ensures.kept c.roots-q.ensures.upper_bound c.roots-q.ensures.result_after
+turn-requires c =
+    turn_fits c.requires c.ranked.ensures.kept c.ranked.ensures.upper_bound c.ranked.ensures.result_after c.roots-q.ensures.kept c.roots-q.ensures.upper_bound
+        c.roots-q.ensures.result_after
 
 pub returns : goal.returns
 returns c =
-    ordered c.requires c.ranked.ensures.kept c.ranked.ensures.upper_bound c.ranked.ensures.result_after c.roots-q.ensures.kept c.roots-q.ensures.upper_bound c.roots-q.ensures.result_after
-    c.turn.ensures.kept c.turn.ensures.rows_at
+    ordered c.requires c.ranked.ensures.kept c.ranked.ensures.upper_bound c.ranked.ensures.result_after c.roots-q.ensures.kept c.roots-q.ensures.upper_bound
+        c.roots-q.ensures.result_after c.turn.ensures.kept c.turn.ensures.rows_at

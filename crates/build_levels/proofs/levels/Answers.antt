@@ -59,7 +59,8 @@ pub overflow_sub-end : goal.overflow_sub-end
 overflow_sub-end c = omega (arith, place (goal.at.overflow_sub-end c).In-loop-r)
 
 pub row_level-requires : goal.row_level-requires
-row_level-requires c = let h = c.loop-r-test.true in record { row_fit = row_fit c.requires c.loop-r.invariant.1 h; by_index = level_small c.requires c.loop-r.invariant.1 h }
+row_level-requires c =
+    let h = c.loop-r-test.true in record { row_fit = row_fit c.requires c.loop-r.invariant.1 h; by_index = level_small c.requires c.loop-r.invariant.1 h }
 
 pub overflow_add-work : goal.overflow_add-work
 overflow_add-work c = omega (arith, place (goal.at.overflow_add-work c).In-loop-r)

@@ -122,13 +122,15 @@ pub offset_bounds-work-starts-then-number-eq0 : goal.offset_bounds-work-starts-t
 offset_bounds-work-starts-then-number-eq0 c = omega (arith, row_fits (goal.at.offset_bounds-work-starts-then-number-eq0 c).Then-e-end)
 
 pub bounds-work-starts-then-number-eq0 : goal.bounds-work-starts-then-number-eq0
-bounds-work-starts-then-number-eq0 c = omega (arith, row_fits (goal.at.bounds-work-starts-then-number-eq0 c).Then-e-end, c.loop-e.invariant.frames.kept.long, c.enter.auto.work)
+bounds-work-starts-then-number-eq0 c =
+    omega (arith, row_fits (goal.at.bounds-work-starts-then-number-eq0 c).Then-e-end, c.loop-e.invariant.frames.kept.long, c.enter.auto.work)
 
 pub overflow_cast-end : goal.overflow_cast-end
 overflow_cast-end c = Fits-32_64 (c.type_inv.work _)
 
 pub loop-e-smaller-then-number-eq0 : goal.loop-e-smaller-then-number-eq0
-loop-e-smaller-then-number-eq0 c = in_less _ _ _ _ _ _ _ _ (fewer_now c.requires.traverse_fit c.loop-e.invariant c.if-e-end.true c.if-number-eq0.true c.enter.ensures) _
+loop-e-smaller-then-number-eq0 c =
+    in_less _ _ _ _ _ _ _ _ (fewer_now c.requires.traverse_fit c.loop-e.invariant c.if-e-end.true c.if-number-eq0.true c.enter.ensures) _
 
 pub loop-e-preserved-then-number-eq0 : goal.loop-e-preserved-then-number-eq0
 loop-e-preserved-then-number-eq0 c = going_in c.requires.traverse_fit c.loop-e.invariant c.if-e-end.true c.if-number-eq0.true c.enter.ensures
@@ -143,34 +145,94 @@ pub settle-sp-requires : goal.settle-sp-requires
 settle-sp-requires c = top_fit c.requires.traverse_fit c.loop-e.invariant c.if-e-end.false _ (top (goal.at.settle-sp-requires c).Then-d-gt0)
 
 pub overflow_mul-n : goal.overflow_mul-n
-overflow_mul-n c = omega (arith, room_after (goal.at.overflow_mul-n c).After-settle-sp, top (goal.at.overflow_mul-n c).Then-d-gt0, top_low (goal.at.overflow_mul-n c).Then-d-gt0)
+overflow_mul-n c =
+    omega (
+      arith,
+      room_after (goal.at.overflow_mul-n c).After-settle-sp,
+      top (goal.at.overflow_mul-n c).Then-d-gt0,
+      top_low (goal.at.overflow_mul-n c).Then-d-gt0,
+    )
 
 pub overflow_add-base : goal.overflow_add-base
-overflow_add-base c = omega (arith, room_after (goal.at.overflow_add-base c).After-settle-sp, top (goal.at.overflow_add-base c).Then-d-gt0, top_low (goal.at.overflow_add-base c).Then-d-gt0)
+overflow_add-base c =
+    omega (
+      arith,
+      room_after (goal.at.overflow_add-base c).After-settle-sp,
+      top (goal.at.overflow_add-base c).Then-d-gt0,
+      top_low (goal.at.overflow_add-base c).Then-d-gt0,
+    )
 
 pub overflow_add-base-then-d-gt0 : goal.overflow_add-base-then-d-gt0
-overflow_add-base-then-d-gt0 c = omega (arith, room_after (goal.at.overflow_add-base-then-d-gt0 c).After-settle-sp, top (goal.at.overflow_add-base-then-d-gt0 c).Then-d-gt0, top_low (goal.at.overflow_add-base-then-d-gt0 c).Then-d-gt0)
+overflow_add-base-then-d-gt0 c =
+    omega (
+      arith,
+      room_after (goal.at.overflow_add-base-then-d-gt0 c).After-settle-sp,
+      top (goal.at.overflow_add-base-then-d-gt0 c).Then-d-gt0,
+      top_low (goal.at.overflow_add-base-then-d-gt0 c).Then-d-gt0,
+    )
 
 pub offset_bounds-work-base-then-d-gt0 : goal.offset_bounds-work-base-then-d-gt0
-offset_bounds-work-base-then-d-gt0 c = omega (arith, room_after (goal.at.offset_bounds-work-base-then-d-gt0 c).After-settle-sp, top (goal.at.offset_bounds-work-base-then-d-gt0 c).Then-d-gt0, top_low (goal.at.offset_bounds-work-base-then-d-gt0 c).Then-d-gt0)
+offset_bounds-work-base-then-d-gt0 c =
+    omega (
+      arith,
+      room_after (goal.at.offset_bounds-work-base-then-d-gt0 c).After-settle-sp,
+      top (goal.at.offset_bounds-work-base-then-d-gt0 c).Then-d-gt0,
+      top_low (goal.at.offset_bounds-work-base-then-d-gt0 c).Then-d-gt0,
+    )
 
 pub bounds-work-base-then-d-gt0 : goal.bounds-work-base-then-d-gt0
-bounds-work-base-then-d-gt0 c = omega (arith, room_after (goal.at.bounds-work-base-then-d-gt0 c).After-settle-sp, top (goal.at.bounds-work-base-then-d-gt0 c).Then-d-gt0, top_low (goal.at.bounds-work-base-then-d-gt0 c).Then-d-gt0)
+bounds-work-base-then-d-gt0 c =
+    omega (
+      arith,
+      room_after (goal.at.bounds-work-base-then-d-gt0 c).After-settle-sp,
+      top (goal.at.bounds-work-base-then-d-gt0 c).Then-d-gt0,
+      top_low (goal.at.bounds-work-base-then-d-gt0 c).Then-d-gt0,
+    )
 
 pub overflow_mul-e : goal.overflow_mul-e
-overflow_mul-e c = omega (arith, room_after (goal.at.overflow_mul-e c).After-settle-sp, top (goal.at.overflow_mul-e c).Then-d-gt0, top_low (goal.at.overflow_mul-e c).Then-d-gt0)
+overflow_mul-e c =
+    omega (
+      arith,
+      room_after (goal.at.overflow_mul-e c).After-settle-sp,
+      top (goal.at.overflow_mul-e c).Then-d-gt0,
+      top_low (goal.at.overflow_mul-e c).Then-d-gt0,
+    )
 
 pub overflow_add-e-then-d-gt0 : goal.overflow_add-e-then-d-gt0
-overflow_add-e-then-d-gt0 c = omega (arith, room_after (goal.at.overflow_add-e-then-d-gt0 c).After-settle-sp, top (goal.at.overflow_add-e-then-d-gt0 c).Then-d-gt0, top_low (goal.at.overflow_add-e-then-d-gt0 c).Then-d-gt0)
+overflow_add-e-then-d-gt0 c =
+    omega (
+      arith,
+      room_after (goal.at.overflow_add-e-then-d-gt0 c).After-settle-sp,
+      top (goal.at.overflow_add-e-then-d-gt0 c).Then-d-gt0,
+      top_low (goal.at.overflow_add-e-then-d-gt0 c).Then-d-gt0,
+    )
 
 pub overflow_add-e-then-d-gt0-2 : goal.overflow_add-e-then-d-gt0-2
-overflow_add-e-then-d-gt0-2 c = omega (arith, room_after (goal.at.overflow_add-e-then-d-gt0-2 c).After-settle-sp, top (goal.at.overflow_add-e-then-d-gt0-2 c).Then-d-gt0, top_low (goal.at.overflow_add-e-then-d-gt0-2 c).Then-d-gt0)
+overflow_add-e-then-d-gt0-2 c =
+    omega (
+      arith,
+      room_after (goal.at.overflow_add-e-then-d-gt0-2 c).After-settle-sp,
+      top (goal.at.overflow_add-e-then-d-gt0-2 c).Then-d-gt0,
+      top_low (goal.at.overflow_add-e-then-d-gt0-2 c).Then-d-gt0,
+    )
 
 pub offset_bounds-work-base-then-d-gt0-2 : goal.offset_bounds-work-base-then-d-gt0-2
-offset_bounds-work-base-then-d-gt0-2 c = omega (arith, room_after (goal.at.offset_bounds-work-base-then-d-gt0-2 c).After-settle-sp, top (goal.at.offset_bounds-work-base-then-d-gt0-2 c).Then-d-gt0, top_low (goal.at.offset_bounds-work-base-then-d-gt0-2 c).Then-d-gt0)
+offset_bounds-work-base-then-d-gt0-2 c =
+    omega (
+      arith,
+      room_after (goal.at.offset_bounds-work-base-then-d-gt0-2 c).After-settle-sp,
+      top (goal.at.offset_bounds-work-base-then-d-gt0-2 c).Then-d-gt0,
+      top_low (goal.at.offset_bounds-work-base-then-d-gt0-2 c).Then-d-gt0,
+    )
 
 pub bounds-work-base-then-d-gt0-2 : goal.bounds-work-base-then-d-gt0-2
-bounds-work-base-then-d-gt0-2 c = omega (arith, room_after (goal.at.bounds-work-base-then-d-gt0-2 c).After-settle-sp, top (goal.at.bounds-work-base-then-d-gt0-2 c).Then-d-gt0, top_low (goal.at.bounds-work-base-then-d-gt0-2 c).Then-d-gt0)
+bounds-work-base-then-d-gt0-2 c =
+    omega (
+      arith,
+      room_after (goal.at.bounds-work-base-then-d-gt0-2 c).After-settle-sp,
+      top (goal.at.bounds-work-base-then-d-gt0-2 c).Then-d-gt0,
+      top_low (goal.at.bounds-work-base-then-d-gt0-2 c).Then-d-gt0,
+    )
 
 pub overflow_cast-e-then-d-gt0 : goal.overflow_cast-e-then-d-gt0
 overflow_cast-e-then-d-gt0 c = Fits-32_64 (c.type_inv.work _)
@@ -179,19 +241,28 @@ pub row_end-end-requires : goal.row_end-end-requires
 row_end-end-requires c =
     let fit = c.requires.traverse_fit in
     let over = c.if-e-end.false in
-    let same = frames_same fit c.loop-e.invariant over _ (top (goal.at.row_end-end-requires c).Then-d-gt0) c.settle-sp.ensures in let both = end_fits fit c.loop-e.invariant.frames over _ (top (goal.at.row_end-end-requires c).Then-d-gt0) (top_low (goal.at.row_end-end-requires c).Then-d-gt0) (kept_out fit c.loop-e.invariant over _ (top (goal.at.row_end-end-requires c).Then-d-gt0) c.settle-sp.ensures) (same _ (omega arith) (omega arith)) (same _ (omega arith) (omega arith)) (same _ (omega arith) (omega arith)) in record { n_in_bounds = both.0; n_in_bounds_2 = both.1.0; d_le_n = both.1.1.0; by_index = both.1.1.1 }
+    let same = frames_same fit c.loop-e.invariant over _ (top (goal.at.row_end-end-requires c).Then-d-gt0) c.settle-sp.ensures in
+    let both = end_fits fit c.loop-e.invariant.frames over _ (top (goal.at.row_end-end-requires c).Then-d-gt0)
+        (top_low (goal.at.row_end-end-requires c).Then-d-gt0)
+        (kept_out fit c.loop-e.invariant over _ (top (goal.at.row_end-end-requires c).Then-d-gt0) c.settle-sp.ensures) (same _ (omega arith) (omega arith))
+        (same _ (omega arith) (omega arith)) (same _ (omega arith) (omega arith)) in
+    record { n_in_bounds = both.0; n_in_bounds_2 = both.1.0; d_le_n = both.1.1.0; by_index = both.1.1.1 }
 
 pub loop-e-smaller : goal.loop-e-smaller
-loop-e-smaller c = out_less _ _ _ _ _ _ _ _ _ (top (goal.at.loop-e-smaller c).Then-d-gt0) (no_more c.requires.traverse_fit c.loop-e.invariant c.if-e-end.false _ (top (goal.at.loop-e-smaller c).Then-d-gt0) c.settle-sp.ensures) _
+loop-e-smaller c =
+    out_less _ _ _ _ _ _ _ _ _ (top (goal.at.loop-e-smaller c).Then-d-gt0)
+        (no_more c.requires.traverse_fit c.loop-e.invariant c.if-e-end.false _ (top (goal.at.loop-e-smaller c).Then-d-gt0) c.settle-sp.ensures) _
 
 pub loop-e-preserved : goal.loop-e-preserved
 loop-e-preserved c =
     let place : ℕ = c.args.base + 2 * c.args.n + (c.loop-e.d - 1) in
     let fits : get_or c.settle-sp.new.work place 0 < 2 ^ 32 = omega arith in
-    going_out c.requires.traverse_fit c.loop-e.invariant c.if-e-end.false _ (top (goal.at.loop-e-preserved c).Then-d-gt0) c.settle-sp.ensures c.lesser_word-low-then-d-gt0.ensures refl fits c.row_place-at.ensures c.row_end-end.ensures
+    going_out c.requires.traverse_fit c.loop-e.invariant c.if-e-end.false _ (top (goal.at.loop-e-preserved c).Then-d-gt0) c.settle-sp.ensures
+        c.lesser_word-low-then-d-gt0.ensures refl fits c.row_place-at.ensures c.row_end-end.ensures
 
 pub shape_of-work-else-d-gt0 : goal.shape_of-work-else-d-gt0
 shape_of-work-else-d-gt0 c = c.loop-e.invariant.frames.kept.long
 
 pub returns-else-d-gt0 : goal.returns-else-d-gt0
-returns-else-d-gt0 c = let both = ended c.requires.traverse_fit c.loop-e.invariant (omega arith) c.if-e-end.false in record { kept = both.0; group_names = both.1 }
+returns-else-d-gt0 c =
+    let both = ended c.requires.traverse_fit c.loop-e.invariant (omega arith) c.if-e-end.false in record { kept = both.0; group_names = both.1 }

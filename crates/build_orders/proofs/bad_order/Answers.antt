@@ -21,15 +21,31 @@ pub overflow_mul-i : goal.overflow_mul-i
 overflow_mul-i c = omega (arith, inside (goal.at.overflow_mul-i c).In-loop-i)
 
 pub stamp_order-requires : goal.stamp_order-requires
-stamp_order-requires c = record { n_in_bounds = inside (goal.at.stamp_order-requires c).In-loop-i; n_in_bounds_2 = room (goal.at.stamp_order-requires c).At-loop-i }
+stamp_order-requires c = record {
+  n_in_bounds = inside (goal.at.stamp_order-requires c).In-loop-i;
+  n_in_bounds_2 = room (goal.at.stamp_order-requires c).At-loop-i;
+}
 
 pub returns-then-one_lacks : goal.returns-then-one_lacks
-returns-then-one_lacks c = let s = c.stamp_order in record { value = none_found c.args.d c.loop-i.invariant.1.passed (omega arith) (tried_bad (room (goal.at.returns-then-one_lacks c).At-loop-i) c.loop-i.invariant.1 s.ensures.kept s.ensures.stamped _ c.one_lacks.ensures c.if-one_lacks.true); kept = kept_then c.clear_part.ensures.kept (kept_then c.loop-i.invariant.1.kept s.ensures.kept) }
+returns-then-one_lacks c =
+    let s = c.stamp_order in
+    record {
+      value = none_found c.args.d c.loop-i.invariant.1.passed (omega arith)
+          (tried_bad (room (goal.at.returns-then-one_lacks c).At-loop-i) c.loop-i.invariant.1 s.ensures.kept s.ensures.stamped _ c.one_lacks.ensures
+              c.if-one_lacks.true);
+      kept = kept_then c.clear_part.ensures.kept (kept_then c.loop-i.invariant.1.kept s.ensures.kept);
+    }
 
 pub loop-i-preserved : goal.loop-i-preserved
 loop-i-preserved c =
     let s = c.stamp_order in
-    (omega arith, tried_more (room (goal.at.loop-i-preserved c).At-loop-i) c.loop-i.invariant.1 s.ensures.kept s.ensures.stamped _ c.one_lacks.ensures c.if-one_lacks.false)
+    (
+      omega arith,
+      tried_more (room (goal.at.loop-i-preserved c).At-loop-i) c.loop-i.invariant.1 s.ensures.kept s.ensures.stamped _ c.one_lacks.ensures c.if-one_lacks.false,
+    )
 
 pub returns : goal.returns
-returns c = record { value = none_all c.args.d c.loop-i.invariant.1.passed (omega arith) (omega arith); kept = kept_then c.clear_part.ensures.kept c.loop-i.invariant.1.kept }
+returns c = record {
+  value = none_all c.args.d c.loop-i.invariant.1.passed (omega arith) (omega arith);
+  kept = kept_then c.clear_part.ensures.kept c.loop-i.invariant.1.kept;
+}

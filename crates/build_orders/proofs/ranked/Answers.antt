@@ -50,7 +50,10 @@ loop-j-preserved c =
     let f = c.requires in
     let i = c.loop-j.invariant.1 in
     let h = c.loop-j-test.true in
-    (omega arith, elim c.if-name-v.branch [ then-name-v w ↦ ranking_more f i h w.if-name-v.true w.k-is | else-name-v w ↦ ranking_past f i h w.if-name-v.false w.k-is ])
+    (
+      omega arith,
+      elim c.if-name-v.branch [ then-name-v w ↦ ranking_more f i h w.if-name-v.true w.k-is | else-name-v w ↦ ranking_past f i h w.if-name-v.false w.k-is ],
+    )
 
 pub shape_of-work : goal.shape_of-work
 shape_of-work c = c.loop-j.invariant.1.written.kept.long

@@ -39,7 +39,8 @@ pub overflow_add-e : goal.overflow_add-e
 overflow_add-e c = omega (arith, inside (goal.at.overflow_add-e c).In-loop-e)
 
 pub overflow_add-stamps-in-loop-e : goal.overflow_add-stamps-in-loop-e
-overflow_add-stamps-in-loop-e c = omega (arith, low (goal.at.overflow_add-stamps-in-loop-e c).In-loop-e, roomy (goal.at.overflow_add-stamps-in-loop-e c).In-loop-e)
+overflow_add-stamps-in-loop-e c =
+    omega (arith, low (goal.at.overflow_add-stamps-in-loop-e c).In-loop-e, roomy (goal.at.overflow_add-stamps-in-loop-e c).In-loop-e)
 
 pub offset_bounds-work-stamps : goal.offset_bounds-work-stamps
 offset_bounds-work-stamps c = omega (arith, low (goal.at.offset_bounds-work-stamps c).In-loop-e, roomy (goal.at.offset_bounds-work-stamps c).In-loop-e)
@@ -51,13 +52,16 @@ pub overflow_add-work : goal.overflow_add-work
 overflow_add-work c = omega (arith, low (goal.at.overflow_add-work c).In-loop-e, roomy (goal.at.overflow_add-work c).In-loop-e)
 
 pub offset_bounds-work-stamps-then-work-stamps : goal.offset_bounds-work-stamps-then-work-stamps
-offset_bounds-work-stamps-then-work-stamps c = omega (arith, low (goal.at.offset_bounds-work-stamps-then-work-stamps c).In-loop-e, roomy (goal.at.offset_bounds-work-stamps-then-work-stamps c).In-loop-e)
+offset_bounds-work-stamps-then-work-stamps c =
+    omega (arith, low (goal.at.offset_bounds-work-stamps-then-work-stamps c).In-loop-e, roomy (goal.at.offset_bounds-work-stamps-then-work-stamps c).In-loop-e)
 
 pub bounds-work-stamps-then-work-stamps : goal.bounds-work-stamps-then-work-stamps
-bounds-work-stamps-then-work-stamps c = omega (arith, low (goal.at.bounds-work-stamps-then-work-stamps c).In-loop-e, roomy (goal.at.bounds-work-stamps-then-work-stamps c).In-loop-e)
+bounds-work-stamps-then-work-stamps c =
+    omega (arith, low (goal.at.bounds-work-stamps-then-work-stamps c).In-loop-e, roomy (goal.at.bounds-work-stamps-then-work-stamps c).In-loop-e)
 
 pub overflow_add-work-then-work-stamps : goal.overflow_add-work-then-work-stamps
-overflow_add-work-then-work-stamps c = omega (arith, placed (goal.at.overflow_add-work-then-work-stamps c).In-loop-e, roomy (goal.at.overflow_add-work-then-work-stamps c).In-loop-e)
+overflow_add-work-then-work-stamps c =
+    omega (arith, placed (goal.at.overflow_add-work-then-work-stamps c).In-loop-e, roomy (goal.at.overflow_add-work-then-work-stamps c).In-loop-e)
 
 pub offset_bounds-work-out : goal.offset_bounds-work-out
 offset_bounds-work-out c = omega (arith, placed (goal.at.offset_bounds-work-out c).In-loop-e, roomy (goal.at.offset_bounds-work-out c).In-loop-e)
@@ -84,4 +88,6 @@ pub shape_of-work : goal.shape_of-work
 shape_of-work c = c.loop-e.invariant.kept.long
 
 pub returns : goal.returns
-returns c = let both = stripping_all c.requires c.loop-e-test.false c.loop-e.invariant in record { kept = both.0; upper_bound = both.1.0; result_after = both.1.1.0; by_index = both.1.1.1 }
+returns c =
+    let both = stripping_all c.requires c.loop-e-test.false c.loop-e.invariant in
+    record { kept = both.0; upper_bound = both.1.0; result_after = both.1.1.0; by_index = both.1.1.1 }

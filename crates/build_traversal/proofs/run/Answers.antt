@@ -76,7 +76,12 @@ enter-requires c =
     let h1 = frame (goal.at.enter-requires c).Then-mark-eq0 in
     let h2 = vertex_low (goal.at.enter-requires c).Then-e-end in
     let h3 = room (goal.at.enter-requires c).At-loop-e in
-    record { n_in_bounds = omega (arith, c.requires.traverse_fit.few); v_lt_n = omega (arith, c.requires.traverse_fit.few); k_bound = omega (arith, c.requires.traverse_fit.few); n_bound = omega (arith, c.requires.traverse_fit.few) }
+    record {
+      n_in_bounds = omega (arith, c.requires.traverse_fit.few);
+      v_lt_n = omega (arith, c.requires.traverse_fit.few);
+      k_bound = omega (arith, c.requires.traverse_fit.few);
+      n_bound = omega (arith, c.requires.traverse_fit.few);
+    }
 
 pub overflow_cast-s : goal.overflow_cast-s
 overflow_cast-s c = omega (arith, c.requires.traverse_fit.few)
@@ -106,13 +111,15 @@ pub offset_bounds-work-starts-then-mark-eq0 : goal.offset_bounds-work-starts-the
 offset_bounds-work-starts-then-mark-eq0 c = omega (arith, row_fits (goal.at.offset_bounds-work-starts-then-mark-eq0 c).Then-e-end)
 
 pub bounds-work-starts-then-mark-eq0 : goal.bounds-work-starts-then-mark-eq0
-bounds-work-starts-then-mark-eq0 c = omega (arith, row_fits (goal.at.bounds-work-starts-then-mark-eq0 c).Then-e-end, c.loop-e.invariant.frames.kept.long, c.enter.auto.work)
+bounds-work-starts-then-mark-eq0 c =
+    omega (arith, row_fits (goal.at.bounds-work-starts-then-mark-eq0 c).Then-e-end, c.loop-e.invariant.frames.kept.long, c.enter.auto.work)
 
 pub overflow_cast-end : goal.overflow_cast-end
 overflow_cast-end c = Fits-32_64 (c.type_inv.work _)
 
 pub loop-e-smaller-then-mark-eq0 : goal.loop-e-smaller-then-mark-eq0
-loop-e-smaller-then-mark-eq0 c = in_less _ _ _ _ _ _ _ _ (fewer_now c.requires.traverse_fit c.loop-e.invariant c.if-e-end.true c.if-mark-eq0.true c.enter.ensures) _
+loop-e-smaller-then-mark-eq0 c =
+    in_less _ _ _ _ _ _ _ _ (fewer_now c.requires.traverse_fit c.loop-e.invariant c.if-e-end.true c.if-mark-eq0.true c.enter.ensures) _
 
 pub loop-e-preserved-then-mark-eq0 : goal.loop-e-preserved-then-mark-eq0
 loop-e-preserved-then-mark-eq0 c = going_in c.requires.traverse_fit c.loop-e.invariant c.if-e-end.true c.if-mark-eq0.true c.enter.ensures
@@ -133,7 +140,12 @@ pub leave-requires : goal.leave-requires
 leave-requires c =
     let h1 = leave_fits c.requires.traverse_fit c.loop-e.invariant c.if-e-end.false _ (top (goal.at.leave-requires c).Then-d-gt0) in
     let h2 = room (goal.at.leave-requires c).At-loop-e in
-    record { n_in_bounds = omega (arith, c.requires.traverse_fit.few); k_bound = omega (arith, c.requires.traverse_fit.few); d_bound = omega (arith, c.requires.traverse_fit.few); n_bound = omega (arith, c.requires.traverse_fit.few) }
+    record {
+      n_in_bounds = omega (arith, c.requires.traverse_fit.few);
+      k_bound = omega (arith, c.requires.traverse_fit.few);
+      d_bound = omega (arith, c.requires.traverse_fit.few);
+      n_bound = omega (arith, c.requires.traverse_fit.few);
+    }
 
 pub overflow_add-k-then-d-gt0 : goal.overflow_add-k-then-d-gt0
 overflow_add-k-then-d-gt0 c = omega (arith, both (goal.at.overflow_add-k-then-d-gt0 c).At-loop-e)
@@ -142,31 +154,87 @@ pub overflow_mul-n : goal.overflow_mul-n
 overflow_mul-n c = omega (arith, room (goal.at.overflow_mul-n c).At-loop-e, c.leave.auto.work)
 
 pub overflow_add-base : goal.overflow_add-base
-overflow_add-base c = omega (arith, room (goal.at.overflow_add-base c).At-loop-e, c.leave.auto.work, top (goal.at.overflow_add-base c).Then-d-gt0, both (goal.at.overflow_add-base c).At-loop-e)
+overflow_add-base c =
+    omega (
+      arith,
+      room (goal.at.overflow_add-base c).At-loop-e,
+      c.leave.auto.work,
+      top (goal.at.overflow_add-base c).Then-d-gt0,
+      both (goal.at.overflow_add-base c).At-loop-e,
+    )
 
 pub overflow_add-base-then-d-gt0 : goal.overflow_add-base-then-d-gt0
-overflow_add-base-then-d-gt0 c = omega (arith, room (goal.at.overflow_add-base-then-d-gt0 c).At-loop-e, c.leave.auto.work, top (goal.at.overflow_add-base-then-d-gt0 c).Then-d-gt0, both (goal.at.overflow_add-base-then-d-gt0 c).At-loop-e)
+overflow_add-base-then-d-gt0 c =
+    omega (
+      arith,
+      room (goal.at.overflow_add-base-then-d-gt0 c).At-loop-e,
+      c.leave.auto.work,
+      top (goal.at.overflow_add-base-then-d-gt0 c).Then-d-gt0,
+      both (goal.at.overflow_add-base-then-d-gt0 c).At-loop-e,
+    )
 
 pub offset_bounds-work-base-then-d-gt0 : goal.offset_bounds-work-base-then-d-gt0
-offset_bounds-work-base-then-d-gt0 c = omega (arith, room (goal.at.offset_bounds-work-base-then-d-gt0 c).At-loop-e, c.leave.auto.work, top (goal.at.offset_bounds-work-base-then-d-gt0 c).Then-d-gt0, both (goal.at.offset_bounds-work-base-then-d-gt0 c).At-loop-e)
+offset_bounds-work-base-then-d-gt0 c =
+    omega (
+      arith,
+      room (goal.at.offset_bounds-work-base-then-d-gt0 c).At-loop-e,
+      c.leave.auto.work,
+      top (goal.at.offset_bounds-work-base-then-d-gt0 c).Then-d-gt0,
+      both (goal.at.offset_bounds-work-base-then-d-gt0 c).At-loop-e,
+    )
 
 pub bounds-work-base-then-d-gt0 : goal.bounds-work-base-then-d-gt0
-bounds-work-base-then-d-gt0 c = omega (arith, room (goal.at.bounds-work-base-then-d-gt0 c).At-loop-e, c.leave.auto.work, top (goal.at.bounds-work-base-then-d-gt0 c).Then-d-gt0, both (goal.at.bounds-work-base-then-d-gt0 c).At-loop-e)
+bounds-work-base-then-d-gt0 c =
+    omega (
+      arith,
+      room (goal.at.bounds-work-base-then-d-gt0 c).At-loop-e,
+      c.leave.auto.work,
+      top (goal.at.bounds-work-base-then-d-gt0 c).Then-d-gt0,
+      both (goal.at.bounds-work-base-then-d-gt0 c).At-loop-e,
+    )
 
 pub overflow_mul-e : goal.overflow_mul-e
 overflow_mul-e c = omega (arith, room (goal.at.overflow_mul-e c).At-loop-e, c.leave.auto.work)
 
 pub overflow_add-e-then-d-gt0 : goal.overflow_add-e-then-d-gt0
-overflow_add-e-then-d-gt0 c = omega (arith, room (goal.at.overflow_add-e-then-d-gt0 c).At-loop-e, c.leave.auto.work, top (goal.at.overflow_add-e-then-d-gt0 c).Then-d-gt0, both (goal.at.overflow_add-e-then-d-gt0 c).At-loop-e)
+overflow_add-e-then-d-gt0 c =
+    omega (
+      arith,
+      room (goal.at.overflow_add-e-then-d-gt0 c).At-loop-e,
+      c.leave.auto.work,
+      top (goal.at.overflow_add-e-then-d-gt0 c).Then-d-gt0,
+      both (goal.at.overflow_add-e-then-d-gt0 c).At-loop-e,
+    )
 
 pub overflow_add-e-then-d-gt0-2 : goal.overflow_add-e-then-d-gt0-2
-overflow_add-e-then-d-gt0-2 c = omega (arith, room (goal.at.overflow_add-e-then-d-gt0-2 c).At-loop-e, c.leave.auto.work, top (goal.at.overflow_add-e-then-d-gt0-2 c).Then-d-gt0, both (goal.at.overflow_add-e-then-d-gt0-2 c).At-loop-e)
+overflow_add-e-then-d-gt0-2 c =
+    omega (
+      arith,
+      room (goal.at.overflow_add-e-then-d-gt0-2 c).At-loop-e,
+      c.leave.auto.work,
+      top (goal.at.overflow_add-e-then-d-gt0-2 c).Then-d-gt0,
+      both (goal.at.overflow_add-e-then-d-gt0-2 c).At-loop-e,
+    )
 
 pub offset_bounds-work-base-then-d-gt0-2 : goal.offset_bounds-work-base-then-d-gt0-2
-offset_bounds-work-base-then-d-gt0-2 c = omega (arith, room (goal.at.offset_bounds-work-base-then-d-gt0-2 c).At-loop-e, c.leave.auto.work, top (goal.at.offset_bounds-work-base-then-d-gt0-2 c).Then-d-gt0, both (goal.at.offset_bounds-work-base-then-d-gt0-2 c).At-loop-e)
+offset_bounds-work-base-then-d-gt0-2 c =
+    omega (
+      arith,
+      room (goal.at.offset_bounds-work-base-then-d-gt0-2 c).At-loop-e,
+      c.leave.auto.work,
+      top (goal.at.offset_bounds-work-base-then-d-gt0-2 c).Then-d-gt0,
+      both (goal.at.offset_bounds-work-base-then-d-gt0-2 c).At-loop-e,
+    )
 
 pub bounds-work-base-then-d-gt0-2 : goal.bounds-work-base-then-d-gt0-2
-bounds-work-base-then-d-gt0-2 c = omega (arith, room (goal.at.bounds-work-base-then-d-gt0-2 c).At-loop-e, c.leave.auto.work, top (goal.at.bounds-work-base-then-d-gt0-2 c).Then-d-gt0, both (goal.at.bounds-work-base-then-d-gt0-2 c).At-loop-e)
+bounds-work-base-then-d-gt0-2 c =
+    omega (
+      arith,
+      room (goal.at.bounds-work-base-then-d-gt0-2 c).At-loop-e,
+      c.leave.auto.work,
+      top (goal.at.bounds-work-base-then-d-gt0-2 c).Then-d-gt0,
+      both (goal.at.bounds-work-base-then-d-gt0-2 c).At-loop-e,
+    )
 
 pub overflow_cast-e-then-d-gt0 : goal.overflow_cast-e-then-d-gt0
 overflow_cast-e-then-d-gt0 c = Fits-32_64 (c.type_inv.work _)
@@ -175,19 +243,30 @@ pub row_end-end-requires : goal.row_end-end-requires
 row_end-end-requires c =
     let fit = c.requires.traverse_fit in
     let over = c.if-e-end.false in
-    let same = frames_same fit c.loop-e.invariant over _ (top (goal.at.row_end-end-requires c).Then-d-gt0) c.lesser_word-s-then-d-gt0.ensures c.leave.ensures in let both = end_fits fit c.loop-e.invariant.frames over _ (top (goal.at.row_end-end-requires c).Then-d-gt0) (omega (arith, both (goal.at.row_end-end-requires c).At-loop-e)) (kept_out fit c.loop-e.invariant over _ (top (goal.at.row_end-end-requires c).Then-d-gt0) c.lesser_word-s-then-d-gt0.ensures c.leave.ensures) (same _ (omega arith) (omega arith)) (same _ (omega arith) (omega arith)) (same _ (omega arith) (omega arith)) in record { n_in_bounds = both.0; n_in_bounds_2 = both.1.0; d_le_n = both.1.1.0; by_index = both.1.1.1 }
+    let same = frames_same fit c.loop-e.invariant over _ (top (goal.at.row_end-end-requires c).Then-d-gt0) c.lesser_word-s-then-d-gt0.ensures c.leave.ensures in
+    let both = end_fits fit c.loop-e.invariant.frames over _ (top (goal.at.row_end-end-requires c).Then-d-gt0)
+        (omega (arith, both (goal.at.row_end-end-requires c).At-loop-e))
+        (kept_out fit c.loop-e.invariant over _ (top (goal.at.row_end-end-requires c).Then-d-gt0) c.lesser_word-s-then-d-gt0.ensures c.leave.ensures)
+        (same _ (omega arith) (omega arith)) (same _ (omega arith) (omega arith)) (same _ (omega arith) (omega arith)) in
+    record { n_in_bounds = both.0; n_in_bounds_2 = both.1.0; d_le_n = both.1.1.0; by_index = both.1.1.1 }
 
 pub loop-e-smaller : goal.loop-e-smaller
-loop-e-smaller c = out_less _ _ _ _ _ _ _ _ _ (top (goal.at.loop-e-smaller c).Then-d-gt0) (no_more c.requires.traverse_fit c.loop-e.invariant c.if-e-end.false _ (top (goal.at.loop-e-smaller c).Then-d-gt0) c.lesser_word-s-then-d-gt0.ensures c.leave.ensures) _
+loop-e-smaller c =
+    out_less _ _ _ _ _ _ _ _ _ (top (goal.at.loop-e-smaller c).Then-d-gt0)
+        (no_more c.requires.traverse_fit c.loop-e.invariant c.if-e-end.false _ (top (goal.at.loop-e-smaller c).Then-d-gt0) c.lesser_word-s-then-d-gt0.ensures
+            c.leave.ensures) _
 
 pub loop-e-preserved : goal.loop-e-preserved
 loop-e-preserved c =
     let place : ℕ = c.args.base + 2 * c.args.n + (c.loop-e.d - 1) in
     let fits : get_or c.leave.new.work place 0 < 2 ^ 32 = omega arith in
-    going_out c.requires.traverse_fit c.loop-e.invariant c.if-e-end.false _ (top (goal.at.loop-e-preserved c).Then-d-gt0) c.lesser_word-s-then-d-gt0.ensures c.leave.ensures c.lesser_word-s-then-d-gt0-2.ensures refl fits c.row_place-at.ensures c.row_end-end.ensures
+    going_out c.requires.traverse_fit c.loop-e.invariant c.if-e-end.false _ (top (goal.at.loop-e-preserved c).Then-d-gt0) c.lesser_word-s-then-d-gt0.ensures
+        c.leave.ensures c.lesser_word-s-then-d-gt0-2.ensures refl fits c.row_place-at.ensures c.row_end-end.ensures
 
 pub shape_of-work-else-d-gt0 : goal.shape_of-work-else-d-gt0
 shape_of-work-else-d-gt0 c = c.loop-e.invariant.frames.kept.long
 
 pub returns-else-d-gt0 : goal.returns-else-d-gt0
-returns-else-d-gt0 c = let both = ended c.requires.traverse_fit c.loop-e.invariant c.requires.n_value (omega arith) c.if-e-end.false in record { kept = both.0; traversed = both.1 }
+returns-else-d-gt0 c =
+    let both = ended c.requires.traverse_fit c.loop-e.invariant c.requires.n_value (omega arith) c.if-e-end.false in
+    record { kept = both.0; traversed = both.1 }
