@@ -1,6 +1,7 @@
 // The C face as one static library, libdrobisten.a: every export calls the function of its name in the crates face, face_.. and rules_table, and states its clauses again.
 // include/drobisten.h is its manual; what each promises follows from what is proved of the function that it calls.
 #![tactic(auto)]
+
 ghost use Rattle.std.specs.Prelude.{◌≡◌, length, ◌++◌, drop};
 ghost use Rattle.lineage.specs.Calls.{host, open_answer, open_marks, ask_answer, ask_marks, ordinary, turned, open_work, ask_work, list_answer, list_marks, list_work, list_output, turned_input, build_answer, build_work, build_output, build_call, build_call_work, build_call_output, hierarchy};
 ghost use Rattle.ask_all.specs.Batch.{batch_answer, batch_answers, batch_marks, batch_work};
