@@ -225,8 +225,14 @@ demand_1_from_c = record {
     allows = λ κs a r e (returns, (leaves, (clears, writes))). record { returns = returns; leaves = leaves; clears = clears; writes = writes };
     once = λ κs a r r' e e'. plain.turned_once;
   };
+  settles_records = record {
+    met = settle_rules_call.Met.met;
+    nothing_asked = λ κs a. tt;
+    allows = λ κs a r e allowed. allowed;
+    once = λ κs a r r' e e'. table_once;
+  };
   settles_rules = record {
-    met = λ {𝓤 = 𝓤} 𝓛 𝓜 𝓡. settle_rules_call.Met.met 𝓤 𝓛 𝓜 𝓡;
+    met = λ {𝓤 = 𝓤} 𝓛 𝓜 𝓡 wired. settle_rules_call.Met.met 𝓤 𝓛 𝓜 𝓡 wired;
     nothing_asked = λ {𝓤 = 𝓤} 𝓛 mem run κs a g. id⊢ 𝓤 (emp 𝓤);
     allows = λ {𝓤 = 𝓤} 𝓛 mem run κs a g r e. id⊢ 𝓤 _;
     once = λ κs a r r' e e'. table_once;

@@ -6,6 +6,8 @@ use base.Logic.{SProp, ent, emp}
 use prog.Memory.{Memory}
 use prog.Model.{Model}
 use prog.Routine.{Routine}
+use prog.Wired.{Code, Wired}
+use mir.Syntax.{Callee}
 use types.Logic.{Logic}
 use contract.Lifetimes.{Lfts}
 use contract.Monad.{Fun, fact}
@@ -99,15 +101,15 @@ pub record Answers {n : ℕ} (ps : List (ParamKind n)) (res : ResultKind n) (mee
       → allowed κs a r' e'
       → (r ≡ r') × same κs e e'
 
--- The same of one call whose proof is a walk of its code, by hand: there callers have its contract as the logic has it, in every model of the logic. `emp` is what
--- holds of nothing, and `fact` says a plain claim.
-pub record AnswersByHand (T : Ended) (routine : Routine)
+-- The same of one call in the logic's own words, as a proof by hand of its code states it and of its contract: in every model of the logic, wherever the call's name
+-- leads to its code. `emp` is what holds of nothing, and `fact` says a plain claim.
+pub record AnswersByHand (T : Ended) (name : Callee) (code : Code)
     (contract : (M : Type 1) (𝓤 : Ura M) → (𝓛 : Logic 𝓤) → (Memory → SProp 𝓤) → (Routine → Fun 𝓤) → Clauses 𝓤 T)
     (allowed : (κs : Lfts T.signature.lifetimes) → Args T.signature κs → Res T.signature κs → AtExit T κs → Type 0)
     (same : (κs : Lfts T.signature.lifetimes) → AtExit T κs → AtExit T κs → Type 0)
     : Type 2 where
-  pub met : {M : Type 1} {𝓤 : Ura M} (𝓛 : Logic 𝓤) (𝓜 : Model 𝓤 𝓛.H) (𝓡 : Running 𝓤 𝓛.H 𝓜)
-      → Meets 𝓛 T.signature (𝓡.run routine) (closing 𝓛 T (contract M 𝓤 𝓛 𝓜.mem 𝓡.run))
+  pub met : {M : Type 1} {𝓤 : Ura M} (𝓛 : Logic 𝓤) (𝓜 : Model 𝓤 𝓛.H) (𝓡 : Running 𝓤 𝓛.H 𝓜) → Wired 𝓡.env code
+      → Meets 𝓛 T.signature (𝓡.run (𝓡.env name)) (closing 𝓛 T (contract M 𝓤 𝓛 𝓜.mem 𝓡.returns))
   pub nothing_asked : {M : Type 1} {𝓤 : Ura M} (𝓛 : Logic 𝓤) (mem : Memory → SProp 𝓤) (run : Routine → Fun 𝓤)
       (κs : Lfts T.signature.lifetimes) (a : Args T.signature κs) (g : (contract M 𝓤 𝓛 mem run κs a).ghost)
       → ent 𝓤 (emp 𝓤) ((contract M 𝓤 𝓛 mem run κs a).requires g)

@@ -7,6 +7,7 @@ use Rattle.build_orders.specs.Input.{graph_of}
 use Rattle.build.specs.Input.{input_of}
 use Rattle.text_run.proofs.Theorems as run
 use Rattle.rules_table.specs.Table as table
+use Rattle.rules_table.specs.contracts.drobisten_settle_rules as settle_rules_contract
 use Rattle.rules_table.proofs.drobisten_settle_rules as settle_rules_call
 use Rattle.face.proofs.drobisten_open as open_call
 use Rattle.face.proofs.drobisten_ask as ask_call
@@ -183,8 +184,14 @@ pub record EveryExport : Type 2 where
       (λ κs (index, (marks, (work, (out, _)))) r (_, (marks', (work', (out', _)))).
       plain.Turns 4 2 index.now marks.now work.now out.now r marks'.now work'.now out'.now)
       (λ κs (_, (marks, (work, (out, _)))) (_, (marks', (work', (out', _)))). (marks.now ≡ marks'.now) × ((work.now ≡ work'.now) × (out.now ≡ out'.now)))
-  -- over the rule desk's own records, a slice of structs, proved by hand
-  pub settles_rules : AnswersByHand settle_rules_call.ended settle_rules_call.Symbol.routine (λ M 𝓤 𝓛. settle_rules_call.clauses 𝓛)
+  -- over the rule desk's own records, a slice of structs: as of every other call, and in the logic's own words
+  pub settles_records : Answers settle_rules_call.Kinds.ps settle_rules_call.Kinds.r settle_rules_call.Statement.statement settle_rules_call.Reads.Asked
+      settle_rules_call.Reads.Learnt
+      (λ κs (index, (changed, (marks, (work, (rules, _))))) r (_, (_, (marks', (work', (rules', _))))).
+      table.Allowed ordinary index.now changed.now marks.now work.now rules.now r marks'.now work'.now rules'.now)
+      (λ κs (_, (_, (marks, (work, (rules, _))))) (_, (_, (marks', (work', (rules', _))))).
+      (marks.now ≡ marks'.now) × ((work.now ≡ work'.now) × (rules.now ≡ rules'.now)))
+  pub settles_rules : AnswersByHand settle_rules_contract.ended settle_rules_call.Symbol.name settle_rules_call.Symbol.code (λ M 𝓤 𝓛. settle_rules_contract.clauses 𝓛)
       (λ κs (index, (changed, (marks, (work, (rules, _))))) r (_, (_, (marks', (work', (rules', _))))).
       table.Allowed ordinary index.now changed.now marks.now work.now rules.now r marks'.now work'.now rules'.now)
       (λ κs (_, (_, (marks, (work, (rules, _))))) (_, (_, (marks', (work', (rules', _))))).
