@@ -68,7 +68,7 @@ use Rattle.demands.proofs.Stored.{build_stored, finished_stored}
 use Rattle.demands.proofs.Opened.{opened_yields, opened_written, yielded_stored, opened_answers, asked_path, host_path}
 use Rattle.demands.proofs.Orders.{fewer, on_a_no}
 
--- 1. The checker's theorem of each call is cited; what the contract says is, equation by equation, what is allowed. (Of the calls that C makes: `demand-1-from-c`, in Face.)
+-- 1. The checker's theorem of each call is cited; what the contract says is, equation by equation, what is allowed. (Of the calls that C makes: `demand_1_from_c`, in Face.)
 pub demand_1 : EveryCall
 unfolding build_answer build_call open_answer ask_answer batch_answer list_answer chain_answer added_answer convert_answer rules_answer matrix_read_answer matrix_write_answer exceptions_built exceptions_opened exceptions_asked all_exceptions turn_answer
 demand_1 = record {

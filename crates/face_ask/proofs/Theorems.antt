@@ -1,5 +1,5 @@
 -- What a program in C may rely on that opens, asks and converts: two results that the contracts allow are equal, and yes is 1 exactly where a path exists. How the numbers
--- of opening and asking are read stands with the structs (`opened-read`, `asked-read`, `asked-all-read` of face).
+-- of opening and asking are read stands with the structs (`opened_read`, `asked_read`, `asked_all_read` of face).
 use mathlib.Core.Logic.{◌↔◌}
 use mathlib.Core.Path.{◌≡◌, sym, ◌∙◌}
 use mathlib.Core.List.{List, ◌++◌}

@@ -1,5 +1,5 @@
 -- What a program in C may rely on that keeps added edges or the states of rules beside an index: the outcomes of the definitions are read off the numbers, and two results
--- that the contracts allow are equal. How the rules' numbers are read stands with their table (`settled-read` of rules_table).
+-- that the contracts allow are equal. How the rules' numbers are read stands with their table (`settled_read` of rules_table).
 use mathlib.Core.Path.{◌≡◌, refl, sym, ◌∙◌}
 use mathlib.Core.List.{List, ◌++◌}
 use Prim.Native.Nat.{ℕ, ◌<◌}

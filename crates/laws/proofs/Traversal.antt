@@ -86,7 +86,7 @@ module _ (next : ℕ → List ℕ) (places : List ℕ) (closed : (p : ℕ) → K
 abbrev pub next_in : List (List ℕ) → List ℕ → ℕ → List ℕ
 next_in children ranked p = those (child_of children p) ranked
 
--- `forestOf` is the traversal from the groups that are nobody's child
+-- `forest_of` is the traversal from the groups that are nobody's child
 pub forest_visits :
     (children : List (List ℕ)) (ranked places : List ℕ) → Kept ranked places → length places ≤ length children
     → Visits (next_in children ranked) (those (nobodys_child children) ranked) [] (forest_of children ranked)

@@ -1,5 +1,5 @@
 -- The demands on answers as theorems. A question goes from the vertex u to the vertex v, whose groups stand at the places `place_in I u` and
--- `place_in I v`. What is said of a sound index holds of every index that opens and of every one that is built (`sound-exactly` of laws).
+-- `place_in I v`. What is said of a sound index holds of every index that opens and of every one that is built (`sound_exactly` of laws).
 use mathlib.Core.Bool.{true, false, ◌||◌}
 use mathlib.Core.Logic.Iff
 use mathlib.Core.Logic.{◌↔◌}

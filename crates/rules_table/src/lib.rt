@@ -1,5 +1,5 @@
 // The rule desk's product over its own table, a `&mut` slice of rule records that C lends (document 02, [11]). The work is done on values and numbers: `rules::prepare`
-// checks and marks, and `turned` is one record. What takes the slice is thin, and is proved by walks of its MIR, by hand: the loop over the records, and the call.
+// checks and marks, and `turned` is one record. What takes the slice is thin: the loop over the records, and the call.
 #![tactic(auto)]
 ghost use Rattle.std.specs.Prelude.{◌≡◌, ◌≤◌, ◌<◌, length};
 ghost use Rattle.lineage.specs.Calls.{ordinary};
