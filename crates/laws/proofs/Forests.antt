@@ -11,7 +11,7 @@ use lib.Dec.{eqb}
 use lib.ListN.{length, length-append}
 use Rattle.lineage.specs.Lists.{among}
 use Rattle.lineage.specs.Labels.{Forest, done, visit, finished}
-use Rattle.laws.proofs.Lists.{among_append, here, here_at, there, in_cons, in_left, in_right, in_append}
+use Rattle.laws.proofs.Lists.{among_append, here_at, there, in_cons, in_left, in_right, in_append}
 
 -- a labelling as functions of places below k
 pub record Ranking : Type 0 where

@@ -1,7 +1,7 @@
 -- The list of x, place by place: each exception puts its entry behind those of the places before it, and the list goes on from there. So where the place at hand is an
 -- exception the list is longer than what stands of it, and the next entry is that place's.
 use mathlib.Core.Bool.{true, false}
-use mathlib.Core.Path.{◌≡◌, refl, sym, ap, ap₂, ◌∙◌}
+use mathlib.Core.Path.{◌≡◌, refl, sym, ap, ◌∙◌}
 use mathlib.Core.List.{List, [], ◌∷◌, ◌++◌, map, map-append, append_assoc, append-nil}
 use Prim.Native.Nat.{ℕ, zero, suc, ◌+◌, ◌<◌, ◌≤◌}
 use native.Mathlib.Decide.{dec_le}

@@ -8,7 +8,7 @@ use mathlib.Core.List.{List}
 use Prim.Native.Nat.{ℕ, ◌<◌}
 use lib.ListN.{length}
 use Rattle.lineage.specs.Lists.{among, Every}
-use Rattle.lineage.specs.Graph.{Graph, turned_graph, Ends, Reaches}
+use Rattle.lineage.specs.Graph.{Graph, turned_graph, Ends}
 use Rattle.lineage.specs.Labels.{Order}
 use Rattle.lineage.specs.Index.{index_of}
 use Rattle.lineage.specs.Question.{answer, downstream}
