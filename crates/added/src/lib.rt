@@ -1,6 +1,7 @@
 // Edges that are added between two builds, kept beside an opened index as 256 pairs and a count (document 02, [10]): one is added, and a question is asked over the
 // indexed edges together with the added ones. The state goes by value: its 2 KB are little beside the check that a question makes first.
 #![tactic(auto)]
+
 ghost use Rattle.std.specs.Prelude.{◌≡◌, [], ◌∷◌, ◌≤◌, ◌<◌, length};
 ghost use Rattle.lineage.specs.Lists.{cleared};
 ghost use Rattle.lineage.specs.Calls.{refused, outcome, forms_taken, ordinary, index_in};

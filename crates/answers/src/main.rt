@@ -1,5 +1,6 @@
 // The text program: standard input is read to its end, and what the run prints is written to standard output.
 #![tactic(auto)]
+
 ghost use Rattle.std.specs.Prelude.{◌≤◌, length, IfOk};
 
 use std::io;

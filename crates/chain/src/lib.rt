@@ -1,6 +1,7 @@
 // The chain of a yes: the group names from source to target, each step to the lowest child that reaches the target (document 02, [4]). One climb marks all groups
 // that reach it, so no step asks a question; then the steps are counted, and written where there is room.
 #![tactic(auto)]
+
 ghost use Rattle.std.specs.Prelude.{◌≡◌, suc, ◌≤◌, ◌<◌, length};
 ghost use Rattle.lineage.specs.Lists.{cleared};
 ghost use Rattle.lineage.specs.Question.{place_in};

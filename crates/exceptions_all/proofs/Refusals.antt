@@ -23,7 +23,7 @@ use Rattle.stored_header.specs.declared.Layout.{Layout}
 use Rattle.stored_header.specs.Header.{layout_in, Laid}
 use Rattle.stored_header.proofs.Laid.{n_is, cleared_in}
 use Rattle.stored_header.proofs.Admitted.{Admits, admitted, admitted_laid}
-use Rattle.exceptions.specs.Calls.{form_one_checks, belong_check, ask_late, exceptions_asked, exception_marks}
+use Rattle.exceptions.specs.Calls.{form_one_checks, belong_check, exceptions_asked, exception_marks}
 use Rattle.exceptions_all.specs.Pairs.{pair_three, threes}
 use Rattle.exceptions_all.specs.Batch.{three_of, asked_at, all_late, all_exceptions, exceptions_answers}
 use Rattle.exceptions_all.specs.Batched.{answers_laid}

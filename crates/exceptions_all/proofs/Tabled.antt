@@ -1,5 +1,4 @@
 -- What is answered by a table of places laid out over sound bytes, and by lists that belong to them, is what the index says.
-use mathlib.Core.Bool.{Bool, not, ◌&&◌}
 use mathlib.Core.Path.{◌≡◌, refl, sym, ap, ◌∙◌}
 use mathlib.Core.List.{List, ◌++◌}
 use Prim.Native.Nat.{ℕ, ◌≤◌, ◌<◌}
@@ -10,14 +9,13 @@ use Rattle.laws.proofs.Grouped.{place_low, name_of_place}
 use Rattle.numbers.proofs.Numbers.{numbers_at}
 use Rattle.lineage.specs.Question.{place_in}
 use Rattle.lineage.specs.Calls.{index_in}
-use Rattle.laws_exceptions.specs.Exceptions.{contains, encode_exceptions, says_by_exceptions}
+use Rattle.laws_exceptions.specs.Exceptions.{encode_exceptions, says_by_exceptions}
 use Rattle.stored_header.specs.declared.Layout.{Layout}
 use Rattle.stored.specs.Sections.{Six}
 use Rattle.sound_places.specs.Lent.{SoundBytes}
 use Rattle.ask_pairs.specs.Places.{Placed}
 use Rattle.reach.proofs.Fitted.{index_sound, names_count, names_are}
 use Rattle.exceptions_marks.proofs.Fitted.{groups_are_lem, labels_are_lem, labelled, places_many, groups_many}
-use Rattle.exceptions_ask.specs.Listed.{list_in, has_place}
 use Rattle.exceptions_ask.proofs.Listed.{list_in_lem, says_by}
 use Rattle.exceptions_all.specs.Pairs.{by_place, Ready}
 

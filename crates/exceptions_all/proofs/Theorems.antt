@@ -3,7 +3,7 @@
 use mathlib.Core.Bool.{Bool, true, false, cond}
 use mathlib.Core.Logic.{◌↔◌}
 use mathlib.Core.Path.{◌≡◌, refl, sym, ap, ◌∙◌}
-use mathlib.Core.List.{List, [], ◌∷◌, ◌++◌, map}
+use mathlib.Core.List.{List, [], ◌++◌, map}
 use Prim.Native.Nat.{ℕ, ◌+◌, ◌*◌, ◌<◌}
 use native.Mathlib.Nat.{add-zero}
 use native.Mathlib.Omega.{arith}
@@ -14,7 +14,7 @@ use Rattle.lineage.specs.Lists.{upto, joined}
 use Rattle.lineage.specs.Graph.{Reaches}
 use Rattle.lineage.specs.Index.{Made}
 use Rattle.lineage.specs.Calls.{Check, Outcome, refused, answered, any_applies, index_in}
-use Rattle.laws.specs.Checks.{Pass, Told}
+use Rattle.laws.specs.Checks.{Told}
 use Rattle.laws.proofs.Lists.{table_at, table_long}
 use Rattle.laws.proofs.Every.{every_table}
 use Rattle.laws.proofs.Parts.{part_at}

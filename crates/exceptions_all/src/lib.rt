@@ -1,5 +1,6 @@
 // Asking many pairs by exception lists: index and lists are checked once, and each pair gets the answer of a single question, by three numbers: refusal, extra, yes.
 #![tactic(auto)]
+
 ghost use Rattle.std.specs.Prelude.{◌≡◌, [], ◌∷◌, ◌+◌, ◌*◌, ◌≤◌, length};
 ghost use Rattle.lineage.specs.Lists.{cleared};
 ghost use Rattle.lineage.specs.Calls.{outcome, index_in};

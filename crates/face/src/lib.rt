@@ -2,6 +2,7 @@
 // call gives, how each is made of what a call answers, and the host's three calls, on form 1 alone. The other calls are in the crates face_.. and, for a table of rule
 // records, in rules_table; tool/library makes one archive of all.
 #![tactic(auto)]
+
 ghost use Rattle.std.specs.Prelude.{◌≡◌, length};
 ghost use Rattle.lineage.specs.Calls.{refused, answered, host, open_answer, open_marks, ask_answer, ask_marks};
 ghost use Rattle.open.specs.Opened.{opened_of};

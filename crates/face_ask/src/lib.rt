@@ -1,5 +1,6 @@
 // Opening, asking and converting for C: an index of form 1 or 2, and a turned one, form 3, opened and asked.
 #![tactic(auto)]
+
 ghost use Rattle.std.specs.Prelude.{◌≡◌, length};
 ghost use Rattle.lineage.specs.Calls.{ordinary, turned, open_answer, open_marks, open_work, ask_answer, ask_marks, ask_work};
 ghost use Rattle.ask_all.specs.Batch.{batch_answer, batch_answers, batch_marks, batch_work};

@@ -1,5 +1,6 @@
 // What is kept beside an index, for C: added edges, which go in and out by value, and the states of rules as lists.
 #![tactic(auto)]
+
 ghost use Rattle.std.specs.Prelude.{◌≡◌, length};
 ghost use Rattle.lineage.specs.Calls.{ordinary};
 ghost use Rattle.added.specs.Adding.{add_answer, add_state};

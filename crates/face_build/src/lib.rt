@@ -1,5 +1,6 @@
 // Building for C, and the text program's run.
 #![tactic(auto)]
+
 ghost use Rattle.std.specs.Prelude.{◌≡◌, ◌++◌, length, drop};
 ghost use Rattle.lineage.specs.Stored.{form3};
 ghost use Rattle.lineage.specs.Calls.{turned_input, build_answer, build_work, build_output, build_call, build_call_work, build_call_output};

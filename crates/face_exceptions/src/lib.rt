@@ -1,5 +1,6 @@
 // Exception lists for C: built and opened beside an index of form 1, and asked.
 #![tactic(auto)]
+
 ghost use Rattle.std.specs.Prelude.{◌≡◌, length};
 ghost use Rattle.exceptions.specs.Calls.{exceptions_built, exceptions_output, exceptions_opened, exceptions_asked, exception_marks};
 ghost use Rattle.exceptions.specs.Written.{written_of};

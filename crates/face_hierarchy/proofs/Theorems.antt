@@ -2,7 +2,7 @@
 -- contracts allow are equal. Building, opening and asking are as at any other form (`BuildsForm` of face_build, `Inspects` and `Questions` of face_ask).
 use mathlib.Core.Path.{◌≡◌, sym, ◌∙◌}
 use mathlib.Core.List.{List, ◌++◌}
-use Prim.Native.Nat.{ℕ, ◌<◌}
+use Prim.Native.Nat.{ℕ}
 use native.Mathlib.Omega.{arith}
 use lib.ListN.{length}
 use Rattle.lineage.specs.Stored.{form_of}

@@ -1,5 +1,6 @@
 // The stored index of a plain hierarchy, form 4, for C: built, opened, asked, and converted from form 2 and back.
 #![tactic(auto)]
+
 ghost use Rattle.std.specs.Prelude.{◌≡◌, length};
 ghost use Rattle.lineage.specs.Stored.{form4};
 ghost use Rattle.lineage.specs.Calls.{hierarchy, build_answer, build_work, build_output, open_answer, open_marks, open_work, ask_answer, ask_marks, ask_work};

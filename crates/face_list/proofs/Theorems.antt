@@ -1,7 +1,7 @@
 -- What a program in C may rely on that lists and asks for chains: the outcomes of the definitions are read off the numbers, and two results that the contracts allow are equal.
 use mathlib.Core.Path.{◌≡◌, refl, sym, ◌∙◌}
 use mathlib.Core.List.{List, ◌++◌}
-use Prim.Native.Nat.{ℕ, ◌<◌}
+use Prim.Native.Nat.{ℕ}
 use native.Mathlib.Omega.{arith}
 use lib.ListN.{length}
 use borrow.Author.Tests.{ne_eqb}

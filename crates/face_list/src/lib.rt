@@ -1,5 +1,6 @@
 // Lists and chains for C: of an index of form 1 or 2; a list of a turned one too, form 3.
 #![tactic(auto)]
+
 ghost use Rattle.std.specs.Prelude.{◌≡◌, length};
 ghost use Rattle.lineage.specs.Calls.{ordinary, turned, list_answer, list_marks, list_work, list_output};
 ghost use Rattle.list.specs.Listed.{listed_of};

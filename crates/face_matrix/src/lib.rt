@@ -1,5 +1,6 @@
 // Matrix Market files for C: an edge list read from a text, and written as one.
 #![tactic(auto)]
+
 ghost use Rattle.std.specs.Prelude.{◌≡◌, length};
 ghost use Rattle.lineage.specs.Stored.{form2};
 ghost use Rattle.build_orders.specs.Input.{graph_of};

@@ -19,7 +19,7 @@ use Rattle.numbers.proofs.Numbers.{numbers_long}
 use Rattle.numbers.proofs.Cleared.{cleared_past}
 use Rattle.stored_header.specs.declared.Layout.{Layout}
 use Rattle.stored_header.specs.Header.{Laid}
-use Rattle.stored.specs.Sections.{Section, Six, Labellings, tuples_of, places_of, labels_in, index_from, index_at}
+use Rattle.stored.specs.Sections.{Section, Six, tuples_of, places_of, labels_in, index_from, index_at}
 use Rattle.stored.proofs.Sections.{s_at, e_at, children_long}
 use Rattle.stored.proofs.Contents.{index_at_lem, stretch_of, with_names}
 use Rattle.sound_places.specs.Lent.{SoundBytes, Lent}

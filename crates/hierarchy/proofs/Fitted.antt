@@ -8,9 +8,9 @@ use lib.Dec.{eqb, ltb}
 use lib.ListN.{length, get_or, drop}
 use borrow.Author.Tests.{lt-ltb, le-ltb, eq-eqb, ne_eqb, eqb-true, not-false}
 use Rattle.lineage.specs.Lists.{upto, any, first_of}
-use Rattle.lineage.specs.Numbers.{num_at, numbers}
+use Rattle.lineage.specs.Numbers.{num_at}
 use Rattle.lineage.specs.Sound.{shared, is_tree}
-use Rattle.lineage.specs.Stored.{Form, Counts, counts_in, form_of}
+use Rattle.lineage.specs.Stored.{Form, counts_in, form_of}
 use Rattle.lineage.specs.Calls.{refused, answered, index_in}
 use Rattle.laws.specs.Checks.{Stops, stopped}
 use Rattle.laws.proofs.Tests.{clash}

@@ -1,28 +1,27 @@
 -- What an answer to a question on a stored plain hierarchy says, whatever edge list and order yield the bytes: it is yes exactly where a path of zero or more edges leads from
 -- source to target, and exactly where the source's outer interval contains the target's; its reason is one of 1 to 4, no group is opened, no mark is left, and the one
 -- labelling decides under 2 and 4. `ask_hierarchy` gives these answers, by its contract.
-use mathlib.Core.Bool.{true, false, ◌||◌, cond}
+use mathlib.Core.Bool.{true, ◌||◌, cond}
 use mathlib.Core.Logic.Iff
 use mathlib.Core.Logic.{◌↔◌}
-use mathlib.Core.Path.{◌≡◌, refl, sym, ap, subst, ◌∙◌}
+use mathlib.Core.Path.{◌≡◌, refl, ap, subst, ◌∙◌}
 use mathlib.Core.List.{List, [], ◌∷◌, ◌++◌}
 use Prim.Native.Nat.{ℕ, ◌≤◌, ◌<◌}
 use native.Mathlib.Omega.{arith}
 use lib.Dec.{eqb, leb}
 use lib.ListN.{length, drop, replicate}
 use borrow.Author.Tests.{not-false}
-use Rattle.lineage.specs.Lists.{Every, cleared}
-use Rattle.lineage.specs.Graph.{Graph, Ends, Reaches}
-use Rattle.lineage.specs.Labels.{Order, Labelling}
-use Rattle.lineage.specs.Index.{Index, index_of, Made}
+use Rattle.lineage.specs.Lists.{cleared}
+use Rattle.lineage.specs.Graph.{Reaches}
+use Rattle.lineage.specs.Labels.{Labelling}
+use Rattle.lineage.specs.Index.{Index, Made}
 use Rattle.lineage.specs.Question.{place_in, answer}
 use Rattle.lineage.specs.Sound.{is_tree, contents_sound}
 use Rattle.lineage.specs.Stored.{Form, counts_in, header_at, form_of}
 use Rattle.lineage.specs.Calls.{Check, check, answered, hierarchy, form_checks, contents_check, index_in, Said, said_of, ask_early, ask_answer, ask_marks}
 use Rattle.laws.specs.Checks.{Pass}
 use Rattle.laws.proofs.Checks.{answered_pass, pass_front, pass_behind}
-use Rattle.laws.proofs.Sound.{made_long}
-use Rattle.laws_answers.specs.Answers.{Member, no_marks}
+use Rattle.laws_answers.specs.Answers.{Member}
 use Rattle.laws_hierarchy.specs.Hierarchy.{Contained, Alike}
 use Rattle.laws_hierarchy.proofs.Pairs.{pairs_alike}
 use Rattle.laws_hierarchy.proofs.Contained.{contained_reaches}

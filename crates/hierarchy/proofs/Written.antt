@@ -8,7 +8,7 @@ use native.Mathlib.Omega.{arith}
 use lib.ListN.{length, get_or, take, drop, length-append}
 use borrow.Author.Tests.{eqb-true}
 use Rattle.lineage.specs.Lists.{joined, part, Every}
-use Rattle.lineage.specs.Numbers.{Width, numbers, written}
+use Rattle.lineage.specs.Numbers.{numbers, written}
 use Rattle.lineage.specs.Labels.{Labelling}
 use Rattle.lineage.specs.Index.{Index}
 use Rattle.lineage.specs.Sound.{starts_pass}
@@ -23,14 +23,14 @@ use Rattle.numbers.proofs.Written.{written_long, written_append, written_next}
 use Rattle.stored_header.specs.declared.Layout.{Layout}
 use Rattle.stored_header.specs.Header.{Stride, layout_by, Sited, header_of, Laid}
 use Rattle.stored_header.proofs.Forms.{form_within}
-use Rattle.stored_header.proofs.Laid.{sited_by, width_is, stride_is, n_is, k_is, c_is, d_is}
+use Rattle.stored_header.proofs.Laid.{sited_by, width_is, n_is, k_is, c_is, d_is}
 use Rattle.stored.specs.Sections.{Section, tuples_of, places_of}
 use Rattle.stored.proofs.Sections.{places_long}
 use Rattle.stored.proofs.LabelNumbers.{numbers_of_long}
 use Rattle.stored.proofs.Offsets.{total_length_lem}
 use Rattle.stored.proofs.Contents.{contents_starts, stretch_of}
 use Rattle.stored.proofs.Encoded.{header_fits}
-use Rattle.stored.proofs.Decoded.{sections_in, sections_are, counts_are}
+use Rattle.stored.proofs.Decoded.{sections_are, counts_are}
 use Rattle.convert.specs.Convert.{converted}
 use Rattle.hierarchy_labels.specs.Turned.{labelling_of, Turns}
 use Rattle.hierarchy.specs.Fit.{Between}

@@ -1,5 +1,5 @@
 -- The conversions on a plain hierarchy, on a graph that is none though under its order m is s in every group, and on one of two orders, by computation.
-use Rattle.std.specs.Prelude.{◌≡◌, refl, List, [], ◌∷◌, ℕ, length, replicate}
+use Rattle.std.specs.Prelude.{◌≡◌, refl, List, [], ◌∷◌, ℕ, replicate}
 use Rattle.lineage.specs.Graph.{Graph}
 use Rattle.lineage.specs.Index.{index_of}
 use Rattle.lineage.specs.Stored.{form2, form4, encode}

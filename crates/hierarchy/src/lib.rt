@@ -1,6 +1,7 @@
 // The calls on the stored index of a plain hierarchy, form 4 (document 02, [14]): open, ask, and convert from form 2 and back. A question is decided by containment of
 // outer intervals, and no group is opened.
 #![tactic(auto)]
+
 ghost use Rattle.std.specs.Prelude.{true, false, ◌||◌, cond, ◌≡◌, [], ◌∷◌, ◌≤◌, ◌<◌, eqb, length, replicate};
 ghost use Rattle.lineage.specs.Lists.{upto, first_of, cleared};
 ghost use Rattle.lineage.specs.Question.{answer};

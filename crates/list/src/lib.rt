@@ -1,5 +1,6 @@
 // The downstream list: all vertices downstream of a vertex, rising (document 01, "Downstream list"; document 02, [2] and [6]).
 #![tactic(auto)]
+
 ghost use Rattle.std.specs.Prelude.{◌≡◌, ◌≤◌, ◌<◌, length};
 ghost use Rattle.lineage.specs.Lists.{cleared};
 ghost use Rattle.lineage.specs.Question.{downstream};

@@ -1,9 +1,9 @@
 -- What `settle_lists_taking` answers and leaves, from what `prepare` answered and left: a refusal is handed on, and nothing else is touched; behind the checks each
 -- state follows the mark of its vertex, and the marks are cleared again.
-use mathlib.Core.Bool.{Bool, true, false, cond}
+use mathlib.Core.Bool.{true, false}
 use mathlib.Core.Path.{◌≡◌, refl, sym, ap, ap₂, ◌∙◌}
 use mathlib.Core.List.{List, [], ◌∷◌, ◌++◌}
-use Prim.Native.Nat.{ℕ, ◌≤◌, ◌<◌}
+use Prim.Native.Nat.{ℕ, ◌≤◌}
 use native.Mathlib.Omega.{arith}
 use lib.ListN.{length}
 use Rattle.lineage.specs.Lists.{cleared}
@@ -12,7 +12,7 @@ use Rattle.lineage.specs.Calls.{Check, Outcome, refused, answered, any_applies, 
 use Rattle.laws.specs.Checks.{Comes}
 use Rattle.laws.proofs.Checks.{refused_comes, stops_comes}
 use Rattle.stored.proofs.Contents.{names_many}
-use Rattle.rules_states.specs.Rules.{each_state, state_after, states_after, rules_early, rules_checks, rules_answer, rule_states, rules_marks, rules_work}
+use Rattle.rules_states.specs.Rules.{each_state, state_after, states_after, rules_early, rules_answer, rule_states, rules_marks, rules_work}
 use Rattle.rules_states.specs.Marks.{affected_marks, state_by}
 use Rattle.rules_states.proofs.States.{each_same}
 use Rattle.rules_states.proofs.Affected.{state_same, affected_long, affected_cleared}

@@ -1,6 +1,7 @@
 // The rule desk's product over parallel lists (document 02, [11]): given the vertices that a retrain has changed, the states of a table of rules, each by the vertex
 // of its rule.
 #![tactic(auto)]
+
 ghost use Rattle.std.specs.Prelude.{◌≡◌, length};
 ghost use Rattle.lineage.specs.Calls.{forms_taken, ordinary};
 ghost use Rattle.rules_states.specs.Rules.{rules_answer, rule_states, rules_marks, rules_work};

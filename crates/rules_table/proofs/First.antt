@@ -1,6 +1,6 @@
 -- The list of which the first k rules are turned: as long as the list, and with the rule at k turned too it is the list of which the first k + 1 are.
 -- Both go by induction on the list and k together. They hold of any function on rules, so `rule_by` stays shut. Assumes nothing.
-use mathlib.Core.Path.{◌≡◌, refl, ◌∙◌, ap}
+use mathlib.Core.Path.{◌≡◌, refl, ap}
 use Prim.Native.Nat.{ℕ, zero, suc, ◌+◌, ◌<◌}
 use native.Mathlib.Nat.{not-suc-le-zero, le_of_suc-le-suc}
 use native.Mathlib.Numerals.{add-one}

@@ -1,6 +1,5 @@
 -- What `ready` answers and leaves is what the two later calls may be called with, and what they leave then is what the contract promises: by whether the checks
 -- refused. A refusal turns no record and clears no mark; otherwise all records follow their marks, as the states of parallel lists do.
-use mathlib.Core.Bool.{true, false}
 use mathlib.Core.Path.{◌≡◌, refl, sym, ap, ◌∙◌}
 use mathlib.Core.List.{List, [], ◌∷◌, ◌++◌, map, append-nil}
 use Prim.Native.Nat.{ℕ, ◌≤◌, zero-le}
@@ -10,7 +9,7 @@ use lib.Seq.{take-length, drop-length}
 use Rattle.lineage.specs.Lists.{cleared}
 use Rattle.lineage.specs.Calls.{Outcome, refused, answered, ordinary, index_in}
 use Rattle.numbers.proofs.Cleared.{cleared_none}
-use Rattle.rules_states.specs.Rules.{rules_answer, rules_marks, rules_work}
+use Rattle.rules_states.specs.Rules.{rules_answer, rules_marks}
 use Rattle.rules.specs.Settled.{prepared_answer, prepared_marks}
 use Rattle.rules.proofs.Refusals.{refused_any, settles_refused, reached_none, reached_room, state_reached, settles_done}
 use Rattle.rules_table.specs.declared.Rule.{Rule}

@@ -1,6 +1,7 @@
 // The rule desk's product over its own table, a `&mut` slice of rule records that C lends (document 02, [11]). The work is done on values and numbers: `rules::prepare`
 // checks and marks, and `turned` is one record. What takes the slice is thin: the loop over the records, and the call.
 #![tactic(auto)]
+
 ghost use Rattle.std.specs.Prelude.{◌≡◌, ◌≤◌, ◌<◌, length};
 ghost use Rattle.lineage.specs.Calls.{ordinary};
 ghost use Rattle.rules_table.specs.Table.{Allowed, rule_by, turned_first, Readied};

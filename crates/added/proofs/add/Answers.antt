@@ -1,5 +1,4 @@
 -- `added::add` meets its contract: each return is where its checks stop.
-use borrow.Author.Rules.{rules}
 use Rattle.added.proofs.Adds.{adds_bad_source, adds_bad_target, adds_full, adds_one}
 use Rattle.added.proofs.add.Goals as goal
 

@@ -2,8 +2,6 @@
 -- contents has cleared.
 use mathlib.Core.Path.{sym, ap, ◌∙◌}
 use native.Mathlib.Omega.{arith}
-use borrow.Author.Rules.{rules}
-use borrow.Author.Tests.{not-false}
 use lib.ListN.{length}
 use Rattle.lineage.specs.Calls.{forms_taken}
 use Rattle.numbers.proofs.Cleared.{cleared_again}
@@ -20,7 +18,7 @@ admits : (a : In-Passed) → let s = a.args in
 admits a = record { passes = sym (ap header_outcome a.in-Passed.is) ∙ a.admit.ensures }
 
 pub returns-in-Refused : goal.returns-in-Refused
-returns-in-Refused c = let s = c.args in let both = answers_refused (forms_taken s.least s.most) _ _ _ _ s.marks.now s.work.now     (sym (ap header_outcome c.in-Refused.is) ∙ c.admit.ensures) in record { result_value = both.0; marks_after = both.1.0; work_after = both.1.1 }
+returns-in-Refused c = let s = c.args in let both = answers_refused (forms_taken s.least s.most) _ _ _ _ s.marks.now s.work.now (sym (ap header_outcome c.in-Refused.is) ∙ c.admit.ensures) in record { result_value = both.0; marks_after = both.1.0; work_after = both.1.1 }
 
 pub returns-then-n-u : goal.returns-then-n-u
 returns-then-n-u c = let A = admits (goal.at.returns-then-n-u c).In-Passed in let both = answers_at _ _ _ _ _ _ _ A 0 (vertex_out (admitted_laid A) c.if-n-u.true) in record { result_value = both.0; marks_after = both.1.0; work_after = both.1.1 }

@@ -1,6 +1,5 @@
 -- `added::ask_over` meets its contract: by the first bad edge that is found; where there is none all ends are vertices, and the rounds decide.
 use mathlib.Core.Path.{refl}
-use borrow.Author.Rules.{rules}
 use Rattle.added.proofs.Refusals.{over_bad, over_low, over_says}
 use Rattle.added.proofs.ask_over.Goals as goal
 

@@ -1,7 +1,6 @@
 -- `answers::main` is safe and ends: what the run counts lies within its output.
 use mathlib.Core.Path.{sym}
 use Prim.Native.Nat.{◌≤◌}
-use borrow.Author.Rules.{rules}
 use lib.ListN.{length}
 use lib.Seq.{length-take-le}
 use Rattle.text_run.proofs.Theorems.{run_within}

@@ -37,7 +37,7 @@ pub returns-then-not-contents_sound : goal.returns-then-not-contents_sound
 returns-then-not-contents_sound c =
     let L = c.requires.laid in
     let (o, m) = replies_unsound _ c.args.u c.args.v _ L c.contents_sound.ensures.marks_after
-        (contents_applies L c.contents_sound.ensures.value ∙ (ap not c.if-not-contents_sound.true)) in record {
+    (contents_applies L c.contents_sound.ensures.value ∙ (ap not c.if-not-contents_sound.true)) in record {
       result_value = o;
       marks_after = m;
       kept = kept_same _ _ _;
@@ -87,9 +87,9 @@ returns c =
     let L = c.requires.laid in
     let (o, k) =
     replies_answered _ c.args.u c.args.v _ L c.contents_sound.ensures.marks_after
-        (contents_applies L c.contents_sound.ensures.value ∙ (ap not c.if-not-contents_sound.false)) c.question-r.result _
+    (contents_applies L c.contents_sound.ensures.value ∙ (ap not c.if-not-contents_sound.false)) c.question-r.result _
     (ap (answer_by c.question-r.result) (sym (seen_own _ c.question-r.ensures.under)) ∙ c.question-r.ensures.marks_after ∙ ap (λ (I : Index). answer I c.args.u c.args.v)
-        (index_at_lem L (six (goal.at.returns c).After-labels))) in record {
+    (index_at_lem L (six (goal.at.returns c).After-labels))) in record {
       result_value = o;
       marks_after = k;
       kept = c.question-r.ensures.kept;

@@ -64,7 +64,7 @@ returns c =
     let A = admits (goal.at.returns c).In-Passed in
     let L = admitted_laid A in
     let both = asks_rest _ _ _ _ _ _ A (vertex_in L c.if-l-u.false) (vertex_in L c.if-l-v.false) (c.ask_laid-r.ensures.result_value, c.ask_laid-r.ensures.marks_after)
-        c.ask_laid-r.ensures.kept c.words_needed.ensures.0 c.clear_words.ensures in record {
+    c.ask_laid-r.ensures.kept c.words_needed.ensures.0 c.clear_words.ensures in record {
       result_value = both.0;
       marks_after = both.1.0;
       work_after = both.1.1;

@@ -9,7 +9,7 @@ returns-then-answers-i c = sym (pair_past c.args.answers.now c.args.i c.if-answe
 pub returns-then-refusal-eq0 : goal.returns-then-refusal-eq0
 returns-then-refusal-eq0 c =
     pair_answered c.args.answers.now c.args.i c.number_at-refusal.ensures c.number_at-yes.ensures c.number_at-reason.ensures c.number_at-opened.ensures
-        c.number_at-deciding.ensures c.if-refusal-eq0.true
+    c.number_at-deciding.ensures c.if-refusal-eq0.true
 
 pub returns : goal.returns
 returns c = pair_refused c.args.answers.now c.args.i c.number_at-refusal.ensures c.number_at-extra.ensures c.if-refusal-eq0.false

@@ -46,7 +46,7 @@ returns c =
     let e = c.ask_laid-r.ensures in
     let s = c.args in
     let both = all_rest _ s.sources.now s.targets.now _ s.answers.now _ _ (admits (goal.at.returns c).In-Passed) (e.result_value, (e.marks_after, e.answers_after)) e.kept
-        c.words_needed.ensures.0 c.clear_words.ensures in record {
+    c.words_needed.ensures.0 c.clear_words.ensures in record {
       result_value = both.0;
       marks_after = both.1.0;
       work_after = both.1.1.0;

@@ -17,7 +17,7 @@ pub returns-then-not-contents_sound : goal.returns-then-not-contents_sound
 returns-then-not-contents_sound c =
     let L = c.requires.laid.0 in
     let (o, (m, a)) = replies_at _ c.args.sources.now c.args.targets.now _ c.args.answers.now L c.contents_sound.ensures.marks_after 0 (omega arith)
-        (contents_applies L c.contents_sound.ensures.value ∙ (ap not c.if-not-contents_sound.true)) in record {
+    (contents_applies L c.contents_sound.ensures.value ∙ (ap not c.if-not-contents_sound.true)) in record {
       result_value = o;
       marks_after = m;
       answers_after = a;
@@ -40,9 +40,14 @@ pub returns-then-answers-pairs : goal.returns-then-answers-pairs
 returns-then-answers-pairs c =
     let L = c.requires.laid.0 in
     let (o, (m, a)) =
-    replies_at _ c.args.sources.now c.args.targets.now _ c.args.answers.now L c.contents_sound.ensures.marks_after 2 (omega arith)
-    (contents_applies L c.contents_sound.ensures.value ∙ (ap not c.if-not-contents_sound.false), (ap not (eq-eqb _ _ c.if-pairs-targets.false), lt-ltb _ _
-        (six_short _ _ c.if-answers-pairs.true))) in record {
+    replies_at _ c.args.sources.now c.args.targets.now _ c.args.answers.now L c.contents_sound.ensures.marks_after 2 (omega arith) (
+      contents_applies L c.contents_sound.ensures.value ∙ (ap not c.if-not-contents_sound.false),
+      (
+        ap not (eq-eqb _ _ c.if-pairs-targets.false),
+        lt-ltb _ _
+            (six_short _ _ c.if-answers-pairs.true),
+      ),
+    ) in record {
       result_value = o;
       marks_after = m;
       answers_after = a;
@@ -69,7 +74,8 @@ returns c =
     let L = c.requires.laid.0 in
     let f = c.ask_lent.ensures in
     let (o, (m, a)) =
-    replies_answered _ c.args.sources.now c.args.targets.now _ c.args.answers.now L c.contents_sound.ensures.marks_after
-    (contents_applies L c.contents_sound.ensures.value ∙ (ap not c.if-not-contents_sound.false),
-        (ap not (eq-eqb _ _ c.if-pairs-targets.false), (le-ltb _ _ (six_room _ _ c.if-answers-pairs.false), tt)))
+    replies_answered _ c.args.sources.now c.args.targets.now _ c.args.answers.now L c.contents_sound.ensures.marks_after (
+      contents_applies L c.contents_sound.ensures.value ∙ (ap not c.if-not-contents_sound.false),
+      (ap not (eq-eqb _ _ c.if-pairs-targets.false), (le-ltb _ _ (six_room _ _ c.if-answers-pairs.false), tt)),
+    )
     f.marks_after f.answers_after in record { result_value = o; marks_after = m; answers_after = a; kept = f.kept }

@@ -120,7 +120,7 @@ loop-i-preserved c =
     let t = (word (goal.at.loop-i-preserved c).At-loop-i _ c.if-n-v.false).1 in (
       asking_answer _ _ _ _ _ A c.requires.marks_value.1.1 c.loop-i-test.true _ _ refl refl c.if-n-u.false c.if-n-v.false c.next_reply-a.result.reply _ _ _
           (e.marks_after ∙ λ i. between (index (goal.at.loop-i-preserved c).Start) (x i) (t i) (replicate (A.long i) 0)) e.under (c.next_reply-a.auto.marks ∙ A.long)
-              c.put_reply.ensures,
+          c.put_reply.ensures,
       kept_then c.loop-i.invariant.1 (rw A.long at e.kept),
     )
 

@@ -19,5 +19,5 @@ build_form-requires c = record { form_value = taken_known c.args.form (taken (go
 pub returns : goal.returns
 returns c =
     let both = call_answered _ _ _ _ (taken (goal.at.returns c).Else-not-takes)
-        (c.build_form.ensures.result_value, (c.build_form.ensures.work_after, c.build_form.ensures.out_after)) in
+    (c.build_form.ensures.result_value, (c.build_form.ensures.work_after, c.build_form.ensures.out_after)) in
     record { result_value = both.0; work_after = both.1.0; out_after = both.1.1 }

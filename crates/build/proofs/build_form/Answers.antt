@@ -33,18 +33,18 @@ late-built-requires c = record {
 pub clear_words-requires : goal.clear_words-requires
 clear_words-requires c =
     needed_there c.args.form c.args.row (input (goal.at.clear_words-requires c).Start) c.args.work.now c.args.out.now
-        (passed (goal.at.clear_words-requires c).In-Passed) c.late-built.ensures
+    (passed (goal.at.clear_words-requires c).In-Passed) c.late-built.ensures
 
 pub returns-in-Refused : goal.returns-in-Refused
 returns-in-Refused c =
     let both = row_answered c.args.form c.args.row c.requires.form_value c.requires.row_value _ _ _ _ _ _
-        (early_refused c.args.form c.args.row (input (goal.at.returns-in-Refused c).Start) c.args.work.now c.args.out.now
-            (ap checked_of (sym c.in-Refused.is) ∙ c.early.ensures)) in
+    (early_refused c.args.form c.args.row (input (goal.at.returns-in-Refused c).Start) c.args.work.now c.args.out.now
+    (ap checked_of (sym c.in-Refused.is) ∙ c.early.ensures)) in
     record { result_value = both.0; work_after = both.1.0; out_after = both.1.1 }
 
 pub returns-in-Passed : goal.returns-in-Passed
 returns-in-Passed c =
     let both = row_answered c.args.form c.args.row c.requires.form_value c.requires.row_value _ _ _ _ _ _
-        (late_answered c.args.form c.args.row (input (goal.at.returns-in-Passed c).Start) c.args.work.now c.args.out.now
-            (passed (goal.at.returns-in-Passed c).In-Passed) c.late-built.ensures c.clear_words.ensures) in
+    (late_answered c.args.form c.args.row (input (goal.at.returns-in-Passed c).Start) c.args.work.now c.args.out.now
+    (passed (goal.at.returns-in-Passed c).In-Passed) c.late-built.ensures c.clear_words.ensures) in
     record { result_value = both.0; work_after = both.1.0; out_after = both.1.1 }

@@ -11,8 +11,7 @@ use Rattle.build.proofs.late.Goals.{After-condensed-found}
 -- n, k and the child entries are within the bounds of every form
 bounds : (g : After-condensed-found) → (g.args.n ≤ vertex_bound) × ((g.condensed-found.result.k ≤ g.args.n) × (g.condensed-found.result.c ≤ entry_bound))
 bounds g =
-    let stored = g.condensed-found.ensures.stored in
-    (
+    let stored = g.condensed-found.ensures.stored in (
       omega (arith, g.requires.admitted.vertices, g.requires.row_fit.vertices),
       (stored.few_groups, omega (arith, stored.few_children, g.requires.admitted.edges, g.requires.row_fit.edges)),
     )
@@ -20,7 +19,7 @@ bounds g =
 pub returns-then-bad-d : goal.returns-then-bad-d
 returns-then-bad-d c =
     order_refused c.requires.row_fit c.args.work.now c.requires.admitted c.bad_order-bad.ensures.value c.bad_order-bad.ensures.kept c.args.out.now
-        c.if-bad-d.true
+    c.if-bad-d.true
 
 pub condensed-found-requires : goal.condensed-found-requires
 condensed-found-requires c = condensed_fit c.requires.row_fit c.args.work.now c.requires.admitted c.bad_order-bad.ensures.value c.bad_order-bad.ensures.kept
@@ -54,7 +53,7 @@ overflow_mul-n c = omega (arith, (bounds (goal.at.overflow_mul-n c).After-conden
 pub first_kept_out-shared-requires : goal.first_kept_out-shared-requires
 first_kept_out-shared-requires c =
     parents_there c.requires.row_fit c.args.work.now c.requires.admitted c.bad_order-bad.ensures.value c.bad_order-bad.ensures.kept c.if-bad-d.false
-        c.condensed-found.ensures
+    c.condensed-found.ensures
 
 pub overflow_add-name : goal.overflow_add-name
 overflow_add-name c =
@@ -86,7 +85,7 @@ bounds-work-n c =
 pub returns-then-kept_out : goal.returns-then-kept_out
 returns-then-kept_out c =
     shared_refused c.requires.row_fit c.args.work.now c.requires.admitted c.bad_order-bad.ensures.value c.bad_order-bad.ensures.kept c.if-bad-d.false
-        c.condensed-found.ensures c.first_kept_out-shared.ensures.0 c.args.out.now c.if-kept_out.true
+    c.condensed-found.ensures c.first_kept_out-shared.ensures.0 c.args.out.now c.if-kept_out.true
 
 pub shape_of-work-then-short : goal.shape_of-work-then-short
 shape_of-work-then-short c = c.condensed-found.ensures.kept.long ∙ c.bad_order-bad.ensures.kept.long
@@ -94,7 +93,7 @@ shape_of-work-then-short c = c.condensed-found.ensures.kept.long ∙ c.bad_order
 pub returns-then-short : goal.returns-then-short
 returns-then-short c =
     short_refused c.requires.row_fit c.args.work.now c.requires.admitted c.bad_order-bad.ensures.value c.bad_order-bad.ensures.kept c.if-bad-d.false
-        c.condensed-found.ensures c.first_kept_out-shared.ensures.0 c.if-kept_out.false c.lay_out-l.ensures c.args.out.now c.if-short.true
+    c.condensed-found.ensures c.first_kept_out-shared.ensures.0 c.if-kept_out.false c.lay_out-l.ensures c.args.out.now c.if-short.true
 
 pub write_index-requires : goal.write_index-requires
 write_index-requires c = record {
@@ -110,5 +109,5 @@ shape_of-work c = c.write_index.ensures.kept.long ∙ c.condensed-found.ensures.
 pub returns : goal.returns
 returns c =
     finished c.requires.row_fit c.args.work.now c.requires.admitted c.bad_order-bad.ensures.value c.bad_order-bad.ensures.kept c.if-bad-d.false
-        c.condensed-found.ensures c.first_kept_out-shared.ensures.0 c.if-kept_out.false c.lay_out-l.ensures c.args.out.now c.if-short.false
-        c.write_index.ensures.out_after c.write_index.ensures.kept
+    c.condensed-found.ensures c.first_kept_out-shared.ensures.0 c.if-kept_out.false c.lay_out-l.ensures c.args.out.now c.if-short.false
+    c.write_index.ensures.out_after c.write_index.ensures.kept

@@ -27,4 +27,4 @@ turn-requires c =
 pub returns : goal.returns
 returns c =
     found c.requires c.rows.ensures.kept c.rows.ensures.rows_at c.clear_part.ensures.kept c.clear_part.ensures.n_after c.strip-c.ensures.kept
-        c.strip-c.ensures.upper_bound c.strip-c.ensures.rows_at c.count_up.ensures.kept c.count_up.ensures.n_after c.turn.ensures.kept c.turn.ensures.rows_at
+    c.strip-c.ensures.upper_bound c.strip-c.ensures.rows_at c.count_up.ensures.kept c.count_up.ensures.n_after c.turn.ensures.kept c.turn.ensures.rows_at

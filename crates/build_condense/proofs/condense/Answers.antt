@@ -12,10 +12,10 @@ name_groups-requires c = names_fit c.requires c.count_up.ensures.kept c.count_up
 pub group_list-requires : goal.group_list-requires
 group_list-requires c =
     list_fit c.requires c.count_up.ensures.kept c.count_up.ensures.n_after c.rows.ensures.kept c.rows.ensures.rows_at c.name_groups.ensures.kept
-        c.name_groups.ensures.group_names
+    c.name_groups.ensures.group_names
 
 pub returns : goal.returns
 returns c =
     groups_found c.requires c.count_up.ensures.kept c.count_up.ensures.n_after c.rows.ensures.kept c.rows.ensures.rows_at c.name_groups.ensures.kept
-        c.name_groups.ensures.group_names c.group_list.ensures.kept c.group_list.ensures.upper_bound c.group_list.ensures.n_after
-        c.group_list.ensures.result_after c.group_list.ensures.n_after_2
+    c.name_groups.ensures.group_names c.group_list.ensures.kept c.group_list.ensures.upper_bound c.group_list.ensures.n_after
+    c.group_list.ensures.result_after c.group_list.ensures.n_after_2

@@ -82,11 +82,10 @@ loop-v-preserved c =
     let f = c.requires in
     let h = c.loop-v-test.true in
     let name = name_is f c.loop-v.invariant.1 h in
-    let i = listing_copied f c.loop-v.invariant.1 h refl in
-    (
+    let i = listing_copied f c.loop-v.invariant.1 h refl in (
       omega arith,
       elim c.if-own-v.branch [
-        then-own-v w ↦ listing_own f i h _ name refl w.if-own-v.true w.work-is w.k-is
+        | then-own-v w ↦ listing_own f i h _ name refl w.if-own-v.true w.work-is w.k-is
         | else-own-v w ↦ listing_other f i h _ name refl w.if-own-v.false w.work-is w.k-is
       ],
     )

@@ -11,7 +11,7 @@ levels-requires c =
 pub write_groups-requires : goal.write_groups-requires
 write_groups-requires c =
     groups_fit c.requires.ready c.children_from-children.ensures c.labels_from-base.ensures c.walk_from-walk.ensures c.write_labels.ensures.order_labelled
-        c.levels.ensures.kept c.levels.ensures.k_after c.args.form c.requires.form_bound (omega (arith, c.write_labels.auto.out, c.requires.total_in_bounds))
+    c.levels.ensures.kept c.levels.ensures.k_after c.args.form c.requires.form_bound (omega (arith, c.write_labels.auto.out, c.requires.total_in_bounds))
 
 pub returns : goal.returns
 returns c = record {

@@ -38,7 +38,7 @@ overflow_add-at c = omega (arith, turns_within c.requires.ready c.loop-j.invaria
 pub loop-j-preserved : goal.loop-j-preserved
 loop-j-preserved c =
     turns_more c.requires.ready c.loop-j.invariant _ c.requires.total_in_bounds c.loop-j-test.true c.bytes_of-step.ensures.0 c.write_order.auto.out
-        c.write_order.ensures.order_labelled c.write_order.ensures.out_after
+    c.write_order.ensures.order_labelled c.write_order.ensures.out_after
 
 pub shape_of-out : goal.shape_of-out
 shape_of-out c = c.loop-j.invariant.long

@@ -12,7 +12,7 @@ label-requires c = label_fits c.requires.ready c.children_from-children.ensures 
 pub write_labelling-requires : goal.write_labelling-requires
 write_labelling-requires c =
     labelling_fits c.requires.ready c.children_from-children.ensures c.labels_from-base.ensures c.walk_from-walk.ensures c.args.j c.label.ensures c.args.out.now
-        c.args.at c.requires.j_lt_d.1
+    c.args.at c.requires.j_lt_d.1
 
 pub returns : goal.returns
 returns c = record {

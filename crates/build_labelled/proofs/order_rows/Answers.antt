@@ -12,9 +12,9 @@ roots-q-requires c = roots_fit c.requires c.ranked.ensures.kept c.ranked.ensures
 pub turn-requires : goal.turn-requires
 turn-requires c =
     turn_fits c.requires c.ranked.ensures.kept c.ranked.ensures.upper_bound c.ranked.ensures.result_after c.roots-q.ensures.kept c.roots-q.ensures.upper_bound
-        c.roots-q.ensures.result_after
+    c.roots-q.ensures.result_after
 
 pub returns : goal.returns
 returns c =
     ordered c.requires c.ranked.ensures.kept c.ranked.ensures.upper_bound c.ranked.ensures.result_after c.roots-q.ensures.kept c.roots-q.ensures.upper_bound
-        c.roots-q.ensures.result_after c.turn.ensures.kept c.turn.ensures.rows_at
+    c.roots-q.ensures.result_after c.turn.ensures.kept c.turn.ensures.rows_at

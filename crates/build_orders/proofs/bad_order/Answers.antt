@@ -32,14 +32,13 @@ returns-then-one_lacks c =
     record {
       value = none_found c.args.d c.loop-i.invariant.1.passed (omega arith)
           (tried_bad (room (goal.at.returns-then-one_lacks c).At-loop-i) c.loop-i.invariant.1 s.ensures.kept s.ensures.stamped _ c.one_lacks.ensures
-              c.if-one_lacks.true);
+          c.if-one_lacks.true);
       kept = kept_then c.clear_part.ensures.kept (kept_then c.loop-i.invariant.1.kept s.ensures.kept);
     }
 
 pub loop-i-preserved : goal.loop-i-preserved
 loop-i-preserved c =
-    let s = c.stamp_order in
-    (
+    let s = c.stamp_order in (
       omega arith,
       tried_more (room (goal.at.loop-i-preserved c).At-loop-i) c.loop-i.invariant.1 s.ensures.kept s.ensures.stamped _ c.one_lacks.ensures c.if-one_lacks.false,
     )

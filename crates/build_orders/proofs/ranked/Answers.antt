@@ -49,8 +49,7 @@ pub loop-j-preserved : goal.loop-j-preserved
 loop-j-preserved c =
     let f = c.requires in
     let i = c.loop-j.invariant.1 in
-    let h = c.loop-j-test.true in
-    (
+    let h = c.loop-j-test.true in (
       omega arith,
       elim c.if-name-v.branch [ then-name-v w ↦ ranking_more f i h w.if-name-v.true w.k-is | else-name-v w ↦ ranking_past f i h w.if-name-v.false w.k-is ],
     )

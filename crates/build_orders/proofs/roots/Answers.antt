@@ -61,11 +61,10 @@ pub loop-j-preserved : goal.loop-j-preserved
 loop-j-preserved c =
     let f = c.requires in
     let i = c.loop-j.invariant.1 in
-    let h = c.loop-j-test.true in
-    (
+    let h = c.loop-j-test.true in (
       omega arith,
       elim c.if-work-starts.branch [
-        then-work-starts w ↦ rooting_more f i h w.if-work-starts.true w.work-is w.c-is
+        | then-work-starts w ↦ rooting_more f i h w.if-work-starts.true w.work-is w.c-is
         | else-work-starts w ↦ rooting_past f i h w.if-work-starts.false w.work-is w.c-is
       ],
     )

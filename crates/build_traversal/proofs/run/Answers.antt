@@ -245,23 +245,23 @@ row_end-end-requires c =
     let over = c.if-e-end.false in
     let same = frames_same fit c.loop-e.invariant over _ (top (goal.at.row_end-end-requires c).Then-d-gt0) c.lesser_word-s-then-d-gt0.ensures c.leave.ensures in
     let both = end_fits fit c.loop-e.invariant.frames over _ (top (goal.at.row_end-end-requires c).Then-d-gt0)
-        (omega (arith, both (goal.at.row_end-end-requires c).At-loop-e))
-        (kept_out fit c.loop-e.invariant over _ (top (goal.at.row_end-end-requires c).Then-d-gt0) c.lesser_word-s-then-d-gt0.ensures c.leave.ensures)
-        (same _ (omega arith) (omega arith)) (same _ (omega arith) (omega arith)) (same _ (omega arith) (omega arith)) in
+    (omega (arith, both (goal.at.row_end-end-requires c).At-loop-e))
+    (kept_out fit c.loop-e.invariant over _ (top (goal.at.row_end-end-requires c).Then-d-gt0) c.lesser_word-s-then-d-gt0.ensures c.leave.ensures)
+    (same _ (omega arith) (omega arith)) (same _ (omega arith) (omega arith)) (same _ (omega arith) (omega arith)) in
     record { n_in_bounds = both.0; n_in_bounds_2 = both.1.0; d_le_n = both.1.1.0; by_index = both.1.1.1 }
 
 pub loop-e-smaller : goal.loop-e-smaller
 loop-e-smaller c =
     out_less _ _ _ _ _ _ _ _ _ (top (goal.at.loop-e-smaller c).Then-d-gt0)
-        (no_more c.requires.traverse_fit c.loop-e.invariant c.if-e-end.false _ (top (goal.at.loop-e-smaller c).Then-d-gt0) c.lesser_word-s-then-d-gt0.ensures
-            c.leave.ensures) _
+    (no_more c.requires.traverse_fit c.loop-e.invariant c.if-e-end.false _ (top (goal.at.loop-e-smaller c).Then-d-gt0) c.lesser_word-s-then-d-gt0.ensures
+    c.leave.ensures) _
 
 pub loop-e-preserved : goal.loop-e-preserved
 loop-e-preserved c =
     let place : ℕ = c.args.base + 2 * c.args.n + (c.loop-e.d - 1) in
     let fits : get_or c.leave.new.work place 0 < 2 ^ 32 = omega arith in
     going_out c.requires.traverse_fit c.loop-e.invariant c.if-e-end.false _ (top (goal.at.loop-e-preserved c).Then-d-gt0) c.lesser_word-s-then-d-gt0.ensures
-        c.leave.ensures c.lesser_word-s-then-d-gt0-2.ensures refl fits c.row_place-at.ensures c.row_end-end.ensures
+    c.leave.ensures c.lesser_word-s-then-d-gt0-2.ensures refl fits c.row_place-at.ensures c.row_end-end.ensures
 
 pub shape_of-work-else-d-gt0 : goal.shape_of-work-else-d-gt0
 shape_of-work-else-d-gt0 c = c.loop-e.invariant.frames.kept.long

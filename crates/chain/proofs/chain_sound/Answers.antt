@@ -1,7 +1,6 @@
 -- `chain::chain_sound` meets its contract: the climb from the target's group alone marks exactly what reaches it, the steps are traced over these marks, and
 -- cleared again the marks are as they were.
 use native.Mathlib.Omega.{arith}
-use borrow.Author.Rules.{rules}
 use Rattle.chain.proofs.Fitted.{reaching_exactly, reaching_long, marks_again}
 use Rattle.chain.proofs.chain_sound.Goals as goal
 
@@ -13,5 +12,8 @@ trace-r-requires c =
 
 pub returns : goal.returns
 returns c =
-    record { shows = c.trace-r.ensures; marks_unchanged = marks_again c.requires.sound_bytes c.requires.n_in_bounds.1.1 _ c.requires.n_in_bounds.0 c.requires.marks_value c.mark_group.ensures c.climb_up.ensures
-          c.clear_marks.ensures }
+    record {
+      shows = c.trace-r.ensures;
+      marks_unchanged = marks_again c.requires.sound_bytes c.requires.n_in_bounds.1.1 _ c.requires.n_in_bounds.0 c.requires.marks_value c.mark_group.ensures c.climb_up.ensures
+          c.clear_marks.ensures;
+    }

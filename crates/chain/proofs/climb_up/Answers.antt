@@ -1,5 +1,4 @@
 -- `chain::climb_up` meets its contract: the sections of sound contents are fit for the climb, and hold what the index has.
-use borrow.Author.Rules.{rules}
 use Rattle.stored.specs.Sections.{Six}
 use Rattle.stored.proofs.Contents.{stretch_of, with_rows}
 use Rattle.reach.proofs.Fitted.{spots, ranked}

@@ -1,7 +1,6 @@
 -- `chain::show` meets its contract: the steps are counted, and written where there is room.
 use Prim.Native.Nat.{suc, ◌≤◌}
 use native.Mathlib.Omega.{arith}
-use borrow.Author.Rules.{rules}
 use Rattle.lineage.specs.Numbers.{numbers}
 use Rattle.numbers.specs.Bounds.{vertex_bound}
 use Rattle.chain_steps.specs.Steps.{next_in}

@@ -1,7 +1,6 @@
 -- `chain::trace` meets its contract: the mark at the source's name says what a question says; on a yes the steps down marked groups are the chain.
 use mathlib.Core.Path.{sym, ◌∙◌}
 use native.Mathlib.Omega.{arith}
-use borrow.Author.Rules.{rules}
 use borrow.Author.Tests.{eq-eqb, ne_eqb}
 use Rattle.stored.specs.Sections.{Six}
 use Rattle.stored.proofs.Contents.{stretch_of}

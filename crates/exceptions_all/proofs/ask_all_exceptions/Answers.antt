@@ -1,7 +1,5 @@
 -- `exceptions_all::ask_all_exceptions` meets its contract: it returns where one of 10 to 13 stops it, or with what is behind them.
 use mathlib.Core.Path.{sym, ap, ◌∙◌}
-use native.Mathlib.Omega.{arith}
-use borrow.Author.Rules.{rules}
 use lib.ListN.{length}
 use Rattle.lineage.specs.Calls.{host}
 use Rattle.stored_header.specs.Header.{header_outcome}

@@ -1,11 +1,9 @@
 -- `exceptions_all::ask_each` meets its contract, by the invariant beside this file.
-use mathlib.Core.Path.{◌≡◌}
-use Prim.Native.Nat.{◌+◌, ◌*◌, ◌-◌, ◌≤◌, ◌<◌}
+use Prim.Native.Nat.{◌+◌, ◌*◌, ◌-◌, ◌≤◌}
 use native.Mathlib.Omega.{arith}
 use lib.ListN.{length}
 use mir.Facts.{Fits-32_64}
-use Rattle.exceptions_all.specs.Pairs.{by_place}
-use Rattle.exceptions_all.proofs.Pairs.{Asking, asking_none, asking_long, asking_more, asking_all}
+use Rattle.exceptions_all.proofs.Pairs.{asking_none, asking_long, asking_more, asking_all}
 use Rattle.exceptions_all.proofs.ask_each.Goals as goal
 use Rattle.exceptions_all.proofs.ask_each.Goals.{In-loop-i}
 

@@ -1,11 +1,8 @@
 -- `exceptions_all::ask_each` meets its contract. The invariant: the answers hold three numbers for each pair passed.
-use mathlib.Core.Path.{◌≡◌}
-use Prim.Native.Nat.{◌+◌, ◌*◌, ◌-◌, ◌≤◌, ◌<◌}
-use native.Mathlib.Omega.{arith}
+use Prim.Native.Nat.{◌-◌}
 use lib.ListN.{length}
-use mir.Facts.{Fits-32_64}
 use Rattle.exceptions_all.specs.Pairs.{by_place}
-use Rattle.exceptions_all.proofs.Pairs.{Asking, asking_none, asking_long, asking_more, asking_all}
+use Rattle.exceptions_all.proofs.Pairs.{Asking}
 use Rattle.exceptions_all.proofs.ask_each.Given as goal
 
 abbrev pub invariant-loop-i : goal.invariant-loop-i

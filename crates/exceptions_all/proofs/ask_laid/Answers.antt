@@ -4,8 +4,7 @@ use mathlib.Core.Bool.{true, false, not}
 use mathlib.Core.Path.{◌≡◌, sym, ap, ◌∙◌}
 use Prim.Native.Nat.{ℕ, ◌<◌}
 use native.Mathlib.Omega.{arith}
-use borrow.Author.Rules.{rules}
-use borrow.Author.Tests.{not-false, eq-eqb, ne_eqb, lt-ltb, le-ltb}
+use borrow.Author.Tests.{eq-eqb, ne_eqb, lt-ltb, le-ltb}
 use lib.ListN.{length}
 use Rattle.lineage.specs.Lists.{cleared}
 use Rattle.lineage.specs.Calls.{contents_check}

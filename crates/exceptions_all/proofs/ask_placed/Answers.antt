@@ -3,7 +3,6 @@ use mathlib.Core.Path.{◌≡◌, sym, ap, ◌∙◌}
 use mathlib.Core.List.{List, ◌++◌}
 use Prim.Native.Nat.{ℕ}
 use native.Mathlib.Omega.{arith}
-use borrow.Author.Rules.{rules}
 use lib.ListN.{length, take, drop, length-append}
 use lib.Seq.{length-take-le}
 use Rattle.numbers.specs.Put.{put}
@@ -49,8 +48,11 @@ lay_out-requires c =
 
 pub ask_each-requires : goal.ask_each-requires
 ask_each-requires c =
-    let p = c.requires in record { ready = tabled_ready p.sound_bytes (six (goal.at.ask_each-requires c).After-labels-labels) p.n_bound.0 p.n_bound.1.1 (table (goal.at.ask_each-requires c).After-lay_out)
-          (omega (arith, table_long (goal.at.ask_each-requires c).After-lay_out, length-append c.lay_out.new.places (drop c.args.l.n c.args.places.now))); sources_len = p.sources_len }
+    let p = c.requires in record {
+      ready = tabled_ready p.sound_bytes (six (goal.at.ask_each-requires c).After-labels-labels) p.n_bound.0 p.n_bound.1.1 (table (goal.at.ask_each-requires c).After-lay_out)
+          (omega (arith, table_long (goal.at.ask_each-requires c).After-lay_out, length-append c.lay_out.new.places (drop c.args.l.n c.args.places.now)));
+      sources_len = p.sources_len;
+    }
 
 pub returns : goal.returns
 returns c =

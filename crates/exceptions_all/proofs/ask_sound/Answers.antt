@@ -1,6 +1,5 @@
 -- `exceptions_all::ask_sound` meets its contract: an index of form 1 has no more vertices than the array has words.
 use native.Mathlib.Omega.{arith}
-use borrow.Author.Rules.{rules}
 use Rattle.exceptions_all.proofs.ask_sound.Goals as goal
 
 pub ask_placed-requires : goal.ask_placed-requires

@@ -1,7 +1,6 @@
 -- `exceptions_all::put_three` meets its contract: the three stores are the three numbers put one after the other.
 use native.Mathlib.Omega.{arith}
 use lib.ListN.{length-set}
-use borrow.Author.Rules.{rules}
 use Rattle.exceptions_all.proofs.Pairs.{three_put}
 use Rattle.exceptions_all.proofs.put_three.Goals as goal
 

@@ -1,7 +1,6 @@
 -- `face::asked` meets its contract: each case gives its numbers; yes is 1 and no is 0.
 use mathlib.Core.Path.{◌≡◌, refl, sym, ap, ◌∙◌}
 use mathlib.Core.Bool.{Bool, true, false}
-use borrow.Author.Rules.{rules}
 use Prim.Native.Nat.{ℕ}
 use mir.Val.{bool_byte}
 use Rattle.lineage.specs.Calls.{answered}

@@ -1,6 +1,5 @@
 -- `face::asked_all` meets its contract: each case gives its numbers.
 use mathlib.Core.Path.{sym, ap}
-use borrow.Author.Rules.{rules}
 use Rattle.ask_all.specs.Batched.{batched_of}
 use Rattle.ask_all.specs.declared.Batched.{Batched}
 use Rattle.face.specs.Host.{host_asked_all}

@@ -1,6 +1,5 @@
 -- `face::drobisten_ask` meets its contract: it hands on what `ask_form1` gives.
 use mathlib.Core.Path.{ap, ◌∙◌}
-use borrow.Author.Rules.{rules}
 use Rattle.face.specs.Host.{host_asked}
 use Rattle.face.proofs.drobisten_ask.Goals as goal
 

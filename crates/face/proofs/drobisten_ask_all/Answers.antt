@@ -1,6 +1,5 @@
 -- `face::drobisten_ask_all` meets its contract: it hands on what `ask_all_form1` gives.
 use mathlib.Core.Path.{ap, ◌∙◌}
-use borrow.Author.Rules.{rules}
 use Rattle.face.specs.Host.{host_asked_all}
 use Rattle.face.proofs.drobisten_ask_all.Goals as goal
 

@@ -1,6 +1,5 @@
 -- `face::drobisten_open` meets its contract: it hands on what `open_form1` gives.
 use mathlib.Core.Path.{ap, ◌∙◌}
-use borrow.Author.Rules.{rules}
 use Rattle.face.specs.Host.{host_opened}
 use Rattle.face.proofs.drobisten_open.Goals as goal
 

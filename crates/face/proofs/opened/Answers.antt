@@ -1,6 +1,5 @@
 -- `face::opened` meets its contract: each case gives its numbers.
 use mathlib.Core.Path.{sym, ap}
-use borrow.Author.Rules.{rules}
 use Rattle.open.specs.Opened.{opened_of}
 use Rattle.open.specs.declared.Opened.{Opened}
 use Rattle.face.specs.Host.{host_opened}

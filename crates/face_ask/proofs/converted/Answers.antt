@@ -1,6 +1,5 @@
 -- `face_ask::converted` meets its contract: each case gives its numbers.
 use mathlib.Core.Path.{sym, ap, ◌∙◌}
-use borrow.Author.Rules.{rules}
 use Rattle.convert.specs.Converted.{converted_of}
 use Rattle.convert.specs.declared.Converted.{Converted}
 use Rattle.face.specs.Host.{host_counted}

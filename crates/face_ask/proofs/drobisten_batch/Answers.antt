@@ -1,6 +1,5 @@
 -- `face_ask::drobisten_batch` meets its contract: it hands on what `ask_all` gives.
 use mathlib.Core.Path.{ap, ◌∙◌}
-use borrow.Author.Rules.{rules}
 use Rattle.face.specs.Host.{host_asked_all}
 use Rattle.face_ask.proofs.drobisten_batch.Goals as goal
 

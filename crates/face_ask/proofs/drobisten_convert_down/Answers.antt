@@ -1,6 +1,5 @@
 -- `face_ask::drobisten_convert_down` meets its contract: it hands on what `convert_down` gives.
 use mathlib.Core.Path.{ap, ◌∙◌}
-use borrow.Author.Rules.{rules}
 use Rattle.face.specs.Host.{host_counted}
 use Rattle.face_ask.proofs.drobisten_convert_down.Goals as goal
 

@@ -1,6 +1,5 @@
 -- `face_ask::drobisten_convert_up` meets its contract: it hands on what `convert_up` gives.
 use mathlib.Core.Path.{ap, ◌∙◌}
-use borrow.Author.Rules.{rules}
 use Rattle.face.specs.Host.{host_counted}
 use Rattle.face_ask.proofs.drobisten_convert_up.Goals as goal
 

@@ -1,6 +1,5 @@
 -- `face_ask::drobisten_inspect` meets its contract: it hands on what `open` gives.
 use mathlib.Core.Path.{ap, ◌∙◌}
-use borrow.Author.Rules.{rules}
 use Rattle.face.specs.Host.{host_opened}
 use Rattle.face_ask.proofs.drobisten_inspect.Goals as goal
 

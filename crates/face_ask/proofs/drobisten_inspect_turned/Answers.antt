@@ -1,6 +1,5 @@
 -- `face_ask::drobisten_inspect_turned` meets its contract: it hands on what `open_turned` gives.
 use mathlib.Core.Path.{ap, ◌∙◌}
-use borrow.Author.Rules.{rules}
 use Rattle.face.specs.Host.{host_opened}
 use Rattle.face_ask.proofs.drobisten_inspect_turned.Goals as goal
 

@@ -1,6 +1,5 @@
 -- `face_ask::drobisten_question` meets its contract: it hands on what `ask` gives.
 use mathlib.Core.Path.{ap, ◌∙◌}
-use borrow.Author.Rules.{rules}
 use Rattle.face.specs.Host.{host_asked}
 use Rattle.face_ask.proofs.drobisten_question.Goals as goal
 

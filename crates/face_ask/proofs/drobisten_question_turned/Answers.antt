@@ -1,6 +1,5 @@
 -- `face_ask::drobisten_question_turned` meets its contract: it hands on what `ask_turned` gives.
 use mathlib.Core.Path.{ap, ◌∙◌}
-use borrow.Author.Rules.{rules}
 use Rattle.face.specs.Host.{host_asked}
 use Rattle.face_ask.proofs.drobisten_question_turned.Goals as goal
 

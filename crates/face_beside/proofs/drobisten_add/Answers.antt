@@ -1,6 +1,5 @@
 -- `face_beside::drobisten_add` meets its contract: it hands on what `add` gives.
 use mathlib.Core.Path.{◌≡◌, sym, ap, ◌∙◌}
-use borrow.Author.Rules.{rules}
 use Rattle.lineage.specs.Calls.{Outcome}
 use Rattle.added.specs.declared.Added.{Added}
 use Rattle.added.specs.declared.Taken.{Taken}

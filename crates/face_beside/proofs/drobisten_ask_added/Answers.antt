@@ -1,6 +1,5 @@
 -- `face_beside::drobisten_ask_added` meets its contract: it hands on what `ask_added` gives.
 use mathlib.Core.Path.{ap, ◌∙◌}
-use borrow.Author.Rules.{rules}
 use Rattle.face.specs.Host.{host_said}
 use Rattle.face_beside.proofs.drobisten_ask_added.Goals as goal
 

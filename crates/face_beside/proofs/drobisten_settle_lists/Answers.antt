@@ -1,6 +1,5 @@
 -- `face_beside::drobisten_settle_lists` meets its contract: it hands on what `settle_lists` gives.
 use mathlib.Core.Path.{ap, ◌∙◌}
-use borrow.Author.Rules.{rules}
 use Rattle.rules_table.specs.Table.{desk_settled}
 use Rattle.face_beside.proofs.drobisten_settle_lists.Goals as goal
 

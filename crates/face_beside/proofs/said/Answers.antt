@@ -1,6 +1,5 @@
 -- `face_beside::said` meets its contract: each case gives its numbers.
 use mathlib.Core.Path.{sym, ap}
-use borrow.Author.Rules.{rules}
 use Rattle.added.specs.Asked.{asked_added_of}
 use Rattle.added.specs.declared.AskedAdded.{AskedAdded}
 use Rattle.face.specs.Host.{host_said}

@@ -1,6 +1,5 @@
 -- `face_beside::settled` meets its contract: each case gives its numbers.
 use mathlib.Core.Path.{sym, ap}
-use borrow.Author.Rules.{rules}
 use Rattle.rules.specs.Settled.{settled_of}
 use Rattle.rules.specs.declared.Settled.{Settled}
 use Rattle.rules_table.specs.Table.{desk_settled}

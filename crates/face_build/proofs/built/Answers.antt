@@ -1,6 +1,5 @@
 -- `face_build::built` meets its contract: each case gives its numbers.
 use mathlib.Core.Path.{sym, ap, ◌∙◌}
-use borrow.Author.Rules.{rules}
 use Rattle.build.specs.Answers.{built_of}
 use Rattle.build.specs.declared.Built.{Built}
 use Rattle.face.specs.Host.{host_counted}

@@ -1,6 +1,5 @@
 -- `face_build::drobisten_build` meets its contract: it hands on what `build` gives.
 use mathlib.Core.Path.{ap, ◌∙◌}
-use borrow.Author.Rules.{rules}
 use Rattle.face.specs.Host.{host_counted}
 use Rattle.face_build.proofs.drobisten_build.Goals as goal
 

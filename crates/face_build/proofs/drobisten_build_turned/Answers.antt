@@ -1,6 +1,5 @@
 -- `face_build::drobisten_build_turned` meets its contract: it hands on what `build_turned` gives.
 use mathlib.Core.Path.{ap, ◌∙◌}
-use borrow.Author.Rules.{rules}
 use Rattle.face.specs.Host.{host_counted}
 use Rattle.face_build.proofs.drobisten_build_turned.Goals as goal
 

@@ -1,6 +1,5 @@
 -- `face_exceptions::drobisten_ask_all_exceptions` meets its contract: it hands on what `ask_all_exceptions` gives.
 use mathlib.Core.Path.{ap, ◌∙◌}
-use borrow.Author.Rules.{rules}
 use Rattle.face.specs.Host.{host_asked_all}
 use Rattle.face_exceptions.proofs.drobisten_ask_all_exceptions.Goals as goal
 

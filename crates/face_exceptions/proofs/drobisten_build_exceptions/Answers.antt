@@ -1,6 +1,5 @@
 -- `face_exceptions::drobisten_build_exceptions` meets its contract: it hands on what `build_exceptions` gives.
 use mathlib.Core.Path.{ap, ◌∙◌}
-use borrow.Author.Rules.{rules}
 use Rattle.face.specs.Host.{host_counted}
 use Rattle.face_exceptions.proofs.drobisten_build_exceptions.Goals as goal
 

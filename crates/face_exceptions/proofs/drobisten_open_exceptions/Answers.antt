@@ -1,6 +1,5 @@
 -- `face_exceptions::drobisten_open_exceptions` meets its contract: it hands on what `open_exceptions` gives.
 use mathlib.Core.Path.{ap, ◌∙◌}
-use borrow.Author.Rules.{rules}
 use Rattle.face_exceptions.specs.Lists.{host_lists}
 use Rattle.face_exceptions.proofs.drobisten_open_exceptions.Goals as goal
 

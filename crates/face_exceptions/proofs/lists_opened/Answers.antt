@@ -1,6 +1,5 @@
 -- `face_exceptions::lists_opened` meets its contract: each case gives its numbers.
 use mathlib.Core.Path.{sym, ap}
-use borrow.Author.Rules.{rules}
 use Rattle.exceptions.specs.Opened.{opened_of}
 use Rattle.exceptions.specs.declared.Opened.{Opened}
 use Rattle.face_exceptions.specs.Lists.{host_lists}

@@ -1,7 +1,6 @@
 -- `face_exceptions::said` meets its contract: each case gives its numbers; yes is 1 and no is 0.
 use mathlib.Core.Bool.{Bool, true, false}
 use mathlib.Core.Path.{◌≡◌, refl, sym, ap, ◌∙◌}
-use borrow.Author.Rules.{rules}
 use mir.Val.{bool_byte}
 use Rattle.lineage.specs.Calls.{answered}
 use Rattle.exceptions.specs.Said.{said_of}

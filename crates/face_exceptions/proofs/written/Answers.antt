@@ -1,6 +1,5 @@
 -- `face_exceptions::written` meets its contract: each case gives its numbers.
 use mathlib.Core.Path.{sym, ap, ◌∙◌}
-use borrow.Author.Rules.{rules}
 use Rattle.exceptions.specs.Written.{written_of}
 use Rattle.exceptions.specs.declared.Written.{Written}
 use Rattle.face.specs.Host.{host_counted}

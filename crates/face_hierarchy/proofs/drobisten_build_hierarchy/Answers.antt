@@ -1,6 +1,5 @@
 -- `face_hierarchy::drobisten_build_hierarchy` meets its contract: it hands on what `build_hierarchy` gives.
 use mathlib.Core.Path.{ap, ◌∙◌}
-use borrow.Author.Rules.{rules}
 use Rattle.face.specs.Host.{host_counted}
 use Rattle.face_hierarchy.proofs.drobisten_build_hierarchy.Goals as goal
 

@@ -1,6 +1,5 @@
 -- `face_hierarchy::drobisten_from_hierarchy` meets its contract: it hands on what `from_hierarchy` gives.
 use mathlib.Core.Path.{ap, ◌∙◌}
-use borrow.Author.Rules.{rules}
 use Rattle.face.specs.Host.{host_counted}
 use Rattle.face_hierarchy.proofs.drobisten_from_hierarchy.Goals as goal
 

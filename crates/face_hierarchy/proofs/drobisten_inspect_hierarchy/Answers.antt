@@ -1,6 +1,5 @@
 -- `face_hierarchy::drobisten_inspect_hierarchy` meets its contract: it hands on what `open_hierarchy` gives.
 use mathlib.Core.Path.{ap, ◌∙◌}
-use borrow.Author.Rules.{rules}
 use Rattle.face.specs.Host.{host_opened}
 use Rattle.face_hierarchy.proofs.drobisten_inspect_hierarchy.Goals as goal
 

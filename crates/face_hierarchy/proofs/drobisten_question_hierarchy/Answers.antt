@@ -1,6 +1,5 @@
 -- `face_hierarchy::drobisten_question_hierarchy` meets its contract: it hands on what `ask_hierarchy` gives.
 use mathlib.Core.Path.{ap, ◌∙◌}
-use borrow.Author.Rules.{rules}
 use Rattle.face.specs.Host.{host_asked}
 use Rattle.face_hierarchy.proofs.drobisten_question_hierarchy.Goals as goal
 

@@ -1,6 +1,5 @@
 -- `face_list::chained` meets its contract: each case gives its numbers.
 use mathlib.Core.Path.{sym, ap}
-use borrow.Author.Rules.{rules}
 use Rattle.chain.specs.Chained.{chained_of}
 use Rattle.chain.specs.declared.Chained.{Chained}
 use Rattle.face_list.specs.Chained.{host_chained}

@@ -1,6 +1,5 @@
 -- `face_list::drobisten_chain` meets its contract: it hands on what `chain` gives.
 use mathlib.Core.Path.{ap, ◌∙◌}
-use borrow.Author.Rules.{rules}
 use Rattle.face_list.specs.Chained.{host_chained}
 use Rattle.face_list.proofs.drobisten_chain.Goals as goal
 

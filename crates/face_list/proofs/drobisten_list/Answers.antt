@@ -1,6 +1,5 @@
 -- `face_list::drobisten_list` meets its contract: it hands on what `list` gives.
 use mathlib.Core.Path.{ap, ◌∙◌}
-use borrow.Author.Rules.{rules}
 use Rattle.face.specs.Host.{host_counted}
 use Rattle.face_list.proofs.drobisten_list.Goals as goal
 

@@ -1,6 +1,5 @@
 -- `face_list::drobisten_list_turned` meets its contract: it hands on what `list_turned` gives.
 use mathlib.Core.Path.{ap, ◌∙◌}
-use borrow.Author.Rules.{rules}
 use Rattle.face.specs.Host.{host_counted}
 use Rattle.face_list.proofs.drobisten_list_turned.Goals as goal
 

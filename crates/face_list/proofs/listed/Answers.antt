@@ -1,6 +1,5 @@
 -- `face_list::listed` meets its contract: each case gives its numbers.
 use mathlib.Core.Path.{sym, ap, ◌∙◌}
-use borrow.Author.Rules.{rules}
 use Rattle.list.specs.Listed.{listed_of}
 use Rattle.list.specs.declared.Listed.{Listed}
 use Rattle.face.specs.Host.{host_counted}

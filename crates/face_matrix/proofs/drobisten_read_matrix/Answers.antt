@@ -1,6 +1,5 @@
 -- `face_matrix::drobisten_read_matrix` meets its contract: it hands on what `read_matrix` gives.
 use mathlib.Core.Path.{ap, ◌∙◌}
-use borrow.Author.Rules.{rules}
 use Rattle.face_matrix.specs.Matrix.{host_matrix}
 use Rattle.face_matrix.proofs.drobisten_read_matrix.Goals as goal
 

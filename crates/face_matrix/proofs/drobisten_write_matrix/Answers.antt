@@ -1,6 +1,5 @@
 -- `face_matrix::drobisten_write_matrix` meets its contract: it hands on what `write_matrix` gives.
 use mathlib.Core.Path.{ap, ◌∙◌}
-use borrow.Author.Rules.{rules}
 use Rattle.face.specs.Host.{host_counted}
 use Rattle.face_matrix.proofs.drobisten_write_matrix.Goals as goal
 

@@ -1,6 +1,5 @@
 -- `face_matrix::matrix` meets its contract: each case gives its numbers.
 use mathlib.Core.Path.{sym, ap}
-use borrow.Author.Rules.{rules}
 use Rattle.matrix_read.specs.Answer.{read_of}
 use Rattle.matrix_read.specs.declared.MatrixRead.{MatrixRead}
 use Rattle.face_matrix.specs.Matrix.{host_matrix}

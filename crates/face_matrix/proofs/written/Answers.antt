@@ -1,6 +1,5 @@
 -- `face_matrix::written` meets its contract: each case gives its numbers.
 use mathlib.Core.Path.{sym, ap, ◌∙◌}
-use borrow.Author.Rules.{rules}
 use Rattle.matrix_write.specs.Written.{written_of}
 use Rattle.matrix_write.specs.declared.Written.{Written}
 use Rattle.face.specs.Host.{host_counted}

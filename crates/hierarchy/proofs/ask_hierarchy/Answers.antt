@@ -1,7 +1,6 @@
 -- `hierarchy::ask_hierarchy` meets its contract: it returns where one of 10 to 13, 6 and 14 stops it, or with what is behind them; no word past those needed is altered.
 use mathlib.Core.Path.{sym, ap, ◌∙◌}
 use native.Mathlib.Omega.{arith}
-use borrow.Author.Rules.{rules}
 use lib.ListN.{length}
 use Rattle.lineage.specs.Calls.{hierarchy}
 use Rattle.numbers.proofs.Regions.{kept_same}
@@ -38,4 +37,4 @@ ask_laid-requires c = let A = admits (goal.at.ask_laid-requires c).In-Passed in 
 pub returns : goal.returns
 returns c =
     let A = admits (goal.at.returns c).In-Passed in
-    let L = admitted_laid A in let both = asks_rest _ _ _ _ _ _ A (vertex_in L c.if-l-u.false) (vertex_in L c.if-l-v.false) (c.ask_laid.ensures.result_value, c.ask_laid.ensures.marks_after)     (kept_same _ _ _) c.words_needed.ensures.0 c.clear_words.ensures in record { result_value = both.0; marks_after = both.1.0; work_after = both.1.1 }
+    let L = admitted_laid A in let both = asks_rest _ _ _ _ _ _ A (vertex_in L c.if-l-u.false) (vertex_in L c.if-l-v.false) (c.ask_laid.ensures.result_value, c.ask_laid.ensures.marks_after) (kept_same _ _ _) c.words_needed.ensures.0 c.clear_words.ensures in record { result_value = both.0; marks_after = both.1.0; work_after = both.1.1 }

@@ -1,7 +1,5 @@
 -- `hierarchy::ask_laid` meets its contract: the check of the contents leaves the marks 0 below n, and so they stay; the reason tells the answer.
 use mathlib.Core.Path.{refl, sym, ◌∙◌}
-use borrow.Author.Rules.{rules}
-use borrow.Author.Tests.{not-false}
 use Rattle.open.proofs.Checks.{contents_applies}
 use Rattle.ask.proofs.Refusals.{replies_unsound}
 use Rattle.hierarchy.proofs.Asked.{replies_by}
@@ -16,4 +14,4 @@ reason_between-reason-requires c = let p = c.requires in record { sound_bytes = 
 pub returns : goal.returns
 returns c =
     let a = c.args in
-    let L = c.requires.laid in let both = replies_by _ a.u a.v _ L c.contents_sound.ensures.marks_after (contents_applies L c.contents_sound.ensures.value ∙ c.if-not-contents_sound.false-raw) c.reason_between-reason.result c.reason_between-reason.ensures     refl c.deciding_for.ensures in record { result_value = both.0; marks_after = both.1 }
+    let L = c.requires.laid in let both = replies_by _ a.u a.v _ L c.contents_sound.ensures.marks_after (contents_applies L c.contents_sound.ensures.value ∙ c.if-not-contents_sound.false-raw) c.reason_between-reason.result c.reason_between-reason.ensures refl c.deciding_for.ensures in record { result_value = both.0; marks_after = both.1 }

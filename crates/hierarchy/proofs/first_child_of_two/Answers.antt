@@ -1,7 +1,6 @@
 -- `hierarchy::first_child_of_two` meets its contract: at a form of plain hierarchies the first that stands twice among the child entries is the first child of two others,
 -- and marks that were 0 are 0 again.
 use mathlib.Core.Path.{refl, sym, ◌∙◌}
-use borrow.Author.Rules.{rules}
 use Rattle.hierarchy.proofs.Sections.{within, first_is}
 use Rattle.hierarchy.proofs.first_child_of_two.Goals as goal
 

@@ -1,6 +1,5 @@
 -- `hierarchy::from_hierarchy` meets its contract: form 4 takes one labelling.
 use mathlib.Core.Path.{refl}
-use borrow.Author.Rules.{rules}
 use Rattle.hierarchy.proofs.from_hierarchy.Goals as goal
 
 pub turn_between-requires : goal.turn_between-requires

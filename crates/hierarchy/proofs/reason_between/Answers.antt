@@ -1,6 +1,5 @@
 -- `hierarchy::reason_between` meets its contract: the two vertices' names and places are read, and what decides between those places is the question's answer.
 use native.Mathlib.Omega.{arith}
-use borrow.Author.Rules.{rules}
 use Rattle.numbers.proofs.Numbers.{room}
 use Rattle.sound_places.specs.Lent.{Lent}
 use Rattle.sound_places.proofs.Vertices.{list_rises, list_low, name_listed, vertex_low, vertex_placed}

@@ -1,6 +1,5 @@
 -- `hierarchy::to_hierarchy` meets its contract: form 4 is of plain hierarchies.
 use mathlib.Core.Path.{refl}
-use borrow.Author.Rules.{rules}
 use Rattle.laws.proofs.Tests.{clash}
 use Rattle.hierarchy.proofs.to_hierarchy.Goals as goal
 

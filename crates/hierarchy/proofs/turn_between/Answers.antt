@@ -1,8 +1,6 @@
 -- `hierarchy::turn_between` meets its contract: each return is where its checks stop, and behind 15 the writing of sound bytes decides.
 use mathlib.Core.Path.{sym, ap, ◌∙◌}
 use native.Mathlib.Omega.{arith}
-use borrow.Author.Rules.{rules}
-use borrow.Author.Tests.{not-false}
 use lib.ListN.{length}
 use Rattle.numbers.proofs.Cleared.{cleared_again}
 use Rattle.stored_header.specs.Header.{header_outcome}
@@ -35,12 +33,16 @@ returns-then-not-contents_sound c = let both = turns_unsound _ _ _ _ _ _ (admits
 pub turn_sound-requires : goal.turn_sound-requires
 turn_sound-requires c =
     let A = admits (goal.at.turn_sound-requires c).In-Passed in
-    let p = c.requires in record { wide = record {
+    let p = c.requires in record {
+      wide = record {
         sound = record { laid = admitted_laid A; contents = sym c.contents_sound.ensures.value ∙ c.if-not-contents_sound.false };
         width = admitted_wide A p.wide_from;
         known = p.known;
         wide = p.wide_to;
-      }; d_value = (λ none. admitted_one A (p.one none)); n_in_bounds = (omega (arith, admitted_room A, c.contents_sound.auto), cleared_again _ _ c.contents_sound.ensures.marks_after) }
+      };
+      d_value = (λ none. admitted_one A (p.one none));
+      n_in_bounds = (omega (arith, admitted_room A, c.contents_sound.auto), cleared_again _ _ c.contents_sound.ensures.marks_after);
+    }
 
 pub returns : goal.returns
-returns c = let both = turns_turned _ _ _ _ _ _ (admits (goal.at.returns c).In-Passed) c.contents_sound.ensures.value (c.turn_sound.ensures.marks_unchanged ∙ c.contents_sound.ensures.marks_after) c.words_needed.ensures.0 c.clear_words.ensures     c.if-not-contents_sound.false-raw c.turn_sound.ensures.turned in record { result_value = both.0; marks_after = both.1.0; work_after = both.1.1.0; out_after = both.1.1.1 }
+returns c = let both = turns_turned _ _ _ _ _ _ (admits (goal.at.returns c).In-Passed) c.contents_sound.ensures.value (c.turn_sound.ensures.marks_unchanged ∙ c.contents_sound.ensures.marks_after) c.words_needed.ensures.0 c.clear_words.ensures c.if-not-contents_sound.false-raw c.turn_sound.ensures.turned in record { result_value = both.0; marks_after = both.1.0; work_after = both.1.1.0; out_after = both.1.1.1 }

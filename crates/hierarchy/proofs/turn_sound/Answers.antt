@@ -1,10 +1,8 @@
 -- `hierarchy::turn_sound` meets its contract: 4 is told by the labellings, 22 by the first child of two others and its name, 9 by the layout that the counts have there, and
 -- behind them the whole index is written.
-use mathlib.Core.Path.{◌≡◌, refl, ◌∙◌}
+use mathlib.Core.Path.{refl}
 use native.Mathlib.Omega.{arith}
-use borrow.Author.Rules.{rules}
 use borrow.Author.Tests.{ltb-true, ltb-false}
-use lib.ListN.{length}
 use Rattle.numbers.proofs.Numbers.{room}
 use Rattle.hierarchy.specs.Fit.{Between}
 use Rattle.hierarchy.proofs.Written.{total_small}

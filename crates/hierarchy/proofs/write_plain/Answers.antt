@@ -1,7 +1,6 @@
 -- `hierarchy::write_plain` meets its contract: header, numbers and labels stand one behind the other, and so they are the index at the other form.
 use mathlib.Core.Path.{◌≡◌, refl, ◌∙◌}
 use native.Mathlib.Omega.{arith}
-use borrow.Author.Rules.{rules}
 use lib.ListN.{length}
 use Rattle.hierarchy.proofs.Written.{header_small, to_labels, to_total, counted, put_whole, turns, held}
 use Rattle.hierarchy.proofs.write_plain.Goals as goal

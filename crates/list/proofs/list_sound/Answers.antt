@@ -1,6 +1,5 @@
 -- `list::list_sound` meets its contract: the marked vertices are those downstream; they are counted, and written where there is room.
 use native.Mathlib.Omega.{arith}
-use borrow.Author.Rules.{rules}
 use Rattle.list.proofs.Found.{names_there, marks_again, count_few, list_short, list_found}
 use Rattle.list.proofs.list_sound.Goals as goal
 
@@ -31,5 +30,8 @@ overflow_cast-result-2 c =
 
 pub returns : goal.returns
 returns c =
-    let reached = c.mark_reached.ensures in record { fills = list_found c.requires.sound_bytes c.names-names.ensures c.requires.n_in_bounds.1 _ c.requires.n_in_bounds.0 reached c.in_own_list-own.ensures c.count_listed-count.ensures _ c.if-out-count.false
-          c.write_listed.ensures; marks_unchanged = marks_again c.requires.sound_bytes c.names-names.ensures c.requires.n_in_bounds.1 _ c.requires.n_in_bounds.0 reached c.requires.marks_value c.clear_marks-2.ensures }
+    let reached = c.mark_reached.ensures in record {
+      fills = list_found c.requires.sound_bytes c.names-names.ensures c.requires.n_in_bounds.1 _ c.requires.n_in_bounds.0 reached c.in_own_list-own.ensures c.count_listed-count.ensures _ c.if-out-count.false
+          c.write_listed.ensures;
+      marks_unchanged = marks_again c.requires.sound_bytes c.names-names.ensures c.requires.n_in_bounds.1 _ c.requires.n_in_bounds.0 reached c.requires.marks_value c.clear_marks-2.ensures;
+    }

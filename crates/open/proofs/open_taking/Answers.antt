@@ -35,7 +35,7 @@ contents_sound-requires c = let A = admits (goal.at.contents_sound-requires c).I
 pub returns-then-not-contents_sound : goal.returns-then-not-contents_sound
 returns-then-not-contents_sound c =
     let both = opens_unsound _ _ _ _ (admits (goal.at.returns-then-not-contents_sound c).In-Passed) c.contents_sound.ensures.value c.contents_sound.ensures.marks_after
-        c.words_needed.ensures.0 c.clear_words.ensures (ap not c.if-not-contents_sound.true) in record {
+    c.words_needed.ensures.0 c.clear_words.ensures (ap not c.if-not-contents_sound.true) in record {
       result_value = both.0;
       marks_after = both.1.0;
       work_after = both.1.1;
@@ -56,7 +56,7 @@ overflow_cast-result-4 c = omega (arith, admitted_laid (admits (goal.at.overflow
 pub returns : goal.returns
 returns c =
     let both = opens_sound _ _ _ _ (admits (goal.at.returns c).In-Passed) c.contents_sound.ensures.value c.contents_sound.ensures.marks_after c.words_needed.ensures.0
-        c.clear_words.ensures (ap not c.if-not-contents_sound.false) in record {
+    c.clear_words.ensures (ap not c.if-not-contents_sound.false) in record {
       result_value = both.0;
       marks_after = both.1.0;
       work_after = both.1.1;

@@ -2,8 +2,6 @@
 -- the contents has cleared.
 use mathlib.Core.Path.{◌≡◌, sym, ap, ◌∙◌}
 use native.Mathlib.Omega.{arith}
-use borrow.Author.Rules.{rules}
-use borrow.Author.Tests.{not-false}
 use lib.ListN.{length}
 use Rattle.lineage.specs.Calls.{refused, answered, outcome, forms_taken, form_checks}
 use Rattle.numbers.proofs.Cleared.{cleared_again}

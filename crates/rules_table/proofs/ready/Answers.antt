@@ -1,7 +1,6 @@
 -- `rules_table::ready` meets its contract: what `prepare` answers, as numbers.
 use mathlib.Core.Path.{◌≡◌, ap, sym, ◌∙◌}
 use Prim.Native.Nat.{ℕ}
-use borrow.Author.Rules.{rules}
 use lib.ListN.{length}
 use Rattle.lineage.specs.Calls.{Outcome, refused, answered, ordinary}
 use Rattle.rules.specs.Settled.{prepared_of, prepared_answer}

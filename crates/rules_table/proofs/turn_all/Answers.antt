@@ -1,5 +1,5 @@
 -- `rules_table::turn_all` meets its contract, by the invariant beside this file: with the record at i turned too, the first i + 1 are.
-use Rattle.std.proofs.Common.{◌≡◌, ◌∙◌, ap, List, get_or, set, arith}
+use Rattle.std.proofs.Common.{◌∙◌, ap, List, get_or, set, arith}
 use Rattle.rules_table.specs.Table.{rule_by}
 use Rattle.rules_table.specs.declared.Rule.{Rule}
 use Rattle.rules_table.proofs.First.{front_more}

@@ -1,6 +1,5 @@
 -- `rules_table::turned` meets its contract: the state is told by the mark of the vertex, and the rest is copied.
 use mathlib.Core.Path.{ap}
-use borrow.Author.Rules.{rules}
 use Rattle.rules_table.specs.Table.{with_state, rule_by}
 use Rattle.rules_table.proofs.turned.Goals as goal
 

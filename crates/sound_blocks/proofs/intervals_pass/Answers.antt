@@ -21,15 +21,15 @@ pub returns-then-not-block_passes : goal.returns-then-not-block_passes
 returns-then-not-block_passes c =
     let low = c.loop-p-test.true in
     passed_not c.loop-p.invariant low
-        (block_decides c.requires.places c.requires.ranked low c.outer_passes.ensures (ap not c.if-not-outer_passes.false) c.block_passes.ensures)
-        (ap not c.if-not-block_passes.true)
+    (block_decides c.requires.places c.requires.ranked low c.outer_passes.ensures (ap not c.if-not-outer_passes.false) c.block_passes.ensures)
+    (ap not c.if-not-block_passes.true)
 
 pub loop-p-preserved : goal.loop-p-preserved
 loop-p-preserved c =
     let low = c.loop-p-test.true in
     passed_more c.loop-p.invariant low
-        (block_decides c.requires.places c.requires.ranked low c.outer_passes.ensures (ap not c.if-not-outer_passes.false) c.block_passes.ensures)
-        (ap not c.if-not-block_passes.false)
+    (block_decides c.requires.places c.requires.ranked low c.outer_passes.ensures (ap not c.if-not-outer_passes.false) c.block_passes.ensures)
+    (ap not c.if-not-block_passes.false)
 
 pub returns : goal.returns
 returns c = passed_all c.loop-p.invariant c.loop-p-test.false

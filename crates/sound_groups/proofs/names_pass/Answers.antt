@@ -22,7 +22,7 @@ num-requires c = can_read c.requires.holds c.loop-v-test.true
 pub returns-then-p-k : goal.returns-then-p-k
 returns-then-p-k c =
     listed_over c.requires.holds c.requires.holds_2 c.loop-v.invariant c.loop-v-test.true c.own_name.ensures (ap not c.if-not-own_name.false) c.num.ensures.0
-        c.if-num-v.true c.if-p-k.true
+    c.if-num-v.true c.if-p-k.true
 
 pub num-requires-then-num-v : goal.num-requires-then-num-v
 num-requires-then-num-v c = can_read c.requires.holds_2 (omega arith)
@@ -30,7 +30,7 @@ num-requires-then-num-v c = can_read c.requires.holds_2 (omega arith)
 pub returns-then-num-v-2 : goal.returns-then-num-v-2
 returns-then-num-v-2 c =
     listed_other c.requires.holds c.requires.holds_2 c.loop-v.invariant c.loop-v-test.true c.own_name.ensures (ap not c.if-not-own_name.false) c.num.ensures.0
-        c.if-num-v.true (omega arith)
+    c.if-num-v.true (omega arith)
     c.num-then-num-v.ensures.0 c.if-num-v-2.true
 
 pub loop-v-preserved : goal.loop-v-preserved
@@ -41,8 +41,8 @@ loop-v-preserved c =
     elim c.if-num-v.branch [
       | then-num-v+else-p-k+else-num-v-2 w ↦
           rw w.p-is
-              (listed_next N G c.loop-v.invariant low c.own_name.ensures (ap not c.if-not-own_name.false) c.num.ensures.0 w.if-num-v.true (omega arith)
-              w.num-then-num-v.ensures.0 w.if-num-v-2.false)
+          (listed_next N G c.loop-v.invariant low c.own_name.ensures (ap not c.if-not-own_name.false) c.num.ensures.0 w.if-num-v.true (omega arith)
+          w.num-then-num-v.ensures.0 w.if-num-v-2.false)
       | else-num-v w ↦
           rw w.p-is (listed_skip N G c.loop-v.invariant low c.own_name.ensures (ap not c.if-not-own_name.false) c.num.ensures.0 w.if-num-v.false)
     ]

@@ -51,7 +51,7 @@ ranks_pass-requires-2 c = labels_at (pairs (goal.at.ranks_pass-requires-2 c).Els
 pub returns-then-not-ranks_pass-2 : goal.returns-then-not-ranks_pass-2
 returns-then-not-ranks_pass-2 c =
     told_at _ _ _ _ _ _ _ (pairs (goal.at.returns-then-not-ranks_pass-2 c).Else-z-eq3)
-        (and_fails c.ranks_pass-2.ensures _ (ap not c.if-not-ranks_pass-2.true) ∙ labels_is _ _ _ _ _ _ _ _)
+    (and_fails c.ranks_pass-2.ensures _ (ap not c.if-not-ranks_pass-2.true) ∙ labels_is _ _ _ _ _ _ _ _)
 
 pub intervals_pass-requires-2 : goal.intervals_pass-requires-2
 intervals_pass-requires-2 c = record {

@@ -1,9 +1,6 @@
 -- `list::listing::count_listed` meets its contract, by the invariant beside this file.
-use Prim.Native.Nat.{◌-◌}
 use native.Mathlib.Omega.{arith}
-use Rattle.lineage.specs.Numbers.{numbers}
-use Rattle.list.specs.Listing.{is_listed}
-use Rattle.list.proofs.Writing.{Counted, counted_none, counted_more, counted_over, counted_most, counted_all}
+use Rattle.list.proofs.Writing.{counted_none, counted_more, counted_over, counted_most, counted_all}
 use Rattle.list.proofs.listing.count_listed.Goals as goal
 use Rattle.list.proofs.listing.count_listed.Goals.{then-is_listed, else-is_listed}
 

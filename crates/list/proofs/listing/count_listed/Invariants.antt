@@ -1,10 +1,8 @@
 -- `list::listing::count_listed` meets its contract. The invariant: `count` of the vertices passed are listed.
-use mathlib.Core.Logic.{⊎_elim}
 use Prim.Native.Nat.{◌-◌}
-use native.Mathlib.Omega.{arith}
 use Rattle.lineage.specs.Numbers.{numbers}
 use Rattle.list.specs.Listing.{is_listed}
-use Rattle.list.proofs.Writing.{Counted, counted_none, counted_more, counted_over, counted_most, counted_all}
+use Rattle.list.proofs.Writing.{Counted}
 use Rattle.list.proofs.listing.count_listed.Given as goal
 
 abbrev pub invariant-loop-v : goal.invariant-loop-v

@@ -1,11 +1,9 @@
 -- `list::listing::in_own_list` meets its contract, by the invariant beside this file.
-use Prim.Native.Nat.{◌-◌}
 use native.Mathlib.Omega.{arith}
 use borrow.Author.Tests.{eq-eqb, ne_eqb}
-use Rattle.lineage.specs.Numbers.{numbers}
 use Rattle.stored.proofs.Read.{can_read}
-use Rattle.list.proofs.Writing.{Counted, counted_none, counted_more, counted_over, counted_most}
-use Rattle.list.proofs.Own.{named, named_read, own_counted}
+use Rattle.list.proofs.Writing.{counted_none, counted_more, counted_over, counted_most}
+use Rattle.list.proofs.Own.{named_read, own_counted}
 use Rattle.list.proofs.listing.in_own_list.Goals as goal
 use Rattle.list.proofs.listing.in_own_list.Goals.{then-num-name, else-num-name}
 

@@ -1,12 +1,8 @@
 -- `list::listing::in_own_list` meets its contract. The invariant: `count` of the vertices passed have u's name.
-use mathlib.Core.Logic.{⊎_elim}
 use Prim.Native.Nat.{◌-◌}
-use native.Mathlib.Omega.{arith}
-use borrow.Author.Tests.{eq-eqb, ne_eqb}
 use Rattle.lineage.specs.Numbers.{numbers}
-use Rattle.stored.proofs.Read.{can_read}
-use Rattle.list.proofs.Writing.{Counted, counted_none, counted_more, counted_over, counted_most}
-use Rattle.list.proofs.Own.{named, named_read, own_counted}
+use Rattle.list.proofs.Writing.{Counted}
+use Rattle.list.proofs.Own.{named}
 use Rattle.list.proofs.listing.in_own_list.Given as goal
 
 abbrev pub invariant-loop-v : goal.invariant-loop-v

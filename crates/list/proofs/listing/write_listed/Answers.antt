@@ -1,10 +1,8 @@
 -- `list::listing::write_listed` meets its contract, by the invariant beside this file.
-use Prim.Native.Nat.{◌-◌, ◌<◌}
+use Prim.Native.Nat.{◌<◌}
 use native.Mathlib.Omega.{arith}
 use lib.ListN.{length}
-use Rattle.lineage.specs.Numbers.{numbers}
-use Rattle.list.specs.Listing.{is_listed}
-use Rattle.list.proofs.Writing.{Counted, counted_none, counted_more, counted_over, Written, written_none, written_more, written_over, written_all, listed_room}
+use Rattle.list.proofs.Writing.{counted_none, counted_more, counted_over, written_none, written_more, written_over, written_all, listed_room}
 use Rattle.list.proofs.listing.write_listed.Goals as goal
 use Rattle.list.proofs.listing.write_listed.Goals.{Then-is_listed, then-is_listed, else-is_listed}
 

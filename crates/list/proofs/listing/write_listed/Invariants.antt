@@ -1,11 +1,8 @@
 -- `list::listing::write_listed` meets its contract. The invariant: `at` of the vertices passed are listed, and they stand in front of what was lent.
-use mathlib.Core.Logic.{⊎_elim}
-use Prim.Native.Nat.{◌-◌, ◌<◌}
-use native.Mathlib.Omega.{arith}
-use lib.ListN.{length}
+use Prim.Native.Nat.{◌-◌}
 use Rattle.lineage.specs.Numbers.{numbers}
 use Rattle.list.specs.Listing.{is_listed}
-use Rattle.list.proofs.Writing.{Counted, counted_none, counted_more, counted_over, Written, written_none, written_more, written_over, written_all, listed_room}
+use Rattle.list.proofs.Writing.{Counted, Written}
 use Rattle.list.proofs.listing.write_listed.Given as goal
 
 abbrev pub invariant-loop-v : goal.invariant-loop-v
