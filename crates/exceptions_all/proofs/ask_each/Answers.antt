@@ -1,5 +1,5 @@
 -- `exceptions_all::ask_each` meets its contract, by the invariant beside this file.
-use Prim.Native.Nat.{◌+◌, ◌*◌, ◌-◌, ◌≤◌}
+use Prim.Native.Nat.{◌+◌, ◌*◌, ◌≤◌}
 use native.Mathlib.Omega.{arith}
 use lib.ListN.{length}
 use mir.Facts.{Fits-32_64}
