@@ -37,12 +37,13 @@ slice_bounds-ask_over-end-2 c = taken _ c.args.state.targets (omega (arith, targ
 
 pub ask_over-requires : goal.ask_over-requires
 ask_over-requires c =
-    let few = c.if-count-gt-MOST_ADDED.false in
     let start = (goal.at.ask_over-requires c).Start in
-    let state = c.args.state in
-    let many : state.count ≡ length (take state.count state.sources) = taken _ state.sources (omega (arith, sources_long start)) in
-    let as_many : state.count ≡ length (take state.count state.targets) = taken _ state.targets (omega (arith, targets_long start)) in
-    record { sound_bytes = c.requires.sound_bytes; sources_len = (sym many ∙ as_many, omega (arith, many)); n_in_bounds = c.requires.n_in_bounds; marks_value = c.requires.marks_value }
+    record {
+      sound_bytes = c.requires.sound_bytes;
+      sources_len = (omega (arith, length-take {A = ℕ}, sources_long start, targets_long start), omega (arith, length-take {A = ℕ}, sources_long start));
+      n_in_bounds = c.requires.n_in_bounds;
+      marks_value = c.requires.marks_value;
+    }
 
 pub returns : goal.returns
 returns c = let s = c.args in record { result_value = sound_over s.l.n s.state _ c.if-count-gt-MOST_ADDED.false c.ask_over.ensures.result_value; marks_unchanged = c.ask_over.ensures.marks_unchanged }
