@@ -19,7 +19,7 @@ use Rattle.build_traversal.proofs.Tasks.{tries}
 use Rattle.build_traversal.proofs.Fresh.{fresh, fresh_le, fresh_mark, fresh_no_more}
 use Rattle.build_traversal.proofs.Regions.{entered_kept, entered_marks, entered_vertices, entered_back, entered_numbers, entered_out, entered_m, entered_e, finished_kept, finished_marks, finished_frames, finished_out, finished_m, finished_e}
 use Rattle.build_traversal.proofs.Frames.{Frames, tasks_in, frames_none, tasks_none, room_now, region_long, entry_low, tasks_try, frames_past, frames_in, tasks_in_lem, tasks_finish, top_vertex, frames_out, tasks_out}
-use Rattle.build_traversal.proofs.Machine.{State, entered as entered-state, left, Runs, pass, go_in, go_out}
+use Rattle.build_traversal.proofs.Machine.{State, entered as entered_state, left, Runs, pass, go_in, go_out}
 
 -- what memory tells of the machine's state: the marks, the first k that are out, and the tables
 abbrev pub state_of : List ℕ → ℕ → ℕ → ℕ → ℕ → State
@@ -122,7 +122,7 @@ module _ {work₀ : List ℕ} {starts values c roots q n base : ℕ} (fit : Trav
           numbers_now : part work' (base + 3 * n) n ≡ set numbers d s
           numbers_now = ap (λ z. part z (base + 3 * n) n) o ∙ entered_numbers work base n d k v (e + 1) s room_here v_low d_low k_low
 
-          state_now : state_of work' base n k n ≡ entered-state n v (state_of work base n k s)
+          state_now : state_of work' base n k n ≡ entered_state n v (state_of work base n k s)
           state_now =
               let more : k + 1 ≡ suc (length (part work (base + 4 * n) k)) = omega (arith, out_long (omega (arith, k_low))) in
               λ i. record {

@@ -26,7 +26,7 @@ use Rattle.hierarchy.proofs.open_hierarchy as open_hierarchy_call
 use Rattle.hierarchy.proofs.ask_hierarchy as ask_hierarchy_call
 use Rattle.hierarchy.proofs.to_hierarchy as to_hierarchy_call
 use Rattle.hierarchy.proofs.from_hierarchy as from_hierarchy_call
-use Rattle.hierarchy.proofs.Finished.{turned_once as plain-turned-once}
+use Rattle.hierarchy.proofs.Finished.{turned_once as plain_turned_once}
 use Rattle.chain.specs.Traced.{chain_answer}
 use Rattle.chain.proofs.chain as chain_call
 use Rattle.chain.proofs.Theorems.{chained_once}
@@ -172,13 +172,13 @@ demand_1 = record {
     met = to_hierarchy_call.Met.met;
     nothing_asked = λ κs a. tt;
     allows = λ κs a r e (answers, (leaves, (clears, writes))). record { answers = answers; leaves = leaves; clears = clears; writes = writes };
-    once = λ κs a r r' e e'. plain-turned-once;
+    once = λ κs a r r' e e'. plain_turned_once;
   };
   from_hierarchy = record {
     met = from_hierarchy_call.Met.met;
     nothing_asked = λ κs a. tt;
     allows = λ κs a r e (answers, (leaves, (clears, writes))). record { answers = answers; leaves = leaves; clears = clears; writes = writes };
-    once = λ κs a r r' e e'. plain-turned-once;
+    once = λ κs a r r' e e'. plain_turned_once;
   };
   build_turned = record {
     met = build_turned_call.Met.met;

@@ -101,8 +101,8 @@ pub record Answers {n : ℕ} (ps : List (ParamKind n)) (res : ResultKind n) (mee
       → allowed κs a r' e'
       → (r ≡ r') × same κs e e'
 
--- The same of one call in the logic's own words, as a proof by hand of its code states it and of its contract: in every model of the logic, wherever the call's name
--- leads to its code. `emp` is what holds of nothing, and `fact` says a plain claim.
+-- The same of one call in the logic's own words, as a proof by hand of a call has it: in every model of the logic, wherever the call's name leads to its code. `emp` is
+-- what holds of nothing, and `fact` says a plain claim.
 pub record AnswersByHand (T : Ended) (name : Callee) (code : Code)
     (contract : (M : Type 1) (𝓤 : Ura M) → (𝓛 : Logic 𝓤) → (Memory → SProp 𝓤) → (Routine → Fun 𝓤) → Clauses 𝓤 T)
     (allowed : (κs : Lfts T.signature.lifetimes) → Args T.signature κs → Res T.signature κs → AtExit T κs → Type 0)

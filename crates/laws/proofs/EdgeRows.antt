@@ -7,7 +7,7 @@ use Prim.Native.Nat.{ℕ, ◌<◌}
 use lib.Dec.{eqb}
 use borrow.Author.Tests.{eqb-true, eq-eqb}
 use Rattle.lineage.specs.Lists.{among}
-use Rattle.lineage.specs.Graph.{Graph, Edge, first, later, Ends, Reaches, stay as stay-there, step as go}
+use Rattle.lineage.specs.Graph.{Graph, Edge, first, later, Ends, Reaches, stay as stay_there, step as go}
 use Rattle.laws.specs.Leads.{Leads, stay, step}
 use Rattle.laws.specs.EdgeRows.{row, EdgeRows}
 use Rattle.laws.proofs.Lists.{here, there, in_cons}
@@ -15,11 +15,11 @@ use Rattle.laws.proofs.Lists.{here, there, in_cons}
 -- paths along the rows are the graph's
 module _ {G : Graph} (ends : Ends G) {next : ℕ → List ℕ} (N : EdgeRows G next) where
   pub leads_reaches : {u v : ℕ} → u < G.n → Leads next u v → Reaches G u v
-  leads_reaches h stay = stay-there
+  leads_reaches h stay = stay_there
   leads_reaches h (step {p = p} {q = q} i l) = let e = (N.holds p q h).0 i in go e (leads_reaches (ends.targets_low p q e) l)
 
   pub reaches_leads : {u v : ℕ} → Reaches G u v → Leads next u v
-  reaches_leads stay-there = stay
+  reaches_leads stay_there = stay
   reaches_leads (go {u = u} {w = w} e l) = step ((N.holds u w (ends.sources_low u w e)).1 e) (reaches_leads l)
 
 -- the rows of an edge list

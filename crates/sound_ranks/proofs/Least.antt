@@ -7,7 +7,7 @@ use lib.ListN.{length, get_or, drop, drop_of_length-le}
 use lib.Seq.{drop-cons}
 use Rattle.lineage.specs.Lists.{least}
 
--- i of the list are passed, and `least-yet` is the least of the number and their values
+-- i of the list are passed, and `yet` is the least of the number and their values
 pub record Least (a : ℕ) (f : ℕ → ℕ) (xs : List ℕ) (i yet : ℕ) : Type 0 where
   pub both : least yet (map f (drop i xs)) ≡ least a (map f xs)
 
