@@ -549,7 +549,6 @@ def convert(f, text):
         if out.strip() in ("search rules", "omega arith") and not unf:
             continue
         goals.append((comment, new, unf, var, out))
-    text_helpers = []
     # helpers that a goal or another helper cites, as functions of their place
     done = set()
     again = True
