@@ -46,4 +46,9 @@ ask_over-requires c =
     }
 
 pub returns : goal.returns
-returns c = let s = c.args in record { result_value = sound_over s.l.n s.state _ c.if-count-gt-MOST_ADDED.false c.ask_over.ensures.result_value; marks_unchanged = c.ask_over.ensures.marks_unchanged }
+returns c =
+    let s = c.args in
+    record {
+      result_value = sound_over s.l.n s.state _ c.if-count-gt-MOST_ADDED.false c.ask_over.ensures.result_value;
+      marks_unchanged = c.ask_over.ensures.marks_unchanged;
+    }

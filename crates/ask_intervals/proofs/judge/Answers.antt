@@ -15,7 +15,12 @@ pub loop-b-init : goal.loop-b-init
 loop-b-init c = let v = c.labellings.invariant in (v.0, (v.1.0, (omega arith, λ j h. absurd (omega arith))))
 
 pub undecided_by-requires : goal.undecided_by-requires
-undecided_by-requires c = let P = c.tuples-triples.ensures in record { width = c.requires.labellings.width; x_in_bounds = (in_triples _ _ _ _ _ P c.requires.x_lt_k.0, in_triples _ _ _ _ _ P c.requires.x_lt_k.1) }
+undecided_by-requires c =
+    let P = c.tuples-triples.ensures in
+    record {
+      width = c.requires.labellings.width;
+      x_in_bounds = (in_triples _ _ _ _ _ P c.requires.x_lt_k.0, in_triples _ _ _ _ _ P c.requires.x_lt_k.1);
+    }
 
 pub loop-b-preserved : goal.loop-b-preserved
 loop-b-preserved c =

@@ -79,7 +79,14 @@ one_less c = omega arith
 
 -- the first group
 pub enter-row-requires : goal.enter-row-requires
-enter-row-requires c = let both = enter_asks c.requires.fit _ c.requires.fresh.low _ refl c.requires.marks.under in record { width = both.0; w_in_bounds = both.1.0; g_bound = both.1.1.0; under = both.1.1.1 }
+enter-row-requires c =
+    let both = enter_asks c.requires.fit _ c.requires.fresh.low _ refl c.requires.marks.under in
+    record {
+      width = both.0;
+      w_in_bounds = both.1.0;
+      g_bound = both.1.1.0;
+      under = both.1.1.1;
+    }
 
 pub loop-row-init : goal.loop-row-init
 loop-row-init c =
@@ -100,7 +107,12 @@ overflow_add-row c = let C = turn (goal.at.overflow_add-row c).After-num-h in om
 pub skipped-requires : goal.skipped-requires
 skipped-requires c =
     let F = c.requires.fit in
-    let low = turn_low (turn (goal.at.skipped-requires c).After-num-h) in record { width = F.labelled.width; w_in_bounds = (room _ _ _ _ low F.groups_long, (room _ _ _ _ low F.levels_long, room _ _ _ _ F.target_low F.levels_long)); h_in_bounds = named (goal.at.skipped-requires c).After-num-h }
+    let low = turn_low (turn (goal.at.skipped-requires c).After-num-h) in
+    record {
+      width = F.labelled.width;
+      w_in_bounds = (room _ _ _ _ low F.groups_long, (room _ _ _ _ low F.levels_long, room _ _ _ _ F.target_low F.levels_long));
+      h_in_bounds = named (goal.at.skipped-requires c).After-num-h;
+    }
 
 pub judge-j-requires : goal.judge-j-requires
 judge-j-requires c = let C = turn (goal.at.judge-j-requires c).After-num-h in record { labellings = C.fit.labelled; x_lt_k = (turn_low C, C.fit.target_low) }
@@ -112,13 +124,31 @@ pub shape_of-work-then-j-gt0 : goal.shape_of-work-then-j-gt0
 shape_of-work-then-j-gt0 c = (turn (goal.at.shape_of-work-then-j-gt0 c).After-num-h).walking.kept.long
 
 pub returns-then-j-gt0 : goal.returns-then-j-gt0
-returns-then-j-gt0 c = let both = ended (goal.at.returns-then-j-gt0 c).At-loop-row (turn_hit (turn (goal.at.returns-then-j-gt0 c).After-num-h) c.judge-j.ensures c.if-j-gt0.true) in record { marks_after = both.0; under = both.1.0; kept = both.1.1 }
+returns-then-j-gt0 c =
+    let both = ended (goal.at.returns-then-j-gt0 c).At-loop-row (turn_hit (turn (goal.at.returns-then-j-gt0 c).After-num-h) c.judge-j.ensures c.if-j-gt0.true) in
+    record {
+      marks_after = both.0;
+      under = both.1.0;
+      kept = both.1.1;
+    }
 
 pub push-requires : goal.push-requires
-push-requires c = let C = turn (goal.at.push-requires c).After-num-h in record { depth_in_bounds = turn_room C; next_bound = (omega (arith, C.within, C.walking.top.small), C.walking.top.small) }
+push-requires c =
+    let C = turn (goal.at.push-requires c).After-num-h in
+    record {
+      depth_in_bounds = turn_room C;
+      next_bound = (omega (arith, C.within, C.walking.top.small), C.walking.top.small);
+    }
 
 pub enter-row-requires-then-j-eq0 : goal.enter-row-requires-then-j-eq0
-enter-row-requires-then-j-eq0 c = let both = enter_asks c.requires.fit _ (turn_low (turn (goal.at.enter-row-requires-then-j-eq0 c).After-num-h)) _ (kept (goal.at.enter-row-requires-then-j-eq0 c).At-loop-row) c.loop-row.invariant.1 in record { width = both.0; w_in_bounds = both.1.0; g_bound = both.1.1.0; under = both.1.1.1 }
+enter-row-requires-then-j-eq0 c =
+    let both = enter_asks c.requires.fit _ (turn_low (turn (goal.at.enter-row-requires-then-j-eq0 c).After-num-h)) _ (kept (goal.at.enter-row-requires-then-j-eq0 c).At-loop-row) c.loop-row.invariant.1 in
+    record {
+      width = both.0;
+      w_in_bounds = both.1.0;
+      g_bound = both.1.1.0;
+      under = both.1.1.1;
+    }
 
 pub overflow_add-depth : goal.overflow_add-depth
 overflow_add-depth c = omega (arith, few (goal.at.overflow_add-depth c).At-loop-row, (turn (goal.at.overflow_add-depth c).After-num-h).walking.deep)
@@ -162,4 +192,10 @@ pub shape_of-work-else-depth-gt0 : goal.shape_of-work-else-depth-gt0
 shape_of-work-else-depth-gt0 c = c.loop-row.invariant.0.kept.long
 
 pub returns-else-depth-gt0 : goal.returns-else-depth-gt0
-returns-else-depth-gt0 c = let both = ended (goal.at.returns-else-depth-gt0 c).At-loop-row (walking_end c.loop-row.invariant.0 c.if-row.false (omega arith)) in record { marks_after = both.0; under = both.1.0; kept = both.1.1 }
+returns-else-depth-gt0 c =
+    let both = ended (goal.at.returns-else-depth-gt0 c).At-loop-row (walking_end c.loop-row.invariant.0 c.if-row.false (omega arith)) in
+    record {
+      marks_after = both.0;
+      under = both.1.0;
+      kept = both.1.1;
+    }

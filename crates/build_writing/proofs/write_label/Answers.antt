@@ -35,7 +35,11 @@ pub put_at-requires-2 : goal.put_at-requires-2
 put_at-requires-2 c = record { width = c.requires.width; w_in_bounds = omega (arith, two (goal.at.put_at-requires-2 c).Start, c.put_at.auto.out) }
 
 pub put_at-requires-3 : goal.put_at-requires-3
-put_at-requires-3 c = record { width = c.requires.width; w_in_bounds = omega (arith, three (goal.at.put_at-requires-3 c).Else-z-eq2, c.put_at.auto.out, c.put_at-2.auto.out) }
+put_at-requires-3 c =
+    record {
+      width = c.requires.width;
+      w_in_bounds = omega (arith, three (goal.at.put_at-requires-3 c).Else-z-eq2, c.put_at.auto.out, c.put_at-2.auto.out);
+    }
 
 pub returns : goal.returns
 returns c =

@@ -22,7 +22,13 @@ loop-i-init c =
     (omega arith, (omega arith, (omega arith, blocks_none a.w a.at (label_in a.z a.words.now a.s a.m a.e) a.out.now)))
 
 pub write_label-requires : goal.write_label-requires
-write_label-requires c = let fit = c.requires in record { width = fit.width; stride = fit.stride; z_in_bounds = omega (arith, within (goal.at.write_label-requires c).In-loop-i, c.loop-i.invariant.1.1.0) }
+write_label-requires c =
+    let fit = c.requires in
+    record {
+      width = fit.width;
+      stride = fit.stride;
+      z_in_bounds = omega (arith, within (goal.at.write_label-requires c).In-loop-i, c.loop-i.invariant.1.1.0);
+    }
 
 pub overflow_add-p : goal.overflow_add-p
 overflow_add-p c = omega (arith, within (goal.at.overflow_add-p c).In-loop-i, c.bytes_of-step.ensures.0)

@@ -8,7 +8,12 @@ pub trace-r-requires : goal.trace-r-requires
 trace-r-requires c =
     let O = c.requires.sound_bytes in
     let low = c.requires.n_in_bounds.1.1 in
-    let room = c.requires.n_in_bounds.0 in record { sound_bytes = O; n_in_bounds = (omega (arith, room, reaching_long O low _ room c.requires.marks_value c.mark_group.ensures c.climb_up.ensures), c.requires.n_in_bounds.1); exact = reaching_exactly O low _ room c.requires.marks_value c.mark_group.ensures c.climb_up.ensures }
+    let room = c.requires.n_in_bounds.0 in
+    record {
+      sound_bytes = O;
+      n_in_bounds = (omega (arith, room, reaching_long O low _ room c.requires.marks_value c.mark_group.ensures c.climb_up.ensures), c.requires.n_in_bounds.1);
+      exact = reaching_exactly O low _ room c.requires.marks_value c.mark_group.ensures c.climb_up.ensures;
+    }
 
 pub returns : goal.returns
 returns c =

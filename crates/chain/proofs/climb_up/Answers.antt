@@ -25,7 +25,11 @@ pub labels-labels-requires : goal.labels-labels-requires
 labels-labels-requires c = c.requires.sound_bytes.laid
 
 pub climb-requires : goal.climb-requires
-climb-requires c = record { spots = spots c.requires.sound_bytes (given (goal.at.climb-requires c).After-by_rank-places) _ c.requires.n_in_bounds; ranked = ranked c.requires.sound_bytes (given (goal.at.climb-requires c).After-by_rank-places) _ c.by_rank-places.ensures }
+climb-requires c =
+    record {
+      spots = spots c.requires.sound_bytes (given (goal.at.climb-requires c).After-by_rank-places) _ c.requires.n_in_bounds;
+      ranked = ranked c.requires.sound_bytes (given (goal.at.climb-requires c).After-by_rank-places) _ c.by_rank-places.ensures;
+    }
 
 pub returns : goal.returns
 returns c = climbed_is c.requires.sound_bytes (given (goal.at.returns c).After-by_rank-places) _ c.by_rank-places.ensures _ c.climb.ensures

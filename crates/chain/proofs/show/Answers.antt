@@ -22,7 +22,12 @@ pub returns-then-steps-count : goal.returns-then-steps-count
 returns-then-steps-count c = fills_short c.count_steps-count.ensures c.if-steps-count.true
 
 pub write_chain-requires : goal.write_chain-requires
-write_chain-requires c = record { spots = c.requires.spots; trail_in = c.requires.trail_in; x_in_bounds = omega (arith, c.if-steps-count.false, c.count_steps-count.ensures) }
+write_chain-requires c =
+    record {
+      spots = c.requires.spots;
+      trail_in = c.requires.trail_in;
+      x_in_bounds = omega (arith, c.if-steps-count.false, c.count_steps-count.ensures);
+    }
 
 pub overflow_cast-result-2 : goal.overflow_cast-result-2
 overflow_cast-result-2 c = omega (arith, few (goal.at.overflow_cast-result-2 c).After-count_steps-count)

@@ -66,7 +66,13 @@ pub num-lev-requires : goal.num-lev-requires
 num-lev-requires c = can_level c.requires.sound_bytes (given (goal.at.num-lev-requires c).After-children-children) c.requires.n_in_bounds.1.0 c.num-name.ensures.0 c.place_of-x.ensures
 
 pub show-requires : goal.show-requires
-show-requires c = let yes = c.if-marks-name-ne1.false in record { spots = spots c.requires.sound_bytes (given (goal.at.show-requires c).After-children-children) _ c.requires.n_in_bounds.0; trail_in = trail_in c.requires.sound_bytes (given (goal.at.show-requires c).After-children-children) c.requires.n_in_bounds.1.0 c.requires.n_in_bounds.1.1 c.requires.exact (ways (goal.at.show-requires c).After-num-lev) yes; lev_le_vertex_bound = level_few c.requires.sound_bytes (given (goal.at.show-requires c).After-children-children) c.requires.n_in_bounds.1.0 c.requires.n_in_bounds.1.1 c.requires.exact (ways (goal.at.show-requires c).After-num-lev) yes }
+show-requires c =
+    let yes = c.if-marks-name-ne1.false in
+    record {
+      spots = spots c.requires.sound_bytes (given (goal.at.show-requires c).After-children-children) _ c.requires.n_in_bounds.0;
+      trail_in = trail_in c.requires.sound_bytes (given (goal.at.show-requires c).After-children-children) c.requires.n_in_bounds.1.0 c.requires.n_in_bounds.1.1 c.requires.exact (ways (goal.at.show-requires c).After-num-lev) yes;
+      lev_le_vertex_bound = level_few c.requires.sound_bytes (given (goal.at.show-requires c).After-children-children) c.requires.n_in_bounds.1.0 c.requires.n_in_bounds.1.1 c.requires.exact (ways (goal.at.show-requires c).After-num-lev) yes;
+    }
 
 pub returns : goal.returns
 returns c =

@@ -19,7 +19,12 @@ pub floor_of-requires : goal.floor_of-requires
 floor_of-requires c = tt
 
 pub write_steps-stop-requires : goal.write_steps-stop-requires
-write_steps-stop-requires c = record { spots = c.requires.spots; trail_in = c.loop-stop.invariant.0; p_in_bounds = omega (arith, c.loop-stop.invariant.1.ends, c.loop-stop.invariant.1.long, c.requires.x_in_bounds) }
+write_steps-stop-requires c =
+    record {
+      spots = c.requires.spots;
+      trail_in = c.loop-stop.invariant.0;
+      p_in_bounds = omega (arith, c.loop-stop.invariant.1.ends, c.loop-stop.invariant.1.long, c.requires.x_in_bounds);
+    }
 
 pub shape_of-out-then-last-t : goal.shape_of-out-then-last-t
 shape_of-out-then-last-t c = c.write_steps-stop.ensures.left.long ∙ c.loop-stop.invariant.1.long

@@ -25,10 +25,20 @@ pub overflow_cast-total : goal.overflow_cast-total
 overflow_cast-total c = omega (arith, groups_few (goal.at.overflow_cast-total c).After-count_exceptions-entries, entries_few (goal.at.overflow_cast-total c).After-count_exceptions-entries)
 
 pub returns-then-out-needed : goal.returns-then-out-needed
-returns-then-out-needed c = record { fills = build_short (index_in c.args.index.now) (groups_many c.requires.sound_bytes) (groups_few (goal.at.returns-then-out-needed c).After-count_exceptions-entries) c.count_exceptions-entries.ensures.value refl c.if-out-needed.true; marks_unchanged = c.count_exceptions-entries.ensures.marks_unchanged }
+returns-then-out-needed c =
+    record {
+      fills = build_short (index_in c.args.index.now) (groups_many c.requires.sound_bytes) (groups_few (goal.at.returns-then-out-needed c).After-count_exceptions-entries) c.count_exceptions-entries.ensures.value refl c.if-out-needed.true;
+      marks_unchanged = c.count_exceptions-entries.ensures.marks_unchanged;
+    }
 
 pub write_exceptions-requires : goal.write_exceptions-requires
-write_exceptions-requires c = let p = c.requires in record { sound_bytes = p.sound_bytes; n_in_bounds = marks_still _ _ c.count_exceptions-entries.ensures.marks_unchanged p.n_in_bounds; entries_value = (c.count_exceptions-entries.ensures.value, c.if-out-needed.false) }
+write_exceptions-requires c =
+    let p = c.requires in
+    record {
+      sound_bytes = p.sound_bytes;
+      n_in_bounds = marks_still _ _ c.count_exceptions-entries.ensures.marks_unchanged p.n_in_bounds;
+      entries_value = (c.count_exceptions-entries.ensures.value, c.if-out-needed.false);
+    }
 
 pub returns : goal.returns
 returns c =

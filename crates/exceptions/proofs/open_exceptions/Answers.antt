@@ -33,28 +33,57 @@ abbrev lists : (m : After-exceptions_match) → List ℕ
 lists m = m.args.lists.now
 
 groups_few : (e : Else-not-contents_sound) → e.in-Passed.l.k ≤ 4096
-groups_few e = let A : Admits host e.args.index.now (length e.args.marks.now) 0 e.in-Passed.l = record { passes = sym (ap header_outcome e.in-Passed.is) ∙ e.admit.ensures } in omega (arith, vertices_few A, (admitted_laid A).groups)
+groups_few e =
+    let A : Admits host e.args.index.now (length e.args.marks.now) 0 e.in-Passed.l = record { passes = sym (ap header_outcome e.in-Passed.is) ∙ e.admit.ensures } in
+    omega (arith, vertices_few A, (admitted_laid A).groups)
 
 pub returns-in-Refused : goal.returns-in-Refused
-returns-in-Refused c = let both = opens_refused _ c.args.marks.now _ (sym (ap header_outcome c.in-Refused.is) ∙ c.admit.ensures) in record { result_value = both.0; marks_after = both.1 }
+returns-in-Refused c =
+    let both = opens_refused _ c.args.marks.now _ (sym (ap header_outcome c.in-Refused.is) ∙ c.admit.ensures) in
+    record {
+      result_value = both.0;
+      marks_after = both.1;
+    }
 
 pub contents_sound-requires : goal.contents_sound-requires
 contents_sound-requires c = let A = admits (goal.at.contents_sound-requires c).In-Passed in record { laid = admitted_laid A; n_in_bounds = admitted_room A }
 
 pub returns-then-not-contents_sound : goal.returns-then-not-contents_sound
-returns-then-not-contents_sound c = let A = admits (goal.at.returns-then-not-contents_sound c).In-Passed in let both = opens_at _ _ _ A 0 (contents_applies (admitted_laid A) c.contents_sound.ensures.value ∙ (ap not c.if-not-contents_sound.true)) c.contents_sound.ensures.marks_after in record { result_value = both.0; marks_after = both.1 }
+returns-then-not-contents_sound c =
+    let A = admits (goal.at.returns-then-not-contents_sound c).In-Passed in
+    let both = opens_at _ _ _ A 0 (contents_applies (admitted_laid A) c.contents_sound.ensures.value ∙ (ap not c.if-not-contents_sound.true)) c.contents_sound.ensures.marks_after in
+    record {
+      result_value = both.0;
+      marks_after = both.1;
+    }
 
 pub exceptions_match-requires : goal.exceptions_match-requires
-exceptions_match-requires c = let A = admits (goal.at.exceptions_match-requires c).In-Passed in record { sound_bytes = sound (goal.at.exceptions_match-requires c).Else-not-contents_sound; n_in_bounds = (omega (arith, admitted_room A), cleared_again _ _ c.contents_sound.ensures.marks_after); k_bound = groups_few (goal.at.exceptions_match-requires c).Else-not-contents_sound }
+exceptions_match-requires c =
+    let A = admits (goal.at.exceptions_match-requires c).In-Passed in
+    record {
+      sound_bytes = sound (goal.at.exceptions_match-requires c).Else-not-contents_sound;
+      n_in_bounds = (omega (arith, admitted_room A), cleared_again _ _ c.contents_sound.ensures.marks_after);
+      k_bound = groups_few (goal.at.exceptions_match-requires c).Else-not-contents_sound;
+    }
 
 pub returns-then-not-exceptions_match : goal.returns-then-not-exceptions_match
-returns-then-not-exceptions_match c = let A = admits (goal.at.returns-then-not-exceptions_match c).In-Passed in let both = opens_at _ _ _ A 1 (contents_applies (admitted_laid A) c.contents_sound.ensures.value ∙ (ap not c.if-not-contents_sound.false), belongs_not (bytes (goal.at.returns-then-not-exceptions_match c).After-exceptions_match) (lists (goal.at.returns-then-not-exceptions_match c).After-exceptions_match) c.exceptions_match.ensures.value (ap not c.if-not-exceptions_match.true)) (c.exceptions_match.ensures.marks_unchanged ∙ c.contents_sound.ensures.marks_after) in record { result_value = both.0; marks_after = both.1 }
+returns-then-not-exceptions_match c =
+    let A = admits (goal.at.returns-then-not-exceptions_match c).In-Passed in
+    let both = opens_at _ _ _ A 1 (contents_applies (admitted_laid A) c.contents_sound.ensures.value ∙ (ap not c.if-not-contents_sound.false), belongs_not (bytes (goal.at.returns-then-not-exceptions_match c).After-exceptions_match) (lists (goal.at.returns-then-not-exceptions_match c).After-exceptions_match) c.exceptions_match.ensures.value (ap not c.if-not-exceptions_match.true)) (c.exceptions_match.ensures.marks_unchanged ∙ c.contents_sound.ensures.marks_after) in
+    record {
+      result_value = both.0;
+      marks_after = both.1;
+    }
 
 pub overflow_cast-result : goal.overflow_cast-result
 overflow_cast-result c = omega (arith, groups_few (goal.at.overflow_cast-result c).Else-not-contents_sound)
 
 pub num-requires : goal.num-requires
-num-requires c = record { width = record { low = omega arith; high = omega arith; even = omega arith }; w_in_bounds = lists_read (index_in (bytes (goal.at.num-requires c).After-exceptions_match)) (groups_many (sound (goal.at.num-requires c).Else-not-contents_sound)) (groups_few (goal.at.num-requires c).Else-not-contents_sound) (belonging (bytes (goal.at.num-requires c).After-exceptions_match) (lists (goal.at.num-requires c).After-exceptions_match) c.exceptions_match.ensures.value (ap not c.if-not-exceptions_match.false)) }
+num-requires c =
+    record {
+      width = record { low = omega arith; high = omega arith; even = omega arith };
+      w_in_bounds = lists_read (index_in (bytes (goal.at.num-requires c).After-exceptions_match)) (groups_many (sound (goal.at.num-requires c).Else-not-contents_sound)) (groups_few (goal.at.num-requires c).Else-not-contents_sound) (belonging (bytes (goal.at.num-requires c).After-exceptions_match) (lists (goal.at.num-requires c).After-exceptions_match) c.exceptions_match.ensures.value (ap not c.if-not-exceptions_match.false));
+    }
 
 pub returns : goal.returns
 returns c =

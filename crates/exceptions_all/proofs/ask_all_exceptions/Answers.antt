@@ -13,7 +13,14 @@ admits : (a : In-Passed) → let s = a.args in Admits host s.index.now (length s
 admits a = record { passes = sym (ap header_outcome a.in-Passed.is) ∙ a.admit.ensures }
 
 pub returns-in-Refused : goal.returns-in-Refused
-returns-in-Refused c = let s = c.args in let both = all_refused s.index.now s.lists.now s.sources.now s.targets.now s.answers.now s.marks.now (sym (ap header_outcome c.in-Refused.is) ∙ c.admit.ensures) in record { result_value = both.0; marks_after = both.1.0; answers_after = both.1.1 }
+returns-in-Refused c =
+    let s = c.args in
+    let both = all_refused s.index.now s.lists.now s.sources.now s.targets.now s.answers.now s.marks.now (sym (ap header_outcome c.in-Refused.is) ∙ c.admit.ensures) in
+    record {
+      result_value = both.0;
+      marks_after = both.1.0;
+      answers_after = both.1.1;
+    }
 
 pub ask_laid-requires : goal.ask_laid-requires
 ask_laid-requires c = let A = admits (goal.at.ask_laid-requires c).In-Passed in record { laid = admitted_laid A; n_in_bounds = (admitted_room A, vertices_few A) }
@@ -21,4 +28,10 @@ ask_laid-requires c = let A = admits (goal.at.ask_laid-requires c).In-Passed in 
 pub returns : goal.returns
 returns c =
     let e = c.ask_laid.ensures in
-    let s = c.args in let both = all_rest s.index.now s.lists.now s.sources.now s.targets.now s.answers.now s.marks.now (admits (goal.at.returns c).In-Passed) (e.result_value, e.answers_after) e.marks_after in record { result_value = both.0; marks_after = both.1.0; answers_after = both.1.1 }
+    let s = c.args in
+    let both = all_rest s.index.now s.lists.now s.sources.now s.targets.now s.answers.now s.marks.now (admits (goal.at.returns c).In-Passed) (e.result_value, e.answers_after) e.marks_after in
+    record {
+      result_value = both.0;
+      marks_after = both.1.0;
+      answers_after = both.1.1;
+    }

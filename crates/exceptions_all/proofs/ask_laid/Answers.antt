@@ -47,13 +47,31 @@ pub contents_sound-requires : goal.contents_sound-requires
 contents_sound-requires c = let p = c.requires in record { laid = p.laid; n_in_bounds = p.n_in_bounds.0 }
 
 pub returns-then-not-contents_sound : goal.returns-then-not-contents_sound
-returns-then-not-contents_sound c = let (o, a) = stopped_at (goal.at.returns-then-not-contents_sound c).Start 0 (omega arith) (contents_applies c.requires.laid c.contents_sound.ensures.value ∙ c.if-not-contents_sound.true-raw) in record { result_value = o; marks_after = c.contents_sound.ensures.marks_after; answers_after = a }
+returns-then-not-contents_sound c =
+    let (o, a) = stopped_at (goal.at.returns-then-not-contents_sound c).Start 0 (omega arith) (contents_applies c.requires.laid c.contents_sound.ensures.value ∙ c.if-not-contents_sound.true-raw) in
+    record {
+      result_value = o;
+      marks_after = c.contents_sound.ensures.marks_after;
+      answers_after = a;
+    }
 
 pub exceptions_match-requires : goal.exceptions_match-requires
-exceptions_match-requires c = let p = c.requires in record { sound_bytes = bytes (goal.at.exceptions_match-requires c).Else-not-contents_sound; n_in_bounds = (omega (arith, p.n_in_bounds.0, c.contents_sound.auto), cleared_again _ _ c.contents_sound.ensures.marks_after); k_bound = omega (arith, p.laid.groups, p.n_in_bounds.1) }
+exceptions_match-requires c =
+    let p = c.requires in
+    record {
+      sound_bytes = bytes (goal.at.exceptions_match-requires c).Else-not-contents_sound;
+      n_in_bounds = (omega (arith, p.n_in_bounds.0, c.contents_sound.auto), cleared_again _ _ c.contents_sound.ensures.marks_after);
+      k_bound = omega (arith, p.laid.groups, p.n_in_bounds.1);
+    }
 
 pub returns-then-not-exceptions_match : goal.returns-then-not-exceptions_match
-returns-then-not-exceptions_match c = let (o, a) = stopped_at (goal.at.returns-then-not-exceptions_match c).Start 1 (omega arith) (contents (goal.at.returns-then-not-exceptions_match c).Else-not-contents_sound, differ (goal.at.returns-then-not-exceptions_match c).After-exceptions_match c.if-not-exceptions_match.true-raw) in record { result_value = o; marks_after = marks_left (goal.at.returns-then-not-exceptions_match c).After-exceptions_match; answers_after = a }
+returns-then-not-exceptions_match c =
+    let (o, a) = stopped_at (goal.at.returns-then-not-exceptions_match c).Start 1 (omega arith) (contents (goal.at.returns-then-not-exceptions_match c).Else-not-contents_sound, differ (goal.at.returns-then-not-exceptions_match c).After-exceptions_match c.if-not-exceptions_match.true-raw) in
+    record {
+      result_value = o;
+      marks_after = marks_left (goal.at.returns-then-not-exceptions_match c).After-exceptions_match;
+      answers_after = a;
+    }
 
 pub returns-then-pairs-targets : goal.returns-then-pairs-targets
 returns-then-pairs-targets c =
@@ -67,7 +85,12 @@ returns-then-answers-pairs c =
     (contents (goal.at.returns-then-answers-pairs c).Else-not-contents_sound, (belong (goal.at.returns-then-answers-pairs c).After-exceptions_match c.if-not-exceptions_match.false-raw, (ap not (eq-eqb _ _ c.if-pairs-targets.false), lt-ltb _ _ (three_short _ _ c.if-answers-pairs.true)))) in record { result_value = o; marks_after = marks_left (goal.at.returns-then-answers-pairs c).After-exceptions_match; answers_after = a }
 
 pub ask_sound-requires : goal.ask_sound-requires
-ask_sound-requires c = record { sound_bytes = bytes (goal.at.ask_sound-requires c).Else-not-contents_sound; n_bound = (c.requires.n_in_bounds.1, belonging c.args.index.now c.args.lists.now c.exceptions_match.ensures.value c.if-not-exceptions_match.false-raw); sources_len = (c.if-pairs-targets.false, three_room _ _ c.if-answers-pairs.false) }
+ask_sound-requires c =
+    record {
+      sound_bytes = bytes (goal.at.ask_sound-requires c).Else-not-contents_sound;
+      n_bound = (c.requires.n_in_bounds.1, belonging c.args.index.now c.args.lists.now c.exceptions_match.ensures.value c.if-not-exceptions_match.false-raw);
+      sources_len = (c.if-pairs-targets.false, three_room _ _ c.if-answers-pairs.false);
+    }
 
 pub returns : goal.returns
 returns c =

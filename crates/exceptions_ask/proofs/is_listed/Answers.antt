@@ -8,10 +8,21 @@ pub numbers_from-list-requires : goal.numbers_from-list-requires
 numbers_from-list-requires c =
     let L = c.requires.list_in in
     let s = c.num-start.ensures.0 in
-    let n = c.num.ensures.0 in record { width = record { low = omega arith; high = omega arith; even = omega arith }; count_bound = (omega (arith, L.few, L.ends, L.most, s, n), omega (arith, L.ends, L.within, s, n)) }
+    let n = c.num.ensures.0 in
+    record {
+      width = record { low = omega arith; high = omega arith; even = omega arith };
+      count_bound = (omega (arith, L.few, L.ends, L.most, s, n), omega (arith, L.ends, L.within, s, n));
+    }
 
 pub count_below-j-requires : goal.count_below-j-requires
-count_below-j-requires c = let P = c.numbers_from-list.ensures in record { width = record { low = omega arith; high = omega arith; even = omega arith }; k_in_bounds = omega (arith, P.long); rises = listed_rises c.requires.list_in c.num-start.ensures.0 c.num.ensures.0 P; low_bound = (omega arith, (count_most 4 _ _ _, omega arith)) }
+count_below-j-requires c =
+    let P = c.numbers_from-list.ensures in
+    record {
+      width = record { low = omega arith; high = omega arith; even = omega arith };
+      k_in_bounds = omega (arith, P.long);
+      rises = listed_rises c.requires.list_in c.num-start.ensures.0 c.num.ensures.0 P;
+      low_bound = (omega arith, (count_most 4 _ _ _, omega arith));
+    }
 
 pub returns-then-j-len : goal.returns-then-j-len
 returns-then-j-len c = found_nowhere c.requires.list_in c.num-start.ensures.0 c.num.ensures.0 c.numbers_from-list.ensures _ c.count_below-j.ensures c.if-j-len.true

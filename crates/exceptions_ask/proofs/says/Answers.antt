@@ -23,21 +23,50 @@ sections : (c : After-labels-labels) → Lent c.args.l c.names-names.result.now 
 sections c = lent c.requires.sound_bytes.laid (given c) c.requires.sound_bytes.contents
 
 pub num-requires : goal.num-requires
-num-requires c = record { width = (sections (goal.at.num-requires c).After-labels-labels).width; w_in_bounds = room _ _ _ _ c.requires.u_lt_n.0 (omega (arith, (sections (goal.at.num-requires c).After-labels-labels).names_long)) }
+num-requires c =
+    record {
+      width = (sections (goal.at.num-requires c).After-labels-labels).width;
+      w_in_bounds = room _ _ _ _ c.requires.u_lt_n.0 (omega (arith, (sections (goal.at.num-requires c).After-labels-labels).names_long));
+    }
 
 pub place_of-x-requires : goal.place_of-x-requires
-place_of-x-requires c = let S = sections (goal.at.place_of-x-requires c).After-labels-labels in record { width = S.width; k_in_bounds = (omega (arith, S.groups_long), S.groups_few); rises = list_rises S; by_index = list_low S; k_value = name_listed S c.requires.u_lt_n.0 c.num.ensures.0 }
+place_of-x-requires c =
+    let S = sections (goal.at.place_of-x-requires c).After-labels-labels in
+    record {
+      width = S.width;
+      k_in_bounds = (omega (arith, S.groups_long), S.groups_few);
+      rises = list_rises S;
+      by_index = list_low S;
+      k_value = name_listed S c.requires.u_lt_n.0 c.num.ensures.0;
+    }
 
 pub num-requires-2 : goal.num-requires-2
-num-requires-2 c = record { width = (sections (goal.at.num-requires-2 c).After-labels-labels).width; w_in_bounds = room _ _ _ _ c.requires.u_lt_n.1.0 (omega (arith, (sections (goal.at.num-requires-2 c).After-labels-labels).names_long)) }
+num-requires-2 c =
+    record {
+      width = (sections (goal.at.num-requires-2 c).After-labels-labels).width;
+      w_in_bounds = room _ _ _ _ c.requires.u_lt_n.1.0 (omega (arith, (sections (goal.at.num-requires-2 c).After-labels-labels).names_long));
+    }
 
 pub place_of-y-requires : goal.place_of-y-requires
-place_of-y-requires c = let S = sections (goal.at.place_of-y-requires c).After-labels-labels in record { width = S.width; k_in_bounds = (omega (arith, S.groups_long), S.groups_few); rises = list_rises S; by_index = list_low S; k_value = name_listed S c.requires.u_lt_n.1.0 c.num-2.ensures.0 }
+place_of-y-requires c =
+    let S = sections (goal.at.place_of-y-requires c).After-labels-labels in
+    record {
+      width = S.width;
+      k_in_bounds = (omega (arith, S.groups_long), S.groups_few);
+      rises = list_rises S;
+      by_index = list_low S;
+      k_value = name_listed S c.requires.u_lt_n.1.0 c.num-2.ensures.0;
+    }
 
 pub reaches-requires : goal.reaches-requires
 reaches-requires c =
     let S = sections (goal.at.reaches-requires c).After-labels-labels in
-    let low = vertex_low S c.requires.u_lt_n.0 c.num.ensures.0 c.place_of-x.ensures in record { labellings = labelled c.requires.sound_bytes (given (goal.at.reaches-requires c).After-labels-labels); x_lt_k = (low, vertex_low S c.requires.u_lt_n.1.0 c.num-2.ensures.0 c.place_of-y.ensures); list_in = list_in_lem _ c.requires.lists_value (groups_many c.requires.sound_bytes) c.requires.u_lt_n.1.1 low }
+    let low = vertex_low S c.requires.u_lt_n.0 c.num.ensures.0 c.place_of-x.ensures in
+    record {
+      labellings = labelled c.requires.sound_bytes (given (goal.at.reaches-requires c).After-labels-labels);
+      x_lt_k = (low, vertex_low S c.requires.u_lt_n.1.0 c.num-2.ensures.0 c.place_of-y.ensures);
+      list_in = list_in_lem _ c.requires.lists_value (groups_many c.requires.sound_bytes) c.requires.u_lt_n.1.1 low;
+    }
 
 pub returns : goal.returns
 returns c =

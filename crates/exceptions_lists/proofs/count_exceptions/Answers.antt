@@ -20,7 +20,12 @@ loop-x-init c = (omega arith, (omega (arith, entries_none (index_in c.args.index
 
 pub count_row-count-requires : goal.count_row-count-requires
 count_row-count-requires c =
-    let m = marks_still _ _ c.loop-x.invariant.1.1 c.requires.n_in_bounds in record { sound_bytes = c.requires.sound_bytes; n_in_bounds = (m.0, c.loop-x-test.true); marks_value = m.1 }
+    let m = marks_still _ _ c.loop-x.invariant.1.1 c.requires.n_in_bounds in
+    record {
+      sound_bytes = c.requires.sound_bytes;
+      n_in_bounds = (m.0, c.loop-x-test.true);
+      marks_value = m.1;
+    }
 
 pub overflow_add-count : goal.overflow_add-count
 overflow_add-count c =
@@ -46,4 +51,9 @@ pub shape_of-marks : goal.shape_of-marks
 shape_of-marks c = ap length c.loop-x.invariant.1.1
 
 pub returns : goal.returns
-returns c = let end : c.loop-x.x ≡ length (index_in c.args.index.now).groups = omega (arith, c.loop-x.invariant.0, c.loop-x-test.false, groups_many c.requires.sound_bytes) in record { value = c.loop-x.invariant.1.0 ∙ entries_count (index_in c.args.index.now) c.loop-x.x end; marks_unchanged = c.loop-x.invariant.1.1 }
+returns c =
+    let end : c.loop-x.x ≡ length (index_in c.args.index.now).groups = omega (arith, c.loop-x.invariant.0, c.loop-x-test.false, groups_many c.requires.sound_bytes) in
+    record {
+      value = c.loop-x.invariant.1.0 ∙ entries_count (index_in c.args.index.now) c.loop-x.x end;
+      marks_unchanged = c.loop-x.invariant.1.1;
+    }

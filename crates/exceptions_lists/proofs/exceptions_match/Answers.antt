@@ -36,13 +36,21 @@ pub overflow_mul-k : goal.overflow_mul-k
 overflow_mul-k c = omega (arith, c.requires.k_bound)
 
 pub returns-then-lists-k : goal.returns-then-lists-k
-returns-then-lists-k c = record { value = not_short (index_of (goal.at.returns-then-lists-k c).Start) c.args.lists.now (bytes _ c.type_inv.lists) (few (goal.at.returns-then-lists-k c).Start) (omega (arith, many (goal.at.returns-then-lists-k c).Start, c.if-lists-k.true)); marks_unchanged = refl }
+returns-then-lists-k c =
+    record {
+      value = not_short (index_of (goal.at.returns-then-lists-k c).Start) c.args.lists.now (bytes _ c.type_inv.lists) (few (goal.at.returns-then-lists-k c).Start) (omega (arith, many (goal.at.returns-then-lists-k c).Start, c.if-lists-k.true));
+      marks_unchanged = refl;
+    }
 
 pub overflow_add-most : goal.overflow_add-most
 overflow_add-most c = omega (arith, c.requires.k_bound)
 
 pub num-requires : goal.num-requires
-num-requires c = record { width = record { low = omega arith; high = omega arith; even = refl }; w_in_bounds = reads (goal.at.num-requires c).Else-lists-k 1 (omega arith) }
+num-requires c =
+    record {
+      width = record { low = omega arith; high = omega arith; even = refl };
+      w_in_bounds = reads (goal.at.num-requires c).Else-lists-k 1 (omega arith);
+    }
 
 pub overflow_add-most-2 : goal.overflow_add-most-2
 overflow_add-most-2 c = omega (arith, c.requires.k_bound, c.num.ensures.1)
@@ -51,22 +59,47 @@ pub overflow_mul-most : goal.overflow_mul-most
 overflow_mul-most c = omega (arith, c.requires.k_bound, c.num.ensures.1)
 
 pub returns-then-lists-most : goal.returns-then-lists-most
-returns-then-lists-most c = record { value = not_long (index_of (goal.at.returns-then-lists-most c).Start) c.args.lists.now (bytes _ c.type_inv.lists) (few (goal.at.returns-then-lists-most c).Start) c.num.ensures.0 (λ e. c.if-lists-most.true (omega (arith, many (goal.at.returns-then-lists-most c).Start, e))); marks_unchanged = refl }
+returns-then-lists-most c =
+    record {
+      value = not_long (index_of (goal.at.returns-then-lists-most c).Start) c.args.lists.now (bytes _ c.type_inv.lists) (few (goal.at.returns-then-lists-most c).Start) c.num.ensures.0 (λ e. c.if-lists-most.true (omega (arith, many (goal.at.returns-then-lists-most c).Start, e)));
+      marks_unchanged = refl;
+    }
 
 pub num-requires-2 : goal.num-requires-2
-num-requires-2 c = record { width = record { low = omega arith; high = omega arith; even = refl }; w_in_bounds = reads (goal.at.num-requires-2 c).Else-lists-k 0 (omega arith) }
+num-requires-2 c =
+    record {
+      width = record { low = omega arith; high = omega arith; even = refl };
+      w_in_bounds = reads (goal.at.num-requires-2 c).Else-lists-k 0 (omega arith);
+    }
 
 pub returns-then-num-k : goal.returns-then-num-k
-returns-then-num-k c = record { value = not_count (index_of (goal.at.returns-then-num-k c).Start) c.args.lists.now (bytes _ c.type_inv.lists) (few (goal.at.returns-then-num-k c).Start) c.num-2.ensures.0 (λ e. c.if-num-k.true (omega (arith, many (goal.at.returns-then-num-k c).Start, e))); marks_unchanged = refl }
+returns-then-num-k c =
+    record {
+      value = not_count (index_of (goal.at.returns-then-num-k c).Start) c.args.lists.now (bytes _ c.type_inv.lists) (few (goal.at.returns-then-num-k c).Start) c.num-2.ensures.0 (λ e. c.if-num-k.true (omega (arith, many (goal.at.returns-then-num-k c).Start, e)));
+      marks_unchanged = refl;
+    }
 
 pub num-requires-3 : goal.num-requires-3
-num-requires-3 c = record { width = record { low = omega arith; high = omega arith; even = refl }; w_in_bounds = reads (goal.at.num-requires-3 c).Else-lists-k 2 (omega arith) }
+num-requires-3 c =
+    record {
+      width = record { low = omega arith; high = omega arith; even = refl };
+      w_in_bounds = reads (goal.at.num-requires-3 c).Else-lists-k 2 (omega arith);
+    }
 
 pub returns-then-num-ne0 : goal.returns-then-num-ne0
-returns-then-num-ne0 c = record { value = not_first (index_of (goal.at.returns-then-num-ne0 c).Start) c.args.lists.now (bytes _ c.type_inv.lists) (few (goal.at.returns-then-num-ne0 c).Start) c.num-3.ensures.0 c.if-num-ne0.true; marks_unchanged = refl }
+returns-then-num-ne0 c =
+    record {
+      value = not_first (index_of (goal.at.returns-then-num-ne0 c).Start) c.args.lists.now (bytes _ c.type_inv.lists) (few (goal.at.returns-then-num-ne0 c).Start) c.num-3.ensures.0 c.if-num-ne0.true;
+      marks_unchanged = refl;
+    }
 
 pub lists_stand-requires : goal.lists_stand-requires
-lists_stand-requires c = record { sound_bytes = c.requires.sound_bytes; n_in_bounds = c.requires.n_in_bounds; k_bound = (omega arith, omega (arith, c.if-lists-most.false)) }
+lists_stand-requires c =
+    record {
+      sound_bytes = c.requires.sound_bytes;
+      n_in_bounds = c.requires.n_in_bounds;
+      k_bound = (omega arith, omega (arith, c.if-lists-most.false));
+    }
 
 pub returns : goal.returns
 returns c =

@@ -18,19 +18,33 @@ loop-x-init c = (standing_none _ _ _ _ c.requires.k_bound.0, refl)
 
 pub match_row-requires : goal.match_row-requires
 match_row-requires c =
-    let m = marks_still _ _ c.loop-x.invariant.1 c.requires.n_in_bounds in record { sound_bytes = c.requires.sound_bytes; n_in_bounds = (m.0, c.loop-x-test.true); marks_value = m.1; at_le_most = (c.loop-x.invariant.0.low, c.requires.k_bound.1) }
+    let m = marks_still _ _ c.loop-x.invariant.1 c.requires.n_in_bounds in
+    record {
+      sound_bytes = c.requires.sound_bytes;
+      n_in_bounds = (m.0, c.loop-x-test.true);
+      marks_value = m.1;
+      at_le_most = (c.loop-x.invariant.0.low, c.requires.k_bound.1);
+    }
 
 pub shape_of-marks-in-Differs : goal.shape_of-marks-in-Differs
 shape_of-marks-in-Differs c = ap length (marks_back (goal.at.shape_of-marks-in-Differs c).After-match_row)
 
 pub returns-in-Differs : goal.returns-in-Differs
-returns-in-Differs c = record { value = standing_differs c.loop-x.invariant.0 c.loop-x-test.true c.match_row.ensures.value c.in-Differs.is; marks_unchanged = marks_back (goal.at.returns-in-Differs c).After-match_row }
+returns-in-Differs c =
+    record {
+      value = standing_differs c.loop-x.invariant.0 c.loop-x-test.true c.match_row.ensures.value c.in-Differs.is;
+      marks_unchanged = marks_back (goal.at.returns-in-Differs c).After-match_row;
+    }
 
 pub overflow_add-x : goal.overflow_add-x
 overflow_add-x c = omega (arith, c.loop-x-test.true, c.requires.sound_bytes.laid)
 
 pub num-requires : goal.num-requires
-num-requires c = record { width = record { low = omega arith; high = omega arith; even = refl }; w_in_bounds = omega (arith, c.loop-x-test.true, c.requires.k_bound) }
+num-requires c =
+    record {
+      width = record { low = omega arith; high = omega arith; even = refl };
+      w_in_bounds = omega (arith, c.loop-x-test.true, c.requires.k_bound);
+    }
 
 pub overflow_sub-next : goal.overflow_sub-next
 overflow_sub-next c = standing_behind c.loop-x.invariant.0 c.loop-x-test.true c.match_row.ensures.value c.in-Ends.is
@@ -39,7 +53,11 @@ pub shape_of-marks-then-num-next : goal.shape_of-marks-then-num-next
 shape_of-marks-then-num-next c = ap length (marks_back (goal.at.shape_of-marks-then-num-next c).After-match_row)
 
 pub returns-then-num-next : goal.returns-then-num-next
-returns-then-num-next c = record { value = standing_broken c.loop-x.invariant.0 c.loop-x-test.true c.match_row.ensures.value c.in-Ends.is c.num.ensures.0 c.if-num-next.true; marks_unchanged = marks_back (goal.at.returns-then-num-next c).After-match_row }
+returns-then-num-next c =
+    record {
+      value = standing_broken c.loop-x.invariant.0 c.loop-x-test.true c.match_row.ensures.value c.in-Ends.is c.num.ensures.0 c.if-num-next.true;
+      marks_unchanged = marks_back (goal.at.returns-then-num-next c).After-match_row;
+    }
 
 pub overflow_add-x-in-loop-x : goal.overflow_add-x-in-loop-x
 overflow_add-x-in-loop-x c = omega (arith, c.loop-x-test.true, c.requires.sound_bytes.laid)

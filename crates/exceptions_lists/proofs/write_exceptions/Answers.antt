@@ -10,7 +10,12 @@ pub write_head-requires : goal.write_head-requires
 write_head-requires c = omega (arith, c.requires.entries_value)
 
 pub write_lists-requires : goal.write_lists-requires
-write_lists-requires c = record { sound_bytes = c.requires.sound_bytes; n_in_bounds = c.requires.n_in_bounds; index_in_bounds = omega (arith, c.requires.entries_value, c.write_head.auto.out) }
+write_lists-requires c =
+    record {
+      sound_bytes = c.requires.sound_bytes;
+      n_in_bounds = c.requires.n_in_bounds;
+      index_in_bounds = omega (arith, c.requires.entries_value, c.write_head.auto.out);
+    }
 
 pub returns : goal.returns
 returns c =

@@ -11,7 +11,11 @@ pub put_at-requires-2 : goal.put_at-requires-2
 put_at-requires-2 c = record { width = record { low = omega arith; high = omega arith; even = refl }; w_in_bounds = omega (arith, c.requires, c.put_at.auto.out) }
 
 pub put_at-requires-3 : goal.put_at-requires-3
-put_at-requires-3 c = record { width = record { low = omega arith; high = omega arith; even = refl }; w_in_bounds = omega (arith, c.requires, c.put_at.auto.out, c.put_at-2.auto.out) }
+put_at-requires-3 c =
+    record {
+      width = record { low = omega arith; high = omega arith; even = refl };
+      w_in_bounds = omega (arith, c.requires, c.put_at.auto.out, c.put_at-2.auto.out);
+    }
 
 pub returns : goal.returns
 returns c =

@@ -21,7 +21,14 @@ pub loop-x-init : goal.loop-x-init
 loop-x-init c = (writing_none _ _ _, refl)
 
 pub write_row-at-requires : goal.write_row-at-requires
-write_row-at-requires c = let m = marks_still _ _ c.loop-x.invariant.1 c.requires.n_in_bounds in record { sound_bytes = c.requires.sound_bytes; n_in_bounds = (m.0, c.loop-x-test.true); marks_value = m.1; x_in_bounds = writing_fits (room (goal.at.write_row-at-requires c).Start) c.loop-x.invariant.0 c.loop-x-test.true }
+write_row-at-requires c =
+    let m = marks_still _ _ c.loop-x.invariant.1 c.requires.n_in_bounds in
+    record {
+      sound_bytes = c.requires.sound_bytes;
+      n_in_bounds = (m.0, c.loop-x-test.true);
+      marks_value = m.1;
+      x_in_bounds = writing_fits (room (goal.at.write_row-at-requires c).Start) c.loop-x.invariant.0 c.loop-x-test.true;
+    }
 
 pub overflow_add-x : goal.overflow_add-x
 overflow_add-x c = omega (arith, c.loop-x-test.true, c.requires.sound_bytes.laid)
@@ -33,7 +40,11 @@ pub overflow_sub-at : goal.overflow_sub-at
 overflow_sub-at c = omega (arith, c.write_row-at.ensures.value, c.loop-x.invariant.0.here)
 
 pub put_at-requires : goal.put_at-requires
-put_at-requires c = record { width = record { low = omega arith; high = omega arith; even = refl }; w_in_bounds = omega (arith, c.loop-x-test.true, room (goal.at.put_at-requires c).Start, c.loop-x.invariant.0.long, c.write_row-at.auto.out) }
+put_at-requires c =
+    record {
+      width = record { low = omega arith; high = omega arith; even = refl };
+      w_in_bounds = omega (arith, c.loop-x-test.true, room (goal.at.put_at-requires c).Start, c.loop-x.invariant.0.long, c.write_row-at.auto.out);
+    }
 
 pub overflow_add-x-in-loop-x : goal.overflow_add-x-in-loop-x
 overflow_add-x-in-loop-x c = omega (arith, c.loop-x-test.true, c.requires.sound_bytes.laid)
@@ -55,4 +66,9 @@ pub shape_of-out : goal.shape_of-out
 shape_of-out c = c.loop-x.invariant.0.long
 
 pub returns : goal.returns
-returns c = let K = c.loop-x.invariant.0 in record { out_after = writing_all (room (goal.at.returns c).Start) K (omega (arith, K.within, c.loop-x-test.false)) (sym (groups_many c.requires.sound_bytes)); marks_unchanged = c.loop-x.invariant.1 }
+returns c =
+    let K = c.loop-x.invariant.0 in
+    record {
+      out_after = writing_all (room (goal.at.returns c).Start) K (omega (arith, K.within, c.loop-x-test.false)) (sym (groups_many c.requires.sound_bytes));
+      marks_unchanged = c.loop-x.invariant.1;
+    }

@@ -86,13 +86,21 @@ ends c =
     )
 
 pub s_of-from-requires : goal.s_of-from-requires
-s_of-from-requires c = record { tuples = tuples_held (labelled c.requires.sound_bytes (given (goal.at.s_of-from-requires c).After-by_rank-places)) 0 c.tuples-tuples.ensures; p_lt_k = c.requires.n_in_bounds.1 }
+s_of-from-requires c =
+    record {
+      tuples = tuples_held (labelled c.requires.sound_bytes (given (goal.at.s_of-from-requires c).After-by_rank-places)) 0 c.tuples-tuples.ensures;
+      p_lt_k = c.requires.n_in_bounds.1;
+    }
 
 pub overflow_sub-from : goal.overflow_sub-from
 overflow_sub-from c = some_rank (goal.at.overflow_sub-from c).After-s_of-from
 
 pub e_of-requires : goal.e_of-requires
-e_of-requires c = record { tuples = tuples_held (labelled c.requires.sound_bytes (given (goal.at.e_of-requires c).After-by_rank-places)) 0 c.tuples-tuples.ensures; p_lt_k = c.requires.n_in_bounds.1 }
+e_of-requires c =
+    record {
+      tuples = tuples_held (labelled c.requires.sound_bytes (given (goal.at.e_of-requires c).After-by_rank-places)) 0 c.tuples-tuples.ensures;
+      p_lt_k = c.requires.n_in_bounds.1;
+    }
 
 pub overflow_sub-ranks : goal.overflow_sub-ranks
 overflow_sub-ranks c = omega (arith, rise (goal.at.overflow_sub-ranks c).After-e_of, some_rank (goal.at.overflow_sub-ranks c).After-s_of-from)
@@ -113,7 +121,11 @@ pub bounds-marks-name : goal.bounds-marks-name
 bounds-marks-name c = named_low (goal.at.bounds-marks-name c).After-num-name (low (goal.at.bounds-marks-name c).After-num-y (in_rank (goal.at.bounds-marks-name c).In-loop-i))
 
 pub is_exception-requires : goal.is_exception-requires
-is_exception-requires c = record { labellings = labelled c.requires.sound_bytes (given (goal.at.is_exception-requires c).After-by_rank-places); x_lt_k = (c.requires.n_in_bounds.1, low (goal.at.is_exception-requires c).After-num-y (in_rank (goal.at.is_exception-requires c).In-loop-i)) }
+is_exception-requires c =
+    record {
+      labellings = labelled c.requires.sound_bytes (given (goal.at.is_exception-requires c).After-by_rank-places);
+      x_lt_k = (c.requires.n_in_bounds.1, low (goal.at.is_exception-requires c).After-num-y (in_rank (goal.at.is_exception-requires c).In-loop-i));
+    }
 
 pub bounds-marks-name-then-is_exception : goal.bounds-marks-name-then-is_exception
 bounds-marks-name-then-is_exception c = named_low (goal.at.bounds-marks-name-then-is_exception c).After-num-name (low (goal.at.bounds-marks-name-then-is_exception c).After-num-y (in_rank (goal.at.bounds-marks-name-then-is_exception c).In-loop-i))
@@ -152,4 +164,8 @@ shape_of-marks c = c.loop-i.invariant.1.1.long
 
 pub returns : goal.returns
 returns c =
-    let O = c.requires.sound_bytes in record { value = looking_count (index_sound O) (first_in O) c.requires.reaching (room_there O c.requires.n_in_bounds.0) c.loop-i.invariant.1.1 (omega (arith, c.requires.n_in_bounds.1, places_many O)) (starts (goal.at.returns c).After-e_of) (ends (goal.at.returns c).After-loop-i); excepting = looking_all (index_sound O) (first_in O) c.requires.reaching (room_there O c.requires.n_in_bounds.0) c.loop-i.invariant.1.1 (omega (arith, c.requires.n_in_bounds.1, places_many O)) (starts (goal.at.returns c).After-e_of) (ends (goal.at.returns c).After-loop-i) }
+    let O = c.requires.sound_bytes in
+    record {
+      value = looking_count (index_sound O) (first_in O) c.requires.reaching (room_there O c.requires.n_in_bounds.0) c.loop-i.invariant.1.1 (omega (arith, c.requires.n_in_bounds.1, places_many O)) (starts (goal.at.returns c).After-e_of) (ends (goal.at.returns c).After-loop-i);
+      excepting = looking_all (index_sound O) (first_in O) c.requires.reaching (room_there O c.requires.n_in_bounds.0) c.loop-i.invariant.1.1 (omega (arith, c.requires.n_in_bounds.1, places_many O)) (starts (goal.at.returns c).After-e_of) (ends (goal.at.returns c).After-loop-i);
+    }

@@ -16,7 +16,12 @@ pub num-name-requires : goal.num-name-requires
 num-name-requires c = name_read c.requires.sound_bytes (given (goal.at.num-name-requires c).After-groups-groups) c.requires.n_in_bounds.1
 
 pub mark_reached-requires : goal.mark_reached-requires
-mark_reached-requires c = record { sound_bytes = c.requires.sound_bytes; n_in_bounds = (c.requires.n_in_bounds.0, name_low c.requires.sound_bytes (given (goal.at.mark_reached-requires c).After-groups-groups) c.requires.n_in_bounds.1 c.num-name.ensures.0 (omega arith)); marks_value = c.requires.marks_value }
+mark_reached-requires c =
+    record {
+      sound_bytes = c.requires.sound_bytes;
+      n_in_bounds = (c.requires.n_in_bounds.0, name_low c.requires.sound_bytes (given (goal.at.mark_reached-requires c).After-groups-groups) c.requires.n_in_bounds.1 c.num-name.ensures.0 (omega arith));
+      marks_value = c.requires.marks_value;
+    }
 
 pub mark_contained-requires : goal.mark_contained-requires
 mark_contained-requires c =

@@ -9,4 +9,8 @@ pub clear_marks-requires : goal.clear_marks-requires
 clear_marks-requires c = omega (arith, c.requires.n_in_bounds, c.mark_exceptions-count.ensures.excepting.long)
 
 pub returns : goal.returns
-returns c = record { value = entries_many _ _ c.mark_exceptions-count.ensures.value; marks_unchanged = excepting_cleared (names_count c.requires.sound_bytes) c.requires.marks_value c.mark_exceptions-count.ensures.excepting c.clear_marks.ensures }
+returns c =
+    record {
+      value = entries_many _ _ c.mark_exceptions-count.ensures.value;
+      marks_unchanged = excepting_cleared (names_count c.requires.sound_bytes) c.requires.marks_value c.mark_exceptions-count.ensures.excepting c.clear_marks.ensures;
+    }

@@ -20,7 +20,11 @@ pub num-h-requires : goal.num-h-requires
 num-h-requires c = can_read_child c.requires.telling.below.entries c.row_span-row.ensures c.loop-i-test.true
 
 pub contains-requires : goal.contains-requires
-contains-requires c = record { labellings = c.requires.telling.labelled; x_lt_k = (child_low c.requires.telling.below c.row_span-row.ensures c.loop-i-test.true c.num-h.ensures.0, c.requires.x_lt_k.1) }
+contains-requires c =
+    record {
+      labellings = c.requires.telling.labelled;
+      x_lt_k = (child_low c.requires.telling.below c.row_span-row.ensures c.loop-i-test.true c.num-h.ensures.0, c.requires.x_lt_k.1);
+    }
 
 pub returns-then-contains : goal.returns-then-contains
 returns-then-contains c =

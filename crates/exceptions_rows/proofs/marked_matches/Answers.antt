@@ -27,7 +27,12 @@ pub returns-then-count-eq0 : goal.returns-then-count-eq0
 returns-then-count-eq0 c = stands_empty c.args.lists.now (row (goal.at.returns-then-count-eq0 c).Start) (counted (goal.at.returns-then-count-eq0 c).Start) c.requires.at_le_most.0 c.if-count-eq0.true
 
 pub match_marked-requires : goal.match_marked-requires
-match_marked-requires c = record { sound_bytes = c.requires.sound_bytes; n_in_bounds = c.requires.n_in_bounds; x_in_bounds = omega (arith, counted (goal.at.match_marked-requires c).Start, c.requires.at_le_most, c.if-most-at.false) }
+match_marked-requires c =
+    record {
+      sound_bytes = c.requires.sound_bytes;
+      n_in_bounds = c.requires.n_in_bounds;
+      x_in_bounds = omega (arith, counted (goal.at.match_marked-requires c).Start, c.requires.at_le_most, c.if-most-at.false);
+    }
 
 pub returns : goal.returns
 returns c = stands_by c.args.lists.now (row (goal.at.returns c).Start) (counted (goal.at.returns c).Start) c.requires.at_le_most.0 (omega (arith, c.if-most-at.false)) c.match_marked.ensures

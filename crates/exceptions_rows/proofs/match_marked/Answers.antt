@@ -41,10 +41,18 @@ bounds-marks-name c =
     name_low c.requires.sound_bytes (given (goal.at.bounds-marks-name c).After-labels-labels) c.loop-y-test.true c.num-name.ensures.0 c.requires.n_in_bounds.0
 
 pub num-requires : goal.num-requires
-num-requires c = record { width = record { low = omega arith; high = omega arith; even = refl }; w_in_bounds = fits (goal.at.num-requires c).Then-marks-name-eq-EXCEPTED }
+num-requires c =
+    record {
+      width = record { low = omega arith; high = omega arith; even = refl };
+      w_in_bounds = fits (goal.at.num-requires c).Then-marks-name-eq-EXCEPTED;
+    }
 
 pub entry_of-requires : goal.entry_of-requires
-entry_of-requires c = record { telling = telling c.requires.sound_bytes (given (goal.at.entry_of-requires c).After-labels-labels); x_lt_k = (c.requires.n_in_bounds.1.0, c.loop-y-test.true) }
+entry_of-requires c =
+    record {
+      telling = telling c.requires.sound_bytes (given (goal.at.entry_of-requires c).After-labels-labels);
+      x_lt_k = (c.requires.n_in_bounds.1.0, c.loop-y-test.true);
+    }
 
 pub returns-then-num-entry_of : goal.returns-then-num-entry_of
 returns-then-num-entry_of c = comparing_not c.loop-y.invariant.1 (excepted (goal.at.returns-then-num-entry_of c).Then-marks-name-eq-EXCEPTED) (in_groups (goal.at.returns-then-num-entry_of c).In-loop-y) c.num.ensures.0 (entry_here c.requires.sound_bytes (given (goal.at.returns-then-num-entry_of c).After-labels-labels) _ _ c.entry_of.ensures) c.if-num-entry_of.true

@@ -31,13 +31,22 @@ mark_exceptions-count-requires c = record { sound_bytes = c.requires.sound_bytes
 
 pub marked_matches-same-requires : goal.marked_matches-same-requires
 marked_matches-same-requires c =
-    record { sound_bytes = c.requires.sound_bytes; n_in_bounds = (omega (arith, c.requires.n_in_bounds.0, c.mark_exceptions-count.ensures.excepting.long), (c.requires.n_in_bounds.1, c.mark_exceptions-count.ensures.excepting.marked)); at_le_most = c.requires.at_le_most; count_value = c.mark_exceptions-count.ensures.value }
+    record {
+      sound_bytes = c.requires.sound_bytes;
+      n_in_bounds = (omega (arith, c.requires.n_in_bounds.0, c.mark_exceptions-count.ensures.excepting.long), (c.requires.n_in_bounds.1, c.mark_exceptions-count.ensures.excepting.marked));
+      at_le_most = c.requires.at_le_most;
+      count_value = c.mark_exceptions-count.ensures.value;
+    }
 
 pub clear_marks-requires : goal.clear_marks-requires
 clear_marks-requires c = omega (arith, c.requires.n_in_bounds, c.mark_exceptions-count.ensures.excepting.long)
 
 pub returns-then-not-same : goal.returns-then-not-same
-returns-then-not-same c = record { value = row_differs c.args.lists.now (row (goal.at.returns-then-not-same c).Start) (counted (goal.at.returns-then-not-same c).After-mark_exceptions-count) c.requires.at_le_most.0 (told (goal.at.returns-then-not-same c).After-clear_marks) (c.if-not-same.true); marks_unchanged = marks_back (goal.at.returns-then-not-same c).After-clear_marks }
+returns-then-not-same c =
+    record {
+      value = row_differs c.args.lists.now (row (goal.at.returns-then-not-same c).Start) (counted (goal.at.returns-then-not-same c).After-mark_exceptions-count) c.requires.at_le_most.0 (told (goal.at.returns-then-not-same c).After-clear_marks) (c.if-not-same.true);
+      marks_unchanged = marks_back (goal.at.returns-then-not-same c).After-clear_marks;
+    }
 
 pub overflow_add-result : goal.overflow_add-result
 overflow_add-result c =
@@ -48,4 +57,8 @@ overflow_add-result c =
     )
 
 pub returns : goal.returns
-returns c = record { value = row_ends c.args.lists.now (row (goal.at.returns c).Start) (counted (goal.at.returns c).After-mark_exceptions-count) c.requires.at_le_most.0 (told (goal.at.returns c).After-clear_marks) (c.if-not-same.false); marks_unchanged = marks_back (goal.at.returns c).After-clear_marks }
+returns c =
+    record {
+      value = row_ends c.args.lists.now (row (goal.at.returns c).Start) (counted (goal.at.returns c).After-mark_exceptions-count) c.requires.at_le_most.0 (told (goal.at.returns c).After-clear_marks) (c.if-not-same.false);
+      marks_unchanged = marks_back (goal.at.returns c).After-clear_marks;
+    }

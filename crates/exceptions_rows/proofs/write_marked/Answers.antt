@@ -45,13 +45,21 @@ bounds-marks-name c =
     name_low c.requires.sound_bytes (given (goal.at.bounds-marks-name c).After-labels-labels) c.loop-y-test.true c.num-name.ensures.0 c.requires.n_in_bounds.0
 
 pub entry_of-v-requires : goal.entry_of-v-requires
-entry_of-v-requires c = record { telling = telling c.requires.sound_bytes (given (goal.at.entry_of-v-requires c).After-labels-labels); x_lt_k = (c.requires.n_in_bounds.1.0, c.loop-y-test.true) }
+entry_of-v-requires c =
+    record {
+      telling = telling c.requires.sound_bytes (given (goal.at.entry_of-v-requires c).After-labels-labels);
+      x_lt_k = (c.requires.n_in_bounds.1.0, c.loop-y-test.true);
+    }
 
 pub overflow_mul-at : goal.overflow_mul-at
 overflow_mul-at c = omega (arith, few (goal.at.overflow_mul-at c).Then-marks-name-eq-EXCEPTED)
 
 pub put_at-requires : goal.put_at-requires
-put_at-requires c = record { width = record { low = omega arith; high = omega arith; even = refl }; w_in_bounds = fits (goal.at.put_at-requires c).Then-marks-name-eq-EXCEPTED }
+put_at-requires c =
+    record {
+      width = record { low = omega arith; high = omega arith; even = refl };
+      w_in_bounds = fits (goal.at.put_at-requires c).Then-marks-name-eq-EXCEPTED;
+    }
 
 pub overflow_add-at : goal.overflow_add-at
 overflow_add-at c = omega (arith, few (goal.at.overflow_add-at c).Then-marks-name-eq-EXCEPTED)

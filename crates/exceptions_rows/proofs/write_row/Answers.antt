@@ -23,7 +23,12 @@ pub mark_exceptions-count-requires : goal.mark_exceptions-count-requires
 mark_exceptions-count-requires c = record { sound_bytes = c.requires.sound_bytes; n_in_bounds = c.requires.n_in_bounds; marks_value = c.requires.marks_value }
 
 pub write_marked-requires : goal.write_marked-requires
-write_marked-requires c = record { sound_bytes = c.requires.sound_bytes; n_in_bounds = (omega (arith, c.requires.n_in_bounds.0, c.mark_exceptions-count.ensures.excepting.long), (c.requires.n_in_bounds.1, c.mark_exceptions-count.ensures.excepting.marked)); x_in_bounds = c.requires.x_in_bounds }
+write_marked-requires c =
+    record {
+      sound_bytes = c.requires.sound_bytes;
+      n_in_bounds = (omega (arith, c.requires.n_in_bounds.0, c.mark_exceptions-count.ensures.excepting.long), (c.requires.n_in_bounds.1, c.mark_exceptions-count.ensures.excepting.marked));
+      x_in_bounds = c.requires.x_in_bounds;
+    }
 
 pub clear_marks-requires : goal.clear_marks-requires
 clear_marks-requires c = omega (arith, c.requires.n_in_bounds, c.mark_exceptions-count.ensures.excepting.long)
@@ -35,4 +40,9 @@ pub shape_of-out : goal.shape_of-out
 shape_of-out c = elim c.if-count-ne0.branch [ then-count-ne0 w ↦ rw w.out-is w.write_marked.auto.out | else-count-ne0 w ↦ rw w.out-is refl ]
 
 pub returns : goal.returns
-returns c = record { value = ap (λ (z : ℕ). c.args.at + z) (counted (goal.at.returns c).After-mark_exceptions-count); out_after = elim c.if-count-ne0.branch [ then-count-ne0 w ↦ rw w.out-is w.write_marked.ensures | else-count-ne0 w ↦ rw w.out-is (putting_nothing c.args.out.now (4 * c.args.at) (row (goal.at.returns c).Start) (omega (arith, counted (goal.at.returns c).After-mark_exceptions-count, w.if-count-ne0.false))) ]; marks_unchanged = excepting_cleared (names_count c.requires.sound_bytes) c.requires.marks_value c.mark_exceptions-count.ensures.excepting c.clear_marks.ensures }
+returns c =
+    record {
+      value = ap (λ (z : ℕ). c.args.at + z) (counted (goal.at.returns c).After-mark_exceptions-count);
+      out_after = elim c.if-count-ne0.branch [ then-count-ne0 w ↦ rw w.out-is w.write_marked.ensures | else-count-ne0 w ↦ rw w.out-is (putting_nothing c.args.out.now (4 * c.args.at) (row (goal.at.returns c).Start) (omega (arith, counted (goal.at.returns c).After-mark_exceptions-count, w.if-count-ne0.false))) ];
+      marks_unchanged = excepting_cleared (names_count c.requires.sound_bytes) c.requires.marks_value c.mark_exceptions-count.ensures.excepting c.clear_marks.ensures;
+    }

@@ -4,4 +4,10 @@ use Rattle.face.specs.Host.{host_counted}
 use Rattle.face_ask.proofs.drobisten_convert_down.Goals as goal
 
 pub returns : goal.returns
-returns c = record { value = c.converted.ensures ∙ ap host_counted c.convert_down.ensures.result_value; marks_after = c.convert_down.ensures.marks_after; work_after = c.convert_down.ensures.work_after; out_after = c.convert_down.ensures.out_after }
+returns c =
+    record {
+      value = c.converted.ensures ∙ ap host_counted c.convert_down.ensures.result_value;
+      marks_after = c.convert_down.ensures.marks_after;
+      work_after = c.convert_down.ensures.work_after;
+      out_after = c.convert_down.ensures.out_after;
+    }

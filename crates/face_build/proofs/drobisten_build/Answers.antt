@@ -4,4 +4,9 @@ use Rattle.face.specs.Host.{host_counted}
 use Rattle.face_build.proofs.drobisten_build.Goals as goal
 
 pub returns : goal.returns
-returns c = record { value = c.built.ensures ∙ ap host_counted c.build.ensures.result_value; work_after = c.build.ensures.work_after; out_after = c.build.ensures.out_after }
+returns c =
+    record {
+      value = c.built.ensures ∙ ap host_counted c.build.ensures.result_value;
+      work_after = c.build.ensures.work_after;
+      out_after = c.build.ensures.out_after;
+    }

@@ -4,4 +4,10 @@ use Rattle.face.specs.Host.{host_counted}
 use Rattle.face_hierarchy.proofs.drobisten_from_hierarchy.Goals as goal
 
 pub returns : goal.returns
-returns c = record { value = c.converted.ensures ∙ ap host_counted c.from_hierarchy.ensures.result_value; marks_after = c.from_hierarchy.ensures.marks_after; work_after = c.from_hierarchy.ensures.work_after; out_after = c.from_hierarchy.ensures.out_after }
+returns c =
+    record {
+      value = c.converted.ensures ∙ ap host_counted c.from_hierarchy.ensures.result_value;
+      marks_after = c.from_hierarchy.ensures.marks_after;
+      work_after = c.from_hierarchy.ensures.work_after;
+      out_after = c.from_hierarchy.ensures.out_after;
+    }

@@ -17,13 +17,34 @@ admits : (a : In-Passed) → let s = a.args in
 admits a = record { passes = sym (ap header_outcome a.in-Passed.is) ∙ a.admit.ensures }
 
 pub returns-in-Refused : goal.returns-in-Refused
-returns-in-Refused c = let s = c.args in let both = asks_refused _ _ _ s.marks.now hierarchy s.work.now (sym (ap header_outcome c.in-Refused.is) ∙ c.admit.ensures) in record { result_value = both.0; marks_after = both.1.0; work_after = both.1.1 }
+returns-in-Refused c =
+    let s = c.args in
+    let both = asks_refused _ _ _ s.marks.now hierarchy s.work.now (sym (ap header_outcome c.in-Refused.is) ∙ c.admit.ensures) in
+    record {
+      result_value = both.0;
+      marks_after = both.1.0;
+      work_after = both.1.1;
+    }
 
 pub returns-then-l-u : goal.returns-then-l-u
-returns-then-l-u c = let A = admits (goal.at.returns-then-l-u c).In-Passed in let both = asks_source _ _ _ _ _ _ A (vertex_out (admitted_laid A) c.if-l-u.true) in record { result_value = both.0; marks_after = both.1.0; work_after = both.1.1 }
+returns-then-l-u c =
+    let A = admits (goal.at.returns-then-l-u c).In-Passed in
+    let both = asks_source _ _ _ _ _ _ A (vertex_out (admitted_laid A) c.if-l-u.true) in
+    record {
+      result_value = both.0;
+      marks_after = both.1.0;
+      work_after = both.1.1;
+    }
 
 pub returns-then-l-v : goal.returns-then-l-v
-returns-then-l-v c = let A = admits (goal.at.returns-then-l-v c).In-Passed in let both = asks_target _ _ _ _ _ _ A (vertex_in (admitted_laid A) c.if-l-u.false) (vertex_out (admitted_laid A) c.if-l-v.true) in record { result_value = both.0; marks_after = both.1.0; work_after = both.1.1 }
+returns-then-l-v c =
+    let A = admits (goal.at.returns-then-l-v c).In-Passed in
+    let both = asks_target _ _ _ _ _ _ A (vertex_in (admitted_laid A) c.if-l-u.false) (vertex_out (admitted_laid A) c.if-l-v.true) in
+    record {
+      result_value = both.0;
+      marks_after = both.1.0;
+      work_after = both.1.1;
+    }
 
 pub words_needed-requires : goal.words_needed-requires
 words_needed-requires c = let L = admitted_laid (admits (goal.at.words_needed-requires c).In-Passed) in (L.vertices, (L.groups, L.entries))
@@ -32,9 +53,21 @@ pub clear_words-requires : goal.clear_words-requires
 clear_words-requires c = omega (arith, c.words_needed.ensures.0, admitted_words (admits (goal.at.clear_words-requires c).In-Passed))
 
 pub ask_laid-requires : goal.ask_laid-requires
-ask_laid-requires c = let A = admits (goal.at.ask_laid-requires c).In-Passed in record { laid = admitted_laid A; plain = admitted_plain A; u_lt_n = (c.if-l-u.false, (c.if-l-v.false, admitted_room A)) }
+ask_laid-requires c =
+    let A = admits (goal.at.ask_laid-requires c).In-Passed in
+    record {
+      laid = admitted_laid A;
+      plain = admitted_plain A;
+      u_lt_n = (c.if-l-u.false, (c.if-l-v.false, admitted_room A));
+    }
 
 pub returns : goal.returns
 returns c =
     let A = admits (goal.at.returns c).In-Passed in
-    let L = admitted_laid A in let both = asks_rest _ _ _ _ _ _ A (vertex_in L c.if-l-u.false) (vertex_in L c.if-l-v.false) (c.ask_laid.ensures.result_value, c.ask_laid.ensures.marks_after) (kept_same _ _ _) c.words_needed.ensures.0 c.clear_words.ensures in record { result_value = both.0; marks_after = both.1.0; work_after = both.1.1 }
+    let L = admitted_laid A in
+    let both = asks_rest _ _ _ _ _ _ A (vertex_in L c.if-l-u.false) (vertex_in L c.if-l-v.false) (c.ask_laid.ensures.result_value, c.ask_laid.ensures.marks_after) (kept_same _ _ _) c.words_needed.ensures.0 c.clear_words.ensures in
+    record {
+      result_value = both.0;
+      marks_after = both.1.0;
+      work_after = both.1.1;
+    }

@@ -8,7 +8,12 @@ pub first_shared-requires : goal.first_shared-requires
 first_shared-requires c = let p = c.requires in record { within = within p.sound_bytes c.children.ensures; k_le_n = (p.sound_bytes.laid.groups, p.n_in_bounds.0) }
 
 pub returns-then-tree : goal.returns-then-tree
-returns-then-tree c = let p = c.requires in record { value = rw c.if-tree.true (first_is p.sound_bytes c.children.ensures c.first_shared.ensures.value); marks_unchanged = c.first_shared.ensures.marks_after ∙ sym p.n_in_bounds.1 }
+returns-then-tree c =
+    let p = c.requires in
+    record {
+      value = rw c.if-tree.true (first_is p.sound_bytes c.children.ensures c.first_shared.ensures.value);
+      marks_unchanged = c.first_shared.ensures.marks_after ∙ sym p.n_in_bounds.1;
+    }
 
 pub returns : goal.returns
 returns c = record { value = rw c.if-tree.false refl; marks_unchanged = refl }

@@ -14,16 +14,42 @@ lent_in : (c : After-labels-labels) → Lent c.args.l c.names-names.result.now c
 lent_in c = given c.requires.sound_bytes c.requires.plain c.names-names.ensures c.groups-groups.ensures c.levels-levels.ensures c.labels-labels.ensures
 
 pub num-requires : goal.num-requires
-num-requires c = let S = lent_in (goal.at.num-requires c).After-labels-labels in record { width = S.width; w_in_bounds = room _ _ _ _ c.requires.u_lt_n.0 (omega (arith, S.names_long)) }
+num-requires c =
+    let S = lent_in (goal.at.num-requires c).After-labels-labels in
+    record {
+      width = S.width;
+      w_in_bounds = room _ _ _ _ c.requires.u_lt_n.0 (omega (arith, S.names_long));
+    }
 
 pub place_of-x-requires : goal.place_of-x-requires
-place_of-x-requires c = let S = lent_in (goal.at.place_of-x-requires c).After-labels-labels in record { width = S.width; k_in_bounds = (omega (arith, S.groups_long), S.groups_few); rises = list_rises S; by_index = list_low S; k_value = name_listed S c.requires.u_lt_n.0 c.num.ensures.0 }
+place_of-x-requires c =
+    let S = lent_in (goal.at.place_of-x-requires c).After-labels-labels in
+    record {
+      width = S.width;
+      k_in_bounds = (omega (arith, S.groups_long), S.groups_few);
+      rises = list_rises S;
+      by_index = list_low S;
+      k_value = name_listed S c.requires.u_lt_n.0 c.num.ensures.0;
+    }
 
 pub num-requires-2 : goal.num-requires-2
-num-requires-2 c = let S = lent_in (goal.at.num-requires-2 c).After-labels-labels in record { width = S.width; w_in_bounds = room _ _ _ _ c.requires.u_lt_n.1 (omega (arith, S.names_long)) }
+num-requires-2 c =
+    let S = lent_in (goal.at.num-requires-2 c).After-labels-labels in
+    record {
+      width = S.width;
+      w_in_bounds = room _ _ _ _ c.requires.u_lt_n.1 (omega (arith, S.names_long));
+    }
 
 pub place_of-t-requires : goal.place_of-t-requires
-place_of-t-requires c = let S = lent_in (goal.at.place_of-t-requires c).After-labels-labels in record { width = S.width; k_in_bounds = (omega (arith, S.groups_long), S.groups_few); rises = list_rises S; by_index = list_low S; k_value = name_listed S c.requires.u_lt_n.1 c.num-2.ensures.0 }
+place_of-t-requires c =
+    let S = lent_in (goal.at.place_of-t-requires c).After-labels-labels in
+    record {
+      width = S.width;
+      k_in_bounds = (omega (arith, S.groups_long), S.groups_few);
+      rises = list_rises S;
+      by_index = list_low S;
+      k_value = name_listed S c.requires.u_lt_n.1 c.num-2.ensures.0;
+    }
 
 pub decide-requires : goal.decide-requires
 decide-requires c =

@@ -16,7 +16,15 @@ admits : (a : In-Passed) → let s = a.args in
 admits a = record { passes = sym (ap header_outcome a.in-Passed.is) ∙ a.admit.ensures }
 
 pub returns-in-Refused : goal.returns-in-Refused
-returns-in-Refused c = let s = c.args in let both = turns_refused s.from s.to _ s.marks.now s.work.now s.out.now (sym (ap header_outcome c.in-Refused.is) ∙ c.admit.ensures) in record { result_value = both.0; marks_after = both.1.0; work_after = both.1.1.0; out_after = both.1.1.1 }
+returns-in-Refused c =
+    let s = c.args in
+    let both = turns_refused s.from s.to _ s.marks.now s.work.now s.out.now (sym (ap header_outcome c.in-Refused.is) ∙ c.admit.ensures) in
+    record {
+      result_value = both.0;
+      marks_after = both.1.0;
+      work_after = both.1.1.0;
+      out_after = both.1.1.1;
+    }
 
 pub words_needed-requires : goal.words_needed-requires
 words_needed-requires c = let L = admitted_laid (admits (goal.at.words_needed-requires c).In-Passed) in (L.vertices, (L.groups, L.entries))
@@ -28,7 +36,14 @@ pub contents_sound-requires : goal.contents_sound-requires
 contents_sound-requires c = let A = admits (goal.at.contents_sound-requires c).In-Passed in record { laid = admitted_laid A; n_in_bounds = admitted_room A }
 
 pub returns-then-not-contents_sound : goal.returns-then-not-contents_sound
-returns-then-not-contents_sound c = let both = turns_unsound _ _ _ _ _ _ (admits (goal.at.returns-then-not-contents_sound c).In-Passed) c.contents_sound.ensures.value c.contents_sound.ensures.marks_after c.words_needed.ensures.0 c.clear_words.ensures c.if-not-contents_sound.true-raw in record { result_value = both.0; marks_after = both.1.0; work_after = both.1.1.0; out_after = both.1.1.1 }
+returns-then-not-contents_sound c =
+    let both = turns_unsound _ _ _ _ _ _ (admits (goal.at.returns-then-not-contents_sound c).In-Passed) c.contents_sound.ensures.value c.contents_sound.ensures.marks_after c.words_needed.ensures.0 c.clear_words.ensures c.if-not-contents_sound.true-raw in
+    record {
+      result_value = both.0;
+      marks_after = both.1.0;
+      work_after = both.1.1.0;
+      out_after = both.1.1.1;
+    }
 
 pub turn_sound-requires : goal.turn_sound-requires
 turn_sound-requires c =
@@ -45,4 +60,11 @@ turn_sound-requires c =
     }
 
 pub returns : goal.returns
-returns c = let both = turns_turned _ _ _ _ _ _ (admits (goal.at.returns c).In-Passed) c.contents_sound.ensures.value (c.turn_sound.ensures.marks_unchanged ∙ c.contents_sound.ensures.marks_after) c.words_needed.ensures.0 c.clear_words.ensures c.if-not-contents_sound.false-raw c.turn_sound.ensures.turned in record { result_value = both.0; marks_after = both.1.0; work_after = both.1.1.0; out_after = both.1.1.1 }
+returns c =
+    let both = turns_turned _ _ _ _ _ _ (admits (goal.at.returns c).In-Passed) c.contents_sound.ensures.value (c.turn_sound.ensures.marks_unchanged ∙ c.contents_sound.ensures.marks_after) c.words_needed.ensures.0 c.clear_words.ensures c.if-not-contents_sound.false-raw c.turn_sound.ensures.turned in
+    record {
+      result_value = both.0;
+      marks_after = both.1.0;
+      work_after = both.1.1.0;
+      out_after = both.1.1.1;
+    }

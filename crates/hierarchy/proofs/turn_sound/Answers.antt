@@ -19,7 +19,12 @@ fits e = between ((let p = e.requires in record { wide = p.wide; single = p.d_va
 pub lay_out-to-requires : goal.lay_out-to-requires
 lay_out-to-requires c =
     let O = other (goal.at.lay_out-to-requires c).After-form_row-row in
-    let L = O.wide.sound.laid in record { width = record { low = omega arith; high = omega arith; even = refl }; stride = row_stride O; n_le_vertex_bound = (L.vertices, (L.groups, (L.entries, L.most))) }
+    let L = O.wide.sound.laid in
+    record {
+      width = record { low = omega arith; high = omega arith; even = refl };
+      stride = row_stride O;
+      n_le_vertex_bound = (L.vertices, (L.groups, (L.entries, L.most)));
+    }
 
 pub returns-then-row-l : goal.returns-then-row-l
 returns-then-row-l c = record { turned = turned_several (other (goal.at.returns-then-row-l c).After-form_row-row) _ c.if-row-l.true; marks_unchanged = refl }
@@ -28,7 +33,12 @@ pub groups-requires : goal.groups-requires
 groups-requires c = c.requires.wide.sound.laid
 
 pub num-name-requires : goal.num-name-requires
-num-name-requires c = let L = c.requires.wide.sound.laid in record { width = L.width; w_in_bounds = room _ _ _ _ c.if-first-l.true (omega (arith, c.groups.ensures.long)) }
+num-name-requires c =
+    let L = c.requires.wide.sound.laid in
+    record {
+      width = L.width;
+      w_in_bounds = room _ _ _ _ c.if-first-l.true (omega (arith, c.groups.ensures.long));
+    }
 
 pub overflow_cast-result : goal.overflow_cast-result
 overflow_cast-result c =
@@ -36,13 +46,21 @@ overflow_cast-result c =
     omega (arith, c.num-name.ensures.1, c.if-first-l.true, L.groups, L.vertices)
 
 pub returns-then-first-l : goal.returns-then-first-l
-returns-then-first-l c = record { turned = turned_shared (other (goal.at.returns-then-first-l c).After-form_row-row) _ c.if-row-l.false c.first_child_of_two-first.ensures.value c.if-first-l.true c.groups.ensures c.num-name.ensures.0; marks_unchanged = c.first_child_of_two-first.ensures.marks_unchanged }
+returns-then-first-l c =
+    record {
+      turned = turned_shared (other (goal.at.returns-then-first-l c).After-form_row-row) _ c.if-row-l.false c.first_child_of_two-first.ensures.value c.if-first-l.true c.groups.ensures c.num-name.ensures.0;
+      marks_unchanged = c.first_child_of_two-first.ensures.marks_unchanged;
+    }
 
 pub overflow_cast-result-then-short : goal.overflow_cast-result-then-short
 overflow_cast-result-then-short c = omega (arith, total_small (fits (goal.at.overflow_cast-result-then-short c).Else-row-l))
 
 pub returns-then-short : goal.returns-then-short
-returns-then-short c = record { turned = turned_short (other (goal.at.returns-then-short c).After-form_row-row) _ c.if-row-l.false c.first_child_of_two-first.ensures.value c.if-first-l.false (fits (goal.at.returns-then-short c).Else-row-l) (ltb-true _ _ c.if-short.true-raw); marks_unchanged = c.first_child_of_two-first.ensures.marks_unchanged }
+returns-then-short c =
+    record {
+      turned = turned_short (other (goal.at.returns-then-short c).After-form_row-row) _ c.if-row-l.false c.first_child_of_two-first.ensures.value c.if-first-l.false (fits (goal.at.returns-then-short c).Else-row-l) (ltb-true _ _ c.if-short.true-raw);
+      marks_unchanged = c.first_child_of_two-first.ensures.marks_unchanged;
+    }
 
 pub write_plain-requires : goal.write_plain-requires
 write_plain-requires c = record { between = fits (goal.at.write_plain-requires c).Else-row-l; total_in_bounds = ltb-false _ _ c.if-short.false-raw }
@@ -51,4 +69,8 @@ pub overflow_cast-result-2 : goal.overflow_cast-result-2
 overflow_cast-result-2 c = omega (arith, total_small (fits (goal.at.overflow_cast-result-2 c).Else-row-l))
 
 pub returns : goal.returns
-returns c = record { turned = turned_whole (other (goal.at.returns c).After-form_row-row) _ c.if-row-l.false c.first_child_of_two-first.ensures.value c.if-first-l.false (fits (goal.at.returns c).Else-row-l) (ltb-false _ _ c.if-short.false-raw) c.write_plain.ensures; marks_unchanged = c.first_child_of_two-first.ensures.marks_unchanged }
+returns c =
+    record {
+      turned = turned_whole (other (goal.at.returns c).After-form_row-row) _ c.if-row-l.false c.first_child_of_two-first.ensures.value c.if-first-l.false (fits (goal.at.returns c).Else-row-l) (ltb-false _ _ c.if-short.false-raw) c.write_plain.ensures;
+      marks_unchanged = c.first_child_of_two-first.ensures.marks_unchanged;
+    }

@@ -14,13 +14,24 @@ longer : (c : After-copy_numbers) → length c.copy_numbers.new.out ≡ length c
 longer c = c.copy_numbers.auto.out ∙ (c.write_header.auto.out)
 
 pub write_header-requires : goal.write_header-requires
-write_header-requires c = let p = c.requires in record { in_bounds = omega (arith, to_labels p.between, to_total p.between, p.total_in_bounds); every = header_small p.between }
+write_header-requires c =
+    let p = c.requires in
+    record {
+      in_bounds = omega (arith, to_labels p.between, to_total p.between, p.total_in_bounds);
+      every = header_small p.between;
+    }
 
 pub numbers_from-requires : goal.numbers_from-requires
 numbers_from-requires c = record { width = record { low = omega arith; high = omega arith; even = refl }; count_bound = held c.requires.between refl }
 
 pub copy_numbers-requires : goal.copy_numbers-requires
-copy_numbers-requires c = let p = c.requires in record { width = record { low = omega arith; high = omega arith; even = refl }; width_2 = record { low = omega arith; high = omega arith; even = refl }; count_in_bounds = (omega (arith, long (goal.at.copy_numbers-requires c).After-write_header, p.total_in_bounds, to_labels p.between, to_total p.between, counted p.between refl), omega (arith, c.numbers_from.ensures.long)) }
+copy_numbers-requires c =
+    let p = c.requires in
+    record {
+      width = record { low = omega arith; high = omega arith; even = refl };
+      width_2 = record { low = omega arith; high = omega arith; even = refl };
+      count_in_bounds = (omega (arith, long (goal.at.copy_numbers-requires c).After-write_header, p.total_in_bounds, to_labels p.between, to_total p.between, counted p.between refl), omega (arith, c.numbers_from.ensures.long));
+    }
 
 pub write_turned-requires : goal.write_turned-requires
 write_turned-requires c =

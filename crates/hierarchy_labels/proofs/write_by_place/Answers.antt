@@ -25,7 +25,13 @@ loop-p-init c =
     (omega arith, (omega arith, (omega arith, blocks_none a.w a.at (label_from a.w a.z a.y a.tuples.now) a.out.now)))
 
 pub write_label-requires : goal.write_label-requires
-write_label-requires c = let B = c.requires in record { width = B.held.held.width; stride = B.stride; z_in_bounds = omega (arith, within (goal.at.write_label-requires c).In-loop-p, c.loop-p.invariant.1.1.0) }
+write_label-requires c =
+    let B = c.requires in
+    record {
+      width = B.held.held.width;
+      stride = B.stride;
+      z_in_bounds = omega (arith, within (goal.at.write_label-requires c).In-loop-p, c.loop-p.invariant.1.1.0);
+    }
 
 pub overflow_add-q : goal.overflow_add-q
 overflow_add-q c = omega (arith, within (goal.at.overflow_add-q c).In-loop-p, c.bytes_of-step.ensures.0)

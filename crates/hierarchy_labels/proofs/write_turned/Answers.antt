@@ -16,7 +16,11 @@ pub overflow_mul-y : goal.overflow_mul-y
 overflow_mul-y c = omega (arith, few (goal.at.overflow_mul-y c).Start, c.requires.labelled.groups_few)
 
 pub bytes_of-requires : goal.bytes_of-requires
-bytes_of-requires c = record { width = c.requires.labelled.width; count_bound = omega (arith, few (goal.at.bytes_of-requires c).Start, c.requires.labelled.groups_few) }
+bytes_of-requires c =
+    record {
+      width = c.requires.labelled.width;
+      count_bound = omega (arith, few (goal.at.bytes_of-requires c).Start, c.requires.labelled.groups_few);
+    }
 
 pub write_by_place-requires : goal.write_by_place-requires
 write_by_place-requires c =

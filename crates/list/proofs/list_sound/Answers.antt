@@ -15,10 +15,19 @@ overflow_cast-result c =
     )
 
 pub returns-then-out-count : goal.returns-then-out-count
-returns-then-out-count c = let reached = c.mark_reached.ensures in record { fills = list_short c.requires.sound_bytes c.names-names.ensures c.requires.n_in_bounds.1 _ c.requires.n_in_bounds.0 reached c.in_own_list-own.ensures c.count_listed-count.ensures _ c.if-out-count.true; marks_unchanged = marks_again c.requires.sound_bytes c.names-names.ensures c.requires.n_in_bounds.1 _ c.requires.n_in_bounds.0 reached c.requires.marks_value c.clear_marks.ensures }
+returns-then-out-count c =
+    let reached = c.mark_reached.ensures in
+    record {
+      fills = list_short c.requires.sound_bytes c.names-names.ensures c.requires.n_in_bounds.1 _ c.requires.n_in_bounds.0 reached c.in_own_list-own.ensures c.count_listed-count.ensures _ c.if-out-count.true;
+      marks_unchanged = marks_again c.requires.sound_bytes c.names-names.ensures c.requires.n_in_bounds.1 _ c.requires.n_in_bounds.0 reached c.requires.marks_value c.clear_marks.ensures;
+    }
 
 pub write_listed-requires : goal.write_listed-requires
-write_listed-requires c = record { names = names_there c.requires.sound_bytes c.names-names.ensures c.requires.n_in_bounds.1 _ c.requires.n_in_bounds.0 c.mark_reached.ensures; own_in_bounds = omega (arith, c.if-out-count.false, c.count_listed-count.ensures) }
+write_listed-requires c =
+    record {
+      names = names_there c.requires.sound_bytes c.names-names.ensures c.requires.n_in_bounds.1 _ c.requires.n_in_bounds.0 c.mark_reached.ensures;
+      own_in_bounds = omega (arith, c.if-out-count.false, c.count_listed-count.ensures);
+    }
 
 pub overflow_cast-result-2 : goal.overflow_cast-result-2
 overflow_cast-result-2 c =

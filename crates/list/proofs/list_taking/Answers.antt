@@ -18,10 +18,26 @@ admits : (a : In-Passed) → let s = a.args in
 admits a = record { passes = sym (ap header_outcome a.in-Passed.is) ∙ a.admit.ensures }
 
 pub returns-in-Refused : goal.returns-in-Refused
-returns-in-Refused c = let s = c.args in let both = lists_refused (forms_taken s.least s.most) _ _ s.marks.now s.work.now s.out.now (sym (ap header_outcome c.in-Refused.is) ∙ c.admit.ensures) in record { result_value = both.0; marks_after = both.1.0; work_after = both.1.1.0; out_after = both.1.1.1 }
+returns-in-Refused c =
+    let s = c.args in
+    let both = lists_refused (forms_taken s.least s.most) _ _ s.marks.now s.work.now s.out.now (sym (ap header_outcome c.in-Refused.is) ∙ c.admit.ensures) in
+    record {
+      result_value = both.0;
+      marks_after = both.1.0;
+      work_after = both.1.1.0;
+      out_after = both.1.1.1;
+    }
 
 pub returns-then-n-u : goal.returns-then-n-u
-returns-then-n-u c = let A = admits (goal.at.returns-then-n-u c).In-Passed in let both = lists_at _ _ _ _ _ _ A 0 (vertex_out (admitted_laid A) c.if-n-u.true) in record { result_value = both.0; marks_after = both.1.0; work_after = both.1.1.0; out_after = both.1.1.1 }
+returns-then-n-u c =
+    let A = admits (goal.at.returns-then-n-u c).In-Passed in
+    let both = lists_at _ _ _ _ _ _ A 0 (vertex_out (admitted_laid A) c.if-n-u.true) in
+    record {
+      result_value = both.0;
+      marks_after = both.1.0;
+      work_after = both.1.1.0;
+      out_after = both.1.1.1;
+    }
 
 pub words_needed-requires : goal.words_needed-requires
 words_needed-requires c = let L = admitted_laid (admits (goal.at.words_needed-requires c).In-Passed) in (L.vertices, (L.groups, L.entries))
@@ -36,10 +52,22 @@ pub returns-then-not-contents_sound : goal.returns-then-not-contents_sound
 returns-then-not-contents_sound c =
     let A = admits (goal.at.returns-then-not-contents_sound c).In-Passed in
     let L = admitted_laid A in
-    let (o, (m, (k, f))) = lists_at _ _ _ _ _ _ A 1 (vertex_in L c.if-n-u.false, contents_applies L c.contents_sound.ensures.value ∙ c.if-not-contents_sound.true-raw) in record { result_value = o; marks_after = cleared_in L _ c.contents_sound.ensures.marks_after ∙ m; work_after = words_cleared L c.words_needed.ensures.0 _ c.clear_words.ensures ∙ k; out_after = f }
+    let (o, (m, (k, f))) = lists_at _ _ _ _ _ _ A 1 (vertex_in L c.if-n-u.false, contents_applies L c.contents_sound.ensures.value ∙ c.if-not-contents_sound.true-raw) in
+    record {
+      result_value = o;
+      marks_after = cleared_in L _ c.contents_sound.ensures.marks_after ∙ m;
+      work_after = words_cleared L c.words_needed.ensures.0 _ c.clear_words.ensures ∙ k;
+      out_after = f;
+    }
 
 pub list_sound-requires : goal.list_sound-requires
-list_sound-requires c = let A = admits (goal.at.list_sound-requires c).In-Passed in record { sound_bytes = record { laid = admitted_laid A; contents = sym c.contents_sound.ensures.value ∙ c.if-not-contents_sound.false }; n_in_bounds = (omega (arith, admitted_room A, c.contents_sound.auto), c.if-n-u.false); marks_value = cleared_again _ _ c.contents_sound.ensures.marks_after }
+list_sound-requires c =
+    let A = admits (goal.at.list_sound-requires c).In-Passed in
+    record {
+      sound_bytes = record { laid = admitted_laid A; contents = sym c.contents_sound.ensures.value ∙ c.if-not-contents_sound.false };
+      n_in_bounds = (omega (arith, admitted_room A, c.contents_sound.auto), c.if-n-u.false);
+      marks_value = cleared_again _ _ c.contents_sound.ensures.marks_after;
+    }
 
 pub returns : goal.returns
 returns c =

@@ -42,7 +42,10 @@ returns-then-form-entries c =
 pub store_entries-requires : goal.store_entries-requires
 store_entries-requires c =
     let p = goal.at.store_entries-requires c in
-    record { at_in_bounds = ((said p.After-size_of).inside, (said p.After-size_of).counted); count_in_bounds = (c.if-sources-entries.false, c.if-targets-entries.false) }
+    record {
+      at_in_bounds = ((said p.After-size_of).inside, (said p.After-size_of).counted);
+      count_in_bounds = (c.if-sources-entries.false, c.if-targets-entries.false);
+    }
 
 pub returns-in-BadLine : goal.returns-in-BadLine
 returns-in-BadLine c = bad_text_lem _ _ _ _ (survey_is c.args.text.now c.in-BadLine.is c.look_over.ensures)

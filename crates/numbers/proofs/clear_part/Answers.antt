@@ -15,4 +15,8 @@ pub shape_of-words : goal.shape_of-words
 shape_of-words c = c.loop-i.invariant.1.kept.long
 
 pub returns : goal.returns
-returns c = record { kept = (written_all (λ i. replicate i 0) (omega arith) c.loop-i.invariant.1).0; n_after = (written_all (λ i. replicate i 0) (omega arith) c.loop-i.invariant.1).1 }
+returns c =
+    record {
+      kept = (written_all (λ i. replicate i 0) (omega arith) c.loop-i.invariant.1).0;
+      n_after = (written_all (λ i. replicate i 0) (omega arith) c.loop-i.invariant.1).1;
+    }

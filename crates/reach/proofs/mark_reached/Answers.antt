@@ -4,7 +4,11 @@ use Rattle.reach.proofs.Fitted.{rank_low, reach_is}
 use Rattle.reach.proofs.mark_reached.Goals as goal
 
 pub sweep_down-requires : goal.sweep_down-requires
-sweep_down-requires c = record { sound_bytes = c.requires.sound_bytes; n_in_bounds = (omega (arith, c.requires.n_in_bounds.0, c.mark_group.auto), omega (arith, rank_low c.requires.sound_bytes c.requires.n_in_bounds.1, c.rank_of-top.ensures)) }
+sweep_down-requires c =
+    record {
+      sound_bytes = c.requires.sound_bytes;
+      n_in_bounds = (omega (arith, c.requires.n_in_bounds.0, c.mark_group.auto), omega (arith, rank_low c.requires.sound_bytes c.requires.n_in_bounds.1, c.rank_of-top.ensures));
+    }
 
 pub returns : goal.returns
 returns c = reach_is c.requires.sound_bytes c.requires.n_in_bounds.1 _ c.requires.marks_value c.mark_group.ensures c.rank_of-top.ensures c.sweep_down.ensures

@@ -20,13 +20,30 @@ place_low : (c : After-place_of-p) → c.place_of-p.result < c.args.l.k
 place_low c = vertex_low (lent c.requires.sound_bytes.laid (with_names c.requires.sound_bytes.laid c.groups-groups.ensures c.labels-labels.ensures c.names-names.ensures) c.requires.sound_bytes.contents) c.requires.u_lt_n c.num.ensures.0 c.place_of-p.ensures
 
 pub num-requires : goal.num-requires
-num-requires c = let S = lent c.requires.sound_bytes.laid (given (goal.at.num-requires c).After-tuples-tuples) c.requires.sound_bytes.contents in record { width = S.width; w_in_bounds = room _ _ _ _ c.requires.u_lt_n (omega (arith, S.names_long)) }
+num-requires c =
+    let S = lent c.requires.sound_bytes.laid (given (goal.at.num-requires c).After-tuples-tuples) c.requires.sound_bytes.contents in
+    record {
+      width = S.width;
+      w_in_bounds = room _ _ _ _ c.requires.u_lt_n (omega (arith, S.names_long));
+    }
 
 pub place_of-p-requires : goal.place_of-p-requires
-place_of-p-requires c = let S = lent c.requires.sound_bytes.laid (given (goal.at.place_of-p-requires c).After-tuples-tuples) c.requires.sound_bytes.contents in record { width = S.width; k_in_bounds = (omega (arith, S.groups_long), S.groups_few); rises = list_rises S; by_index = list_low S; k_value = name_listed S c.requires.u_lt_n c.num.ensures.0 }
+place_of-p-requires c =
+    let S = lent c.requires.sound_bytes.laid (given (goal.at.place_of-p-requires c).After-tuples-tuples) c.requires.sound_bytes.contents in
+    record {
+      width = S.width;
+      k_in_bounds = (omega (arith, S.groups_long), S.groups_few);
+      rises = list_rises S;
+      by_index = list_low S;
+      k_value = name_listed S c.requires.u_lt_n c.num.ensures.0;
+    }
 
 pub e_of-requires : goal.e_of-requires
-e_of-requires c = record { tuples = tuples_held c.requires.sound_bytes (given (goal.at.e_of-requires c).After-tuples-tuples) _ c.tuples-tuples.ensures; p_lt_k = place_low (goal.at.e_of-requires c).After-place_of-p }
+e_of-requires c =
+    record {
+      tuples = tuples_held c.requires.sound_bytes (given (goal.at.e_of-requires c).After-tuples-tuples) _ c.tuples-tuples.ensures;
+      p_lt_k = place_low (goal.at.e_of-requires c).After-place_of-p;
+    }
 
 pub returns : goal.returns
 returns c =

@@ -12,7 +12,12 @@ given c = with_rows c.requires.sound_bytes.laid c.groups-groups.ensures c.labels
     c.children-children.ensures
 
 pub sweep-requires : goal.sweep-requires
-sweep-requires c = record { spots = spots c.requires.sound_bytes (given (goal.at.sweep-requires c).After-by_rank-places) _ c.requires.n_in_bounds.0; ranked = ranked c.requires.sound_bytes (given (goal.at.sweep-requires c).After-by_rank-places) _ c.by_rank-places.ensures; top_le_k = c.requires.n_in_bounds.1 }
+sweep-requires c =
+    record {
+      spots = spots c.requires.sound_bytes (given (goal.at.sweep-requires c).After-by_rank-places) _ c.requires.n_in_bounds.0;
+      ranked = ranked c.requires.sound_bytes (given (goal.at.sweep-requires c).After-by_rank-places) _ c.by_rank-places.ensures;
+      top_le_k = c.requires.n_in_bounds.1;
+    }
 
 pub returns : goal.returns
 returns c = swept_is c.requires.sound_bytes (given (goal.at.returns c).After-by_rank-places) _ c.by_rank-places.ensures _ _ c.sweep.ensures

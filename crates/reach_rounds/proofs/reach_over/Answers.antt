@@ -24,7 +24,11 @@ pub loop-marks-init : goal.loop-marks-init
 loop-marks-init c = rounding_none _ _ _ _ _ _
 
 pub sweep_down-requires : goal.sweep_down-requires
-sweep_down-requires c = record { sound_bytes = c.requires.sound_bytes; n_in_bounds = (omega (arith, c.loop-marks.invariant.long, c.requires.n_in_bounds.0), omega arith) }
+sweep_down-requires c =
+    record {
+      sound_bytes = c.requires.sound_bytes;
+      n_in_bounds = (omega (arith, c.loop-marks.invariant.long, c.requires.n_in_bounds.0), omega arith);
+    }
 
 pub bounds-marks-name : goal.bounds-marks-name
 bounds-marks-name c =
@@ -35,16 +39,29 @@ pub shape_of-marks-then-marks-name-eq1 : goal.shape_of-marks-then-marks-name-eq1
 shape_of-marks-then-marks-name-eq1 c = c.sweep_down.auto.marks ∙ c.loop-marks.invariant.long
 
 pub returns-then-marks-name-eq1 : goal.returns-then-marks-name-eq1
-returns-then-marks-name-eq1 c = let hit = mark_yes (index_in c.args.index.now).names c.sweep_down.new.marks c.args.target (name_here c.requires.sound_bytes c.names-names.ensures c.requires.n_in_bounds.1 c.num-name.ensures.0) c.if-marks-name-eq1.true in record { marks_after = rounding_hit c.loop-marks.invariant (swept_from_top c.requires.sound_bytes _ c.sweep_down.ensures) hit; value = sym hit }
+returns-then-marks-name-eq1 c =
+    let hit = mark_yes (index_in c.args.index.now).names c.sweep_down.new.marks c.args.target (name_here c.requires.sound_bytes c.names-names.ensures c.requires.n_in_bounds.1 c.num-name.ensures.0) c.if-marks-name-eq1.true in
+    record {
+      marks_after = rounding_hit c.loop-marks.invariant (swept_from_top c.requires.sound_bytes _ c.sweep_down.ensures) hit;
+      value = sym hit;
+    }
 
 pub shape_of-marks-then-left-lt1 : goal.shape_of-marks-then-left-lt1
 shape_of-marks-then-left-lt1 c = c.sweep_down.auto.marks ∙ c.loop-marks.invariant.long
 
 pub returns-then-left-lt1 : goal.returns-then-left-lt1
-returns-then-left-lt1 c = record { marks_after = rounding_last c.loop-marks.invariant (swept_from_top c.requires.sound_bytes _ c.sweep_down.ensures) c.if-left-lt1.true; value = sym (miss (goal.at.returns-then-left-lt1 c).Else-marks-name-eq1) }
+returns-then-left-lt1 c =
+    record {
+      marks_after = rounding_last c.loop-marks.invariant (swept_from_top c.requires.sound_bytes _ c.sweep_down.ensures) c.if-left-lt1.true;
+      value = sym (miss (goal.at.returns-then-left-lt1 c).Else-marks-name-eq1);
+    }
 
 pub spread-requires : goal.spread-requires
-spread-requires c = record { names = names_held c.requires.sound_bytes c.names-names.ensures _ (omega (arith, c.requires.n_in_bounds.0, c.loop-marks.invariant.long, c.sweep_down.auto)); sources_len = c.requires.sources_len }
+spread-requires c =
+    record {
+      names = names_held c.requires.sound_bytes c.names-names.ensures _ (omega (arith, c.requires.n_in_bounds.0, c.loop-marks.invariant.long, c.sweep_down.auto));
+      sources_len = c.requires.sources_len;
+    }
 
 pub shape_of-marks-then-not-spread : goal.shape_of-marks-then-not-spread
 shape_of-marks-then-not-spread c = c.spread.auto.marks ∙ c.sweep_down.auto.marks ∙ c.loop-marks.invariant.long

@@ -34,7 +34,11 @@ pub overflow_cast-t : goal.overflow_cast-t
 overflow_cast-t c = omega (arith, to_low (goal.at.overflow_cast-t c).In-loop-i, c.requires.names.held.few)
 
 pub leads_out-requires : goal.leads_out-requires
-leads_out-requires c = record { names = rw c.loop-i.invariant.1.long c.requires.names; s_lt_n = (from_low (goal.at.leads_out-requires c).In-loop-i, to_low (goal.at.leads_out-requires c).In-loop-i) }
+leads_out-requires c =
+    record {
+      names = rw c.loop-i.invariant.1.long c.requires.names;
+      s_lt_n = (from_low (goal.at.leads_out-requires c).In-loop-i, to_low (goal.at.leads_out-requires c).In-loop-i);
+    }
 
 pub num-to-requires : goal.num-to-requires
 num-to-requires c = can_read c.requires.names.held (to_low (goal.at.num-to-requires c).In-loop-i)

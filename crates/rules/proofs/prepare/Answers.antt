@@ -23,14 +23,26 @@ refuses : (n : In-Refused) → let s = n.args in
 refuses n = sym (ap header_outcome n.in-Refused.is) ∙ n.admit.ensures
 
 pub returns-in-Refused : goal.returns-in-Refused
-returns-in-Refused c = let s = c.args in let both = prepares_refused (forms_taken s.least s.most) _ s.changed.now s.marks.now s.work.now (refuses (goal.at.returns-in-Refused c).In-Refused) in record { result_value = both.0; marks_after = both.1.0; work_after = both.1.1 }
+returns-in-Refused c =
+    let s = c.args in
+    let both = prepares_refused (forms_taken s.least s.most) _ s.changed.now s.marks.now s.work.now (refuses (goal.at.returns-in-Refused c).In-Refused) in
+    record {
+      result_value = both.0;
+      marks_after = both.1.0;
+      work_after = both.1.1;
+    }
 
 pub returns-then-bad-changed : goal.returns-then-bad-changed
 returns-then-bad-changed c =
     let A = admits (goal.at.returns-then-bad-changed c).In-Passed in
     let L = admitted_laid A in
     let d = c.args.changed.now in
-    let (o, rest) = prepares_at _ _ d _ _ A 0 (one_out L d c.first_out-bad.ensures c.if-bad-changed.true) in record { result_value = out_at L d c.first_out-bad.ensures ∙ o; marks_after = rest.0; work_after = rest.1 }
+    let (o, rest) = prepares_at _ _ d _ _ A 0 (one_out L d c.first_out-bad.ensures c.if-bad-changed.true) in
+    record {
+      result_value = out_at L d c.first_out-bad.ensures ∙ o;
+      marks_after = rest.0;
+      work_after = rest.1;
+    }
 
 pub words_needed-requires : goal.words_needed-requires
 words_needed-requires c = let L = admitted_laid (admits (goal.at.words_needed-requires c).In-Passed) in (L.vertices, (L.groups, L.entries))
@@ -53,7 +65,12 @@ pub mark_affected-requires : goal.mark_affected-requires
 mark_affected-requires c =
     let A = admits (goal.at.mark_affected-requires c).In-Passed in
     let L = admitted_laid A in
-    let d = c.args.changed.now in record { sound_bytes = record { laid = L; contents = sym c.contents_sound.ensures.value ∙ c.if-not-contents_sound.false }; n_in_bounds = (omega (arith, admitted_room A, c.contents_sound.auto), in_range (n_is L) d (none_out L d c.first_out-bad.ensures c.if-bad-changed.false)); marks_value = cleared_again _ _ c.contents_sound.ensures.marks_after }
+    let d = c.args.changed.now in
+    record {
+      sound_bytes = record { laid = L; contents = sym c.contents_sound.ensures.value ∙ c.if-not-contents_sound.false };
+      n_in_bounds = (omega (arith, admitted_room A, c.contents_sound.auto), in_range (n_is L) d (none_out L d c.first_out-bad.ensures c.if-bad-changed.false));
+      marks_value = cleared_again _ _ c.contents_sound.ensures.marks_after;
+    }
 
 pub returns : goal.returns
 returns c =

@@ -18,7 +18,15 @@ answers : (l : In-Reached) → let s = l.args in
 answers l = sym (ap prepared_of l.in-Reached.is) ∙ l.prepare.ensures.result_value
 
 pub returns-in-Refused : goal.returns-in-Refused
-returns-in-Refused c = let s = c.args in let both = settles_refused (forms_taken s.least s.most) _ s.changed.now s.marks.now s.work.now (refuses (goal.at.returns-in-Refused c).In-Refused) s.vertices.now s.states.now c.prepare.ensures.marks_after c.prepare.ensures.work_after in record { result_value = both.0; marks_after = both.1.0; work_after = both.1.1.0; states_after = both.1.1.1 }
+returns-in-Refused c =
+    let s = c.args in
+    let both = settles_refused (forms_taken s.least s.most) _ s.changed.now s.marks.now s.work.now (refuses (goal.at.returns-in-Refused c).In-Refused) s.vertices.now s.states.now c.prepare.ensures.marks_after c.prepare.ensures.work_after in
+    record {
+      result_value = both.0;
+      marks_after = both.1.0;
+      work_after = both.1.1.0;
+      states_after = both.1.1.1;
+    }
 
 pub settle_states-requires : goal.settle_states-requires
 settle_states-requires c =
@@ -31,4 +39,12 @@ clear_marks-requires c =
     omega (arith, reached_room (forms_taken s.least s.most) _ s.changed.now s.marks.now s.work.now (answers (goal.at.clear_marks-requires c).In-Reached) c.prepare.ensures.marks_after)
 
 pub returns : goal.returns
-returns c = let s = c.args in let both = settles_done (forms_taken s.least s.most) _ s.changed.now s.marks.now s.work.now (answers (goal.at.returns c).In-Reached) c.prepare.ensures.marks_after s.vertices.now s.states.now c.settle_states.ensures c.clear_marks.ensures c.prepare.ensures.work_after in record { result_value = both.0; marks_after = both.1.0; work_after = both.1.1.0; states_after = both.1.1.1 }
+returns c =
+    let s = c.args in
+    let both = settles_done (forms_taken s.least s.most) _ s.changed.now s.marks.now s.work.now (answers (goal.at.returns c).In-Reached) c.prepare.ensures.marks_after s.vertices.now s.states.now c.settle_states.ensures c.clear_marks.ensures c.prepare.ensures.work_after in
+    record {
+      result_value = both.0;
+      marks_after = both.1.0;
+      work_after = both.1.1.0;
+      states_after = both.1.1.1;
+    }

@@ -11,7 +11,11 @@ pub overflow_cast-changed : goal.overflow_cast-changed
 overflow_cast-changed c = omega (arith, c.type_inv.changed c.loop-i.i)
 
 pub mark_group-requires : goal.mark_group-requires
-mark_group-requires c = record { sound_bytes = c.requires.sound_bytes; n_in_bounds = (omega (arith, c.requires.n_in_bounds.0, c.loop-i.invariant.1.0), c.requires.n_in_bounds.1.low _ (in_get_d c.args.changed.now c.loop-i.i c.loop-i-test.true)) }
+mark_group-requires c =
+    record {
+      sound_bytes = c.requires.sound_bytes;
+      n_in_bounds = (omega (arith, c.requires.n_in_bounds.0, c.loop-i.invariant.1.0), c.requires.n_in_bounds.1.low _ (in_get_d c.args.changed.now c.loop-i.i c.loop-i-test.true));
+    }
 
 pub loop-i-preserved : goal.loop-i-preserved
 loop-i-preserved c = (omega arith, (omega (arith, c.mark_group.auto, c.loop-i.invariant.1.0), mark_more _ _ _ _ c.loop-i.invariant.1.1 c.loop-i-test.true c.mark_group.ensures))

@@ -15,7 +15,17 @@ reaches : (n : In-Reached) → answered n.in-Reached.n ≡ (let a = n.args in pr
 reaches n = sym (ap prepared_of n.in-Reached.is) ∙ n.prepare.ensures.result_value
 
 pub returns-in-Refused : goal.returns-in-Refused
-returns-in-Refused c = record { answers = ap (λ (o : Outcome ℕ). work_of o c.args.have) (refuses (goal.at.returns-in-Refused c).In-Refused); leaves = c.prepare.ensures.marks_after; clears = c.prepare.ensures.work_after }
+returns-in-Refused c =
+    record {
+      answers = ap (λ (o : Outcome ℕ). work_of o c.args.have) (refuses (goal.at.returns-in-Refused c).In-Refused);
+      leaves = c.prepare.ensures.marks_after;
+      clears = c.prepare.ensures.work_after;
+    }
 
 pub returns-in-Reached : goal.returns-in-Reached
-returns-in-Reached c = record { answers = ap (λ (o : Outcome ℕ). work_of o c.args.have) (reaches (goal.at.returns-in-Reached c).In-Reached); leaves = c.prepare.ensures.marks_after; clears = c.prepare.ensures.work_after }
+returns-in-Reached c =
+    record {
+      answers = ap (λ (o : Outcome ℕ). work_of o c.args.have) (reaches (goal.at.returns-in-Reached c).In-Reached);
+      leaves = c.prepare.ensures.marks_after;
+      clears = c.prepare.ensures.work_after;
+    }

@@ -22,7 +22,10 @@ returns-then-not-ranks_pass c = told_at _ _ _ _ _ _ _ c.if-z-eq3.true (and_fails
 
 pub intervals_pass-requires : goal.intervals_pass-requires
 intervals_pass-requires c =
-    record { places = c.requires.places; ranked = ranked_after (labels_at c.if-z-eq3.true c.requires.labels) c.ranks_pass.ensures (ap not c.if-not-ranks_pass.false) }
+    record {
+      places = c.requires.places;
+      ranked = ranked_after (labels_at c.if-z-eq3.true c.requires.labels) c.ranks_pass.ensures (ap not c.if-not-ranks_pass.false);
+    }
 
 pub returns-then-not-intervals_pass : goal.returns-then-not-intervals_pass
 returns-then-not-intervals_pass c =

@@ -68,7 +68,13 @@ pub returns-then-not-counts_fit : goal.returns-then-not-counts_fit
 returns-then-not-counts_fit c = header_counts _ _ _ _ (read (goal.at.returns-then-not-counts_fit c).After-form_row-row) (taken (goal.at.returns-then-not-counts_fit c).After-form_row-row) (sym c.counts_fit.ensures ∙ c.if-not-counts_fit.true)
 
 pub lay_out-l-requires : goal.lay_out-l-requires
-lay_out-l-requires c = let B = fit_bounds (form (goal.at.lay_out-l-requires c).After-form_row-row) _ (fit (goal.at.lay_out-l-requires c).Else-not-counts_fit) in record { width = width_in (read (goal.at.lay_out-l-requires c).After-form_row-row) B.width; stride = stride_in (read (goal.at.lay_out-l-requires c).After-form_row-row) B.stride; n_le_vertex_bound = (B.vertices, (B.groups, (B.entries, B.most))) }
+lay_out-l-requires c =
+    let B = fit_bounds (form (goal.at.lay_out-l-requires c).After-form_row-row) _ (fit (goal.at.lay_out-l-requires c).Else-not-counts_fit) in
+    record {
+      width = width_in (read (goal.at.lay_out-l-requires c).After-form_row-row) B.width;
+      stride = stride_in (read (goal.at.lay_out-l-requires c).After-form_row-row) B.stride;
+      n_le_vertex_bound = (B.vertices, (B.groups, (B.entries, B.most)));
+    }
 
 pub returns-then-not-offsets_fit : goal.returns-then-not-offsets_fit
 returns-then-not-offsets_fit c = header_offsets _ _ _ _ (read (goal.at.returns-then-not-offsets_fit c).After-form_row-row) (taken (goal.at.returns-then-not-offsets_fit c).After-form_row-row) (fit (goal.at.returns-then-not-offsets_fit c).Else-not-counts_fit) c.lay_out-l.ensures (sym c.offsets_fit.ensures ∙ c.if-not-offsets_fit.true)

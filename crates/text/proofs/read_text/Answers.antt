@@ -44,7 +44,11 @@ pub returns-then-v-eq0 : goal.returns-then-v-eq0
 returns-then-v-eq0 c = record { read = first_missing c.read_block-v.ensures c.if-v-eq0.true; within = omega arith }
 
 pub returns-then-n-gt-MOST_VERTICES : goal.returns-then-n-gt-MOST_VERTICES
-returns-then-n-gt-MOST_VERTICES c = record { read = first_high _ c.read_block-v.ensures (one (goal.at.returns-then-n-gt-MOST_VERTICES c).Else-v-eq0) (sym c.size_of-n.ensures) c.if-n-gt-MOST_VERTICES.true; within = omega arith }
+returns-then-n-gt-MOST_VERTICES c =
+    record {
+      read = first_high _ c.read_block-v.ensures (one (goal.at.returns-then-n-gt-MOST_VERTICES c).Else-v-eq0) (sym c.size_of-n.ensures) c.if-n-gt-MOST_VERTICES.true;
+      within = omega arith;
+    }
 
 pub read_block-q-requires : goal.read_block-q-requires
 read_block-q-requires c = (refl, (c.read_block-o.ensures.inside, c.requires.lent.asked_long))

@@ -34,7 +34,10 @@ returns-then-b-letter c =
 pub returns-else-b-letter : goal.returns-else-b-letter
 returns-else-b-letter c =
     let a = c.args in
-    record { kept = refl; read = sym (ap (after (take a.base a.into.now) a.at) (other_letter _ _ _ (here (goal.at.returns-else-b-letter c).In-Letter) c.if-b-letter.false)) }
+    record {
+      kept = refl;
+      read = sym (ap (after (take a.base a.into.now) a.at) (other_letter _ _ _ (here (goal.at.returns-else-b-letter c).In-Letter) c.if-b-letter.false));
+    }
 
 pub returns-in_default : goal.returns-in_default
 returns-in_default c =

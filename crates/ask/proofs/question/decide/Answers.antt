@@ -118,7 +118,8 @@ by_walk-requires c =
 pub returns : goal.returns
 returns c =
     let r = c.walk_from-a in
-    let opens = walk_opens c.requires.fit _ c.args.x (marks (goal.at.returns c).Start) r.result.found r.result.deciding r.result.opened _ r.ensures.marks_after in record {
+    let opens = walk_opens c.requires.fit _ c.args.x (marks (goal.at.returns c).Start) r.result.found r.result.deciding r.result.opened _ r.ensures.marks_after in
+    record {
       marks_after = rule_5_6 c.requires.fit c.args.x (marks (goal.at.returns c).Start) c.by_walk.result c.if-x-t.false c.requires.x_lt_k.0 _ _ c.num-level.ensures.0
           c.num.ensures.0
           c.if-level-num.false c.judge-j.ensures c.if-j-gt0.false c.if-j-gt0-2.false _ _ _ _ r.ensures.marks_after c.by_walk.ensures;

@@ -11,7 +11,11 @@ pub overflow_add-label_count : goal.overflow_add-label_count
 overflow_add-label_count c = omega (arith, tuples_few c.requires.labellings, c.label_count.ensures.1)
 
 pub numbers_from-requires : goal.numbers_from-requires
-numbers_from-requires c = record { width = c.requires.labellings.width; count_bound = labelling_fits c.requires.labellings _ _ _ c.requires.j_lt_d (omega (arith, c.label_count.ensures.0, tuples_few c.requires.labellings)) }
+numbers_from-requires c =
+    record {
+      width = c.requires.labellings.width;
+      count_bound = labelling_fits c.requires.labellings _ _ _ c.requires.j_lt_d (omega (arith, c.label_count.ensures.0, tuples_few c.requires.labellings));
+    }
 
 pub returns : goal.returns
 returns c = part_from _ _ _ _ _ _ (omega (arith, c.label_count.ensures.0)) c.numbers_from.ensures
