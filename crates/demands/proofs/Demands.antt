@@ -1,7 +1,7 @@
 -- The three demands on the calls, proved. specs/ says what each is; what follows is the laws of this crate and of those below, cited.
 use mathlib.Core.Path.{sym}
 use Rattle.lineage.specs.Calls.{build_answer, build_call, open_answer, ask_answer, list_answer}
-use Rattle.build.proofs.build as build_call_lem
+use Rattle.build.proofs.build as building_call
 use Rattle.build.proofs.build_hierarchy as build_hierarchy_call
 use Rattle.build.proofs.Theorems.{built_once, build_finishes}
 use Rattle.build.proofs.Hierarchy.{hierarchy_once, hierarchy_finishes, finished_hierarchy}
@@ -46,9 +46,9 @@ use Rattle.exceptions.specs.Calls.{exceptions_built, exceptions_opened, exceptio
 use Rattle.exceptions.proofs.build_exceptions as build_exceptions_call
 use Rattle.exceptions.proofs.open_exceptions as open_exceptions_call
 use Rattle.exceptions.proofs.ask_exceptions as ask_exceptions_call
-use Rattle.exceptions.proofs.Building as exceptions_built_lem
-use Rattle.exceptions.proofs.Opening as exceptions_opened_lem
-use Rattle.exceptions.proofs.Asking as exceptions_asked_lem
+use Rattle.exceptions.proofs.Building as lists_building
+use Rattle.exceptions.proofs.Opening as lists_opening
+use Rattle.exceptions.proofs.Asking as lists_asking
 use Rattle.exceptions_all.specs.Batch.{all_exceptions}
 use Rattle.exceptions_all.proofs.ask_all_exceptions as ask_all_exceptions_call
 use Rattle.exceptions_all.proofs.Theorems as exceptions_asked_all
@@ -73,7 +73,7 @@ pub demand_1 : EveryCall
 unfolding build_answer build_call open_answer ask_answer batch_answer list_answer chain_answer added_answer convert_answer rules_answer matrix_read_answer matrix_write_answer exceptions_built exceptions_opened exceptions_asked all_exceptions turn_answer
 demand_1 = record {
   build = record {
-    met = build_call_lem.Met.met;
+    met = building_call.Met.met;
     nothing_asked = λ κs a. tt;
     allows = λ κs a r e (answers, (leaves, writes)). record { answers = answers; leaves = leaves; writes = writes };
     once = λ κs a r r' e e'. built_once;
@@ -214,19 +214,19 @@ demand_1 = record {
     met = build_exceptions_call.Met.met;
     nothing_asked = λ κs a. tt;
     allows = λ κs a r e (answers, (leaves, writes)). record { answers = answers; leaves = leaves; writes = writes };
-    once = λ κs a r r' e e'. exceptions_built_lem.built_once;
+    once = λ κs a r r' e e'. lists_building.built_once;
   };
   opens_exceptions = record {
     met = open_exceptions_call.Met.met;
     nothing_asked = λ κs a. tt;
     allows = λ κs a r e (answers, leaves). record { answers = answers; leaves = leaves };
-    once = λ κs a r r' e e'. exceptions_opened_lem.opened_once;
+    once = λ κs a r r' e e'. lists_opening.opened_once;
   };
   ask_exceptions = record {
     met = ask_exceptions_call.Met.met;
     nothing_asked = λ κs a. tt;
     allows = λ κs a r e (answers, leaves). record { answers = answers; leaves = leaves };
-    once = λ κs a r r' e e'. exceptions_asked_lem.said_once;
+    once = λ κs a r r' e e'. lists_asking.said_once;
   };
   ask_all_exceptions = record {
     met = ask_all_exceptions_call.Met.met;

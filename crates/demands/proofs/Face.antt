@@ -16,7 +16,7 @@ use Rattle.face_ask.proofs.drobisten_convert_down as convert_down_call
 use Rattle.face_list.proofs.drobisten_list as list_call
 use Rattle.face_list.proofs.drobisten_list_turned as list_turned_call
 use Rattle.face_list.proofs.drobisten_chain as chain_call
-use Rattle.face_build.proofs.drobisten_build as build_call_lem
+use Rattle.face_build.proofs.drobisten_build as building_call
 use Rattle.face_build.proofs.drobisten_build_turned as build_turned_call
 use Rattle.face_build.proofs.drobisten_run as run_call
 use Rattle.face_beside.proofs.drobisten_add as add_call
@@ -112,7 +112,7 @@ demand_1_from_c = record {
     once = λ κs a r r' e e'. listing.chained_once;
   };
   builds = record {
-    met = build_call_lem.Met.met;
+    met = building_call.Met.met;
     nothing_asked = λ κs a. tt;
     allows = λ κs a r e (returns, (leaves, writes)). record { returns = returns; leaves = leaves; writes = writes };
     once = λ κs a r r' e e'. building.built_once;

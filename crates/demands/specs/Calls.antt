@@ -20,7 +20,7 @@ use Rattle.lineage.specs.Graph.{Graph}
 use Rattle.lineage.specs.Stored.{form2, form3, form4, form_of}
 use Rattle.lineage.specs.Calls.{Check, check, refused, FormsTaken, host, ordinary, turned, hierarchy, takes, Input, turned_input, build_early, build_late, build_answer, build_call, form_checks, contents_check, open_answer, ask_early, ask_answer, list_early, list_late, list_answer}
 use Rattle.build.specs.Input.{input_of}
-use Rattle.build.proofs.build as build_call_lem
+use Rattle.build.proofs.build as building_call
 use Rattle.build.proofs.build_hierarchy as build_hierarchy_call
 use Rattle.build.proofs.Theorems as build
 use Rattle.build.proofs.Hierarchy as plain
@@ -68,9 +68,9 @@ use Rattle.exceptions.specs.Calls as lists_calls
 use Rattle.exceptions.proofs.build_exceptions as build_exceptions_call
 use Rattle.exceptions.proofs.open_exceptions as open_exceptions_call
 use Rattle.exceptions.proofs.ask_exceptions as ask_exceptions_call
-use Rattle.exceptions.proofs.Building as exceptions_built_lem
-use Rattle.exceptions.proofs.Opening as exceptions_opened_lem
-use Rattle.exceptions.proofs.Asking as exceptions_asked_lem
+use Rattle.exceptions.proofs.Building as lists_building
+use Rattle.exceptions.proofs.Opening as lists_opening
+use Rattle.exceptions.proofs.Asking as lists_asking
 use Rattle.exceptions_all.specs.Batch.{all_late, all_exceptions}
 use Rattle.exceptions_all.proofs.ask_all_exceptions as ask_all_exceptions_call
 use Rattle.exceptions_all.proofs.Theorems as exceptions_asked_all
@@ -130,7 +130,7 @@ pub record Refuses (cs : List Check) (number extra : ℕ) : Type 0 where
 
 -- Of every call that Rattle code makes (Face has those that C makes): its arguments in the order of its parameters, the answer r, and the arguments as they are left; `now` is what a buffer holds.
 pub record EveryCall : Type 2 where
-  pub build : Answers build_call_lem.Kinds.ps build_call_lem.Kinds.r build_call_lem.Statement.statement build_call_lem.Reads.Asked build_call_lem.Reads.Learnt
+  pub build : Answers building_call.Kinds.ps building_call.Kinds.r building_call.Statement.statement building_call.Reads.Asked building_call.Reads.Learnt
       (λ κs (form, (n, (sources, (targets, (orders, (d, (work, (out, _)))))))) r (_, (_, (_, (_, (_, (_, (work', (out', _)))))))).
       build.Allowed form (input_of n sources.now targets.now d orders.now) work.now out.now r work'.now out'.now)
       (λ κs (_, (_, (_, (_, (_, (_, (work, (out, _)))))))) (_, (_, (_, (_, (_, (_, (work', (out', _)))))))). (work.now ≡ work'.now) × (out.now ≡ out'.now))
@@ -245,16 +245,16 @@ pub record EveryCall : Type 2 where
   -- the calls on exception lists
   pub build_exceptions : Answers build_exceptions_call.Kinds.ps build_exceptions_call.Kinds.r build_exceptions_call.Statement.statement build_exceptions_call.Reads.Asked
       build_exceptions_call.Reads.Learnt
-      (λ κs (index, (marks, (out, _))) r (_, (marks', (out', _))). exceptions_built_lem.Allowed index.now marks.now out.now r marks'.now out'.now)
+      (λ κs (index, (marks, (out, _))) r (_, (marks', (out', _))). lists_building.Allowed index.now marks.now out.now r marks'.now out'.now)
       (λ κs (_, (marks, (out, _))) (_, (marks', (out', _))). (marks.now ≡ marks'.now) × (out.now ≡ out'.now))
   pub opens_exceptions : Answers open_exceptions_call.Kinds.ps open_exceptions_call.Kinds.r open_exceptions_call.Statement.statement open_exceptions_call.Reads.Asked
       open_exceptions_call.Reads.Learnt
-      (λ κs (index, (lists, (marks, _))) r (_, (_, (marks', _))). exceptions_opened_lem.Allowed index.now lists.now marks.now r marks'.now)
+      (λ κs (index, (lists, (marks, _))) r (_, (_, (marks', _))). lists_opening.Allowed index.now lists.now marks.now r marks'.now)
       (λ κs (_, (_, (marks, _))) (_, (_, (marks', _))). marks.now ≡ marks'.now)
   pub ask_exceptions : Answers ask_exceptions_call.Kinds.ps ask_exceptions_call.Kinds.r ask_exceptions_call.Statement.statement ask_exceptions_call.Reads.Asked
       ask_exceptions_call.Reads.Learnt
       (λ κs (index, (lists, (source, (target, (marks, _))))) r (_, (_, (_, (_, (marks', _))))).
-      exceptions_asked_lem.Allowed index.now lists.now source target marks.now r marks'.now)
+      lists_asking.Allowed index.now lists.now source target marks.now r marks'.now)
       (λ κs (_, (_, (_, (_, (marks, _))))) (_, (_, (_, (_, (marks', _))))). marks.now ≡ marks'.now)
   pub ask_all_exceptions : Answers ask_all_exceptions_call.Kinds.ps ask_all_exceptions_call.Kinds.r ask_all_exceptions_call.Statement.statement
       ask_all_exceptions_call.Reads.Asked ask_all_exceptions_call.Reads.Learnt

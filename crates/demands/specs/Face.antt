@@ -22,7 +22,7 @@ use Rattle.face_ask.proofs.drobisten_convert_down as convert_down_call
 use Rattle.face_list.proofs.drobisten_list as list_call
 use Rattle.face_list.proofs.drobisten_list_turned as list_turned_call
 use Rattle.face_list.proofs.drobisten_chain as chain_call
-use Rattle.face_build.proofs.drobisten_build as build_call_lem
+use Rattle.face_build.proofs.drobisten_build as building_call
 use Rattle.face_build.proofs.drobisten_build_turned as build_turned_call
 use Rattle.face_build.proofs.drobisten_run as run_call
 use Rattle.face_beside.proofs.drobisten_add as add_call
@@ -97,7 +97,7 @@ pub record EveryExport : Type 2 where
       listing.Chains ordinary index.now source target marks.now work.now steps.now r marks'.now work'.now steps'.now)
       (λ κs (_, (marks, (work, (steps, _)))) (_, (marks', (work', (steps', _)))). (marks.now ≡ marks'.now) × ((work.now ≡ work'.now) × (steps.now ≡ steps'.now)))
   -- those that make bytes
-  pub builds : Answers build_call_lem.Kinds.ps build_call_lem.Kinds.r build_call_lem.Statement.statement build_call_lem.Reads.Asked build_call_lem.Reads.Learnt
+  pub builds : Answers building_call.Kinds.ps building_call.Kinds.r building_call.Statement.statement building_call.Reads.Asked building_call.Reads.Learnt
       (λ κs (sources, (targets, (orders, (work, (out, (form, (n, (d, _)))))))) r (_, (_, (_, (work', (out', _))))).
       building.Builds form (input_of n sources.now targets.now d orders.now) work.now out.now r work'.now out'.now)
       (λ κs (_, (_, (_, (work, (out, _))))) (_, (_, (_, (work', (out', _))))). (work.now ≡ work'.now) × (out.now ≡ out'.now))
