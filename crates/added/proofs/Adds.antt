@@ -1,17 +1,16 @@
--- What adding an edge says and changes, by where its checks stop: at 7, at 21, or nowhere; and an edge that is taken stands behind those that stood.
-use mathlib.Core.Bool.{true, false, ◌||◌}
+-- What adding an edge says and changes where no check stops it; and the edge that is taken stands behind those that stood.
+use mathlib.Core.Bool.{false, ◌||◌}
 use mathlib.Core.Path.{◌≡◌, refl, ap, ◌∙◌}
 use mathlib.Core.List.{List, [], ◌∷◌, ◌++◌}
-use Prim.Native.Nat.{ℕ, zero, suc, ◌+◌, ◌≤◌, ◌<◌}
+use Prim.Native.Nat.{ℕ, zero, suc, ◌+◌, ◌<◌}
 use native.Mathlib.Numerals.{add-one}
 use native.Mathlib.Omega.{arith}
 use lib.Dec.{leb}
 use lib.ListN.{length, set, take, length-set}
-use borrow.Author.Tests.{leb-false, le-leb, lt-leb}
-use Rattle.lineage.specs.Calls.{Outcome, refused, answered}
+use borrow.Author.Tests.{leb-false, lt-leb}
+use Rattle.lineage.specs.Calls.{Outcome, answered}
 use Rattle.laws.specs.Checks.{Pass}
 use Rattle.laws.proofs.Checks.{answered_pass}
-use Rattle.laws.proofs.Tests.{or_left, or_right}
 use Rattle.added.specs.declared.Added.{Added}
 use Rattle.added.specs.Adding.{most_added, add_checks, add_answer, add_state}
 use Rattle.added.specs.Asked.{sources_of, targets_of}
@@ -22,27 +21,12 @@ module _ (a : Added) (n from to : ℕ) where
   abbrev Says : Outcome (Unit {0}) → Added → Type 0
   Says o a' = (o ≡ add_answer a.count n from to) × (a' ≡ add_state a n from to)
 
-  ends_in : from < n → to < n → (leb n from || leb n to) ≡ false
-  ends_in h j = rw (lt-leb n from h, lt-leb n to j) refl
-
-  -- nothing is changed
-  module _ {o : Outcome (Unit {0})} {a' : Added} where
-    bad : (leb n from || leb n to) ≡ true → (o ≡ refused 7 0) × (a' ≡ a) → Says o a'
-    bad h e = (rw h e.0, rw h e.1)
-
-    pub adds_bad_source : n ≤ from → (o ≡ refused 7 0) × (a' ≡ a) → Says o a'
-    adds_bad_source h = bad (or_left (leb n to) (le-leb n from h))
-
-    pub adds_bad_target : n ≤ to → (o ≡ refused 7 0) × (a' ≡ a) → Says o a'
-    adds_bad_target h = bad (or_right (leb n from) (le-leb n to h))
-
-    pub adds_full : from < n → to < n → most_added ≤ a.count → (o ≡ refused 21 0) × (a' ≡ a) → Says o a'
-    adds_full h j f e = let b = ends_in h j in let m = le-leb most_added a.count f in (rw (b, m) e.0, rw (b, m) e.1)
-
   pub adds_one :
       from < n → to < n → a.count < most_added
       → Says (answered tt) (record { sources = set a.sources a.count from; targets = set a.targets a.count to; count = a.count + 1 })
-  adds_one h j f = let b = ends_in h j in let m = lt-leb most_added a.count f in (rw (b, m) refl, rw (b, m) refl)
+  adds_one h j f =
+      let b : (leb n from || leb n to) ≡ false = rw (lt-leb n from h, lt-leb n to j) refl in
+      let m = lt-leb most_added a.count f in (rw (b, m) refl, rw (b, m) refl)
 
 -- one more of a list, once it is set
 take_set : (xs : List ℕ) (i x : ℕ) → i < length xs → take (suc i) (set xs i x) ≡ take i xs ++ (x ∷ [])

@@ -6,7 +6,7 @@ use Prim.Native.Nat.{ℕ, ◌≤◌, ◌<◌}
 use native.Mathlib.Omega.{arith}
 use lib.Dec.{leb, ltb}
 use lib.ListN.{length, get_or}
-use borrow.Author.Tests.{leb-false, lt-ltb, le-ltb}
+use borrow.Author.Tests.{leb-false, le-ltb}
 use Rattle.lineage.specs.Lists.{upto, any, first_of, cleared}
 use Rattle.lineage.specs.Stored.{counts_in}
 use Rattle.lineage.specs.Calls.{Check, check, Outcome, refused, answered, outcome, FormsTaken, words_in, form_checks, bad_edge, contents_check, index_in}
@@ -48,14 +48,11 @@ module _ (n : ℕ) (S T : List ℕ) {first : ℕ} (found : first ≡ first_of (b
     pub over_low : length S ≡ length T → Low n S × Low n T
     over_low paired = none_bad n S T paired none
 
-    pub over_says : {says r : Bool} → r ≡ says → {t : Bool} → r ≡ t → answered t ≡ outcome (bad_added (graph_of n S T) ∷ []) says
-    over_says e f = rw none (ap answered (sym f ∙ e))
+    pub over_says : {says r : Bool} → r ≡ says → answered r ≡ outcome (bad_added (graph_of n S T) ∷ []) says
+    over_says e = rw none (ap answered e)
 
 -- the state's edges
 module _ (n : ℕ) (a : Added) (says : Bool) where
-  pub sound_many : most_added < a.count → refused 21 0 ≡ outcome (added_checks n a) says
-  sound_many h = rw (lt-ltb most_added a.count h) refl
-
   pub sound_over :
       a.count ≤ most_added → {o : Outcome Bool} → o ≡ outcome (bad_added (graph_of n (sources_of a) (targets_of a)) ∷ []) says → o ≡ outcome (added_checks n a) says
   sound_over h e = rw (le-ltb most_added a.count h) e

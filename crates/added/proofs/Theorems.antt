@@ -11,6 +11,9 @@ use native.Mathlib.Omega.{arith}
 use lib.Dec.{leb}
 use lib.ListN.{length, take, length-take}
 use borrow.Author.Tests.{leb-false, ltb-false}
+use Rattle.std.specs.Prelude.{Result}
+use Rattle.refusals.specs.declared.Refusal.{Refusal}
+use Rattle.refusals.proofs.Told.{outcome_once}
 use Rattle.lineage.specs.Lists.{Every}
 use Rattle.lineage.specs.Graph.{Graph, Edge, Ends, Reaches}
 use Rattle.lineage.specs.Labels.{Order}
@@ -35,12 +38,8 @@ use Rattle.reach_rounds.specs.Over.{added_says}
 use Rattle.reach_rounds.specs.Rounds.{Low}
 use Rattle.added.specs.declared.Added.{Added}
 use Rattle.added.specs.declared.Adding.{Adding}
-use Rattle.added.specs.declared.Taken.{Taken}
-use Rattle.added.specs.declared.Taken.TheVariants as taken
-use Rattle.added.specs.declared.AskedAdded.{AskedAdded}
-use Rattle.added.specs.declared.AskedAdded.TheVariants.{Yes, No, Refused}
-use Rattle.added.specs.Adding.{most_added, taken_of}
-use Rattle.added.specs.Asked.{sources_of, targets_of, added_checks, added_late, added_answer, asked_added_of}
+use Rattle.added.specs.Adding.{most_added}
+use Rattle.added.specs.Asked.{sources_of, targets_of, added_checks, added_late, added_answer}
 use Rattle.added.specs.Allowed.{Adds, Allowed}
 use Rattle.added.specs.Right.{with_edges, Pairs}
 use Rattle.added.proofs.Says.{edges_low}
@@ -48,35 +47,18 @@ use Rattle.added.proofs.Refusals.{none_bad}
 use Rattle.added.proofs.Right.{all_ends, says_right}
 
 -- two results that a contract allows are equal
-taken_one : (r r' : Taken) → taken_of r ≡ taken_of r' → r ≡ r'
-taken_one taken.Done taken.Done e = refl
-taken_one taken.Done (taken.Refused number extra) e = let z : ◌≡◌ {A = ℕ} 0 1 = cc in absurd (omega arith)
-taken_one (taken.Refused number extra) taken.Done e = let z : ◌≡◌ {A = ℕ} 0 1 = cc in absurd (omega arith)
-taken_one (taken.Refused number extra) (taken.Refused number' extra') e = cc
-
 adding_one :
-    {answer answer' : Taken} {state state' : Added} → answer ≡ answer' → state ≡ state'
+    {answer answer' : Result (Unit {0}) Refusal} {state state' : Added} → answer ≡ answer' → state ≡ state'
     → ◌≡◌ {A = Adding} (record { answer = answer; state = state }) (record { answer = answer'; state = state' })
 adding_one a s = cc
 
 pub add_once : {state : Added} {n from to : ℕ} {r r' : Adding} → Adds state n from to r → Adds state n from to r' → r ≡ r'
-add_once A B = adding_one (taken_one _ _ (A.answers ∙ sym B.answers)) (A.changes ∙ sym B.changes)
-
-asked_one : (r r' : AskedAdded) → asked_added_of r ≡ asked_added_of r' → r ≡ r'
-asked_one Yes Yes e = refl
-asked_one Yes No e = let z : ◌≡◌ {A = ℕ} 0 1 = cc in absurd (omega arith)
-asked_one Yes (Refused number extra) e = let z : ◌≡◌ {A = ℕ} 0 1 = cc in absurd (omega arith)
-asked_one No Yes e = let z : ◌≡◌ {A = ℕ} 0 1 = cc in absurd (omega arith)
-asked_one No No e = refl
-asked_one No (Refused number extra) e = let z : ◌≡◌ {A = ℕ} 0 1 = cc in absurd (omega arith)
-asked_one (Refused number extra) Yes e = let z : ◌≡◌ {A = ℕ} 0 1 = cc in absurd (omega arith)
-asked_one (Refused number extra) No e = let z : ◌≡◌ {A = ℕ} 0 1 = cc in absurd (omega arith)
-asked_one (Refused number extra) (Refused number' extra') e = cc
+add_once A B = adding_one (outcome_once (λ (done : Unit {0}). done) (λ a a' e. e) _ _ (A.answers ∙ sym B.answers)) (A.changes ∙ sym B.changes)
 
 pub added_once :
-    {T : FormsTaken} {b : List ℕ} {a : Added} {u v : ℕ} {marks work : List ℕ} {r r' : AskedAdded} {ms ms' ws ws' : List ℕ}
+    {T : FormsTaken} {b : List ℕ} {a : Added} {u v : ℕ} {marks work : List ℕ} {r r' : Result Bool Refusal} {ms ms' ws ws' : List ℕ}
     → Allowed T b a u v marks work r ms ws → Allowed T b a u v marks work r' ms' ws' → (r ≡ r') × ((ms ≡ ms') × (ws ≡ ws'))
-added_once A B = (asked_one _ _ (A.answers ∙ sym B.answers), (A.leaves ∙ sym B.leaves, A.clears ∙ sym B.clears))
+added_once A B = (outcome_once (λ (says : Bool). says) (λ s s' e. e) _ _ (A.answers ∙ sym B.answers), (A.leaves ∙ sym B.leaves, A.clears ∙ sym B.clears))
 
 -- A question over added edges that is answered.
 module _ (T : FormsTaken) (b : List ℕ) (a : Added) (P : Pairs a) (u v marks work : ℕ) (s : Bool) (e : added_answer T b a u v marks work ≡ answered s) where

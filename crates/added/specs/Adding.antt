@@ -1,9 +1,9 @@
 -- Adding an edge between two builds (document 02, [10]): the checks in order, the answer, and the pairs and the count afterwards.
-use Rattle.std.specs.Prelude.{◌||◌, cond, List, [], ◌∷◌, ℕ, ◌+◌, leb, set}
-use Rattle.lineage.specs.Calls.{Check, check, Outcome, refused, answered, outcome, any_applies}
+use Rattle.std.specs.Prelude.{◌||◌, cond, List, [], ◌∷◌, ℕ, ◌+◌, leb, set, Result}
+use Rattle.lineage.specs.Calls.{Check, check, Outcome, outcome, any_applies}
+use Rattle.refusals.specs.declared.Refusal.{Refusal}
+use Rattle.refusals.specs.Refusals.{outcome_by}
 use Rattle.added.specs.declared.Added.{Added}
-use Rattle.added.specs.declared.Taken.{Taken}
-use Rattle.added.specs.declared.Taken.TheVariants.{Done, Refused}
 
 -- the most edges that may be added
 abbrev pub most_added : ℕ
@@ -25,6 +25,5 @@ add_state a n from to =
     (record { sources = set a.sources a.count from; targets = set a.targets a.count to; count = a.count + 1 })
 
 -- the number and values that the document gives each case
-abbrev pub taken_of : Taken → Outcome (Unit {0})
-taken_of Done = answered tt
-taken_of (Refused number extra) = refused number extra
+abbrev pub taken_of : Result (Unit {0}) Refusal → Outcome (Unit {0})
+taken_of r = outcome_by (λ (done : Unit {0}). done) r

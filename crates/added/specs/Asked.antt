@@ -1,16 +1,16 @@
 -- A question over an index and the edges added beside it (document 02, [10]): the checks in order, the answer, and what every lent buffer holds afterwards. Of the pairs
 -- only the first `count` are looked at.
-use Rattle.std.specs.Prelude.{Bool, true, false, List, [], ◌∷◌, ◌++◌, ℕ, ltb, length, take}
+use Rattle.std.specs.Prelude.{Bool, List, [], ◌∷◌, ◌++◌, ℕ, ltb, length, take, Result}
 use Rattle.lineage.specs.Lists.{upto, any, first_of}
 use Rattle.lineage.specs.Graph.{Graph}
 use Rattle.lineage.specs.Stored.{counts_in, decode}
 use Rattle.lineage.specs.Sound.{contents_sound}
-use Rattle.lineage.specs.Calls.{Check, check, Outcome, refused, answered, outcome, FormsTaken, bad_edge, contents_check, index_in, marks_after, work_after, ask_early}
+use Rattle.lineage.specs.Calls.{Check, check, Outcome, outcome, FormsTaken, bad_edge, contents_check, index_in, marks_after, work_after, ask_early}
+use Rattle.refusals.specs.declared.Refusal.{Refusal}
+use Rattle.refusals.specs.Refusals.{outcome_by}
 use Rattle.build_orders.specs.Input.{graph_of}
 use Rattle.reach_rounds.specs.Over.{added_says}
 use Rattle.added.specs.declared.Added.{Added}
-use Rattle.added.specs.declared.AskedAdded.{AskedAdded}
-use Rattle.added.specs.declared.AskedAdded.TheVariants.{Yes, No, Refused}
 use Rattle.added.specs.Adding.{most_added}
 
 -- those that stand: the first `count`
@@ -53,7 +53,5 @@ unfoldable pub added_work : FormsTaken → List ℕ → (source target marks : �
 added_work T b source target marks work = work_after (ask_early T b source target marks (length work)) b work
 
 -- the number and values that the document gives each case
-abbrev pub asked_added_of : AskedAdded → Outcome Bool
-asked_added_of Yes = answered true
-asked_added_of No = answered false
-asked_added_of (Refused number extra) = refused number extra
+abbrev pub asked_added_of : Result Bool Refusal → Outcome Bool
+asked_added_of r = outcome_by (λ (says : Bool). says) r

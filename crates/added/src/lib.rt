@@ -4,7 +4,7 @@
 
 ghost use Rattle.std.specs.Prelude.{◌≡◌, [], ◌∷◌, ◌≤◌, ◌<◌, length};
 ghost use Rattle.lineage.specs.Lists.{cleared};
-ghost use Rattle.lineage.specs.Calls.{refused, outcome, forms_taken, ordinary, index_in};
+ghost use Rattle.lineage.specs.Calls.{outcome, forms_taken, ordinary, index_in};
 ghost use Rattle.build_orders.specs.Input.{graph_of};
 ghost use Rattle.sound_places.specs.Lent.{SoundBytes};
 ghost use Rattle.reach_rounds.specs.Over.{added_says};
@@ -15,8 +15,8 @@ ghost use Rattle.added.specs.Asked.{sources_of, targets_of, bad_added, added_che
 use numbers::{clear_marks, clear_words};
 use open::contents_sound;
 use reach_rounds::reach_over;
-use refusals::{BAD_EDGE, BAD_VERTEX, MANY_ADDED, NOT_SOUND};
-use stored_header::{Header, Layout, words_needed};
+use refusals::Refusal;
+use stored_header::{Layout, words_needed};
 
 // The most edges that may be added.
 const MOST_ADDED: u32 = 256;
@@ -30,36 +30,11 @@ pub struct Added {
     pub count: u32,
 }
 
-// An edge was taken, or a refusal with its number and its extra number.
-#[derive(Clone, Copy)]
-pub enum Taken {
-    Done,
-    Refused { number: u32, extra: u32 },
-}
-
-// The answer, and the state afterwards.
+// Whether the edge was taken, and the state afterwards.
 #[derive(Clone, Copy)]
 pub struct Adding {
-    pub answer: Taken,
+    pub answer: Result<(), Refusal>,
     pub state: Added,
-}
-
-// Yes or no, or a refusal with its number and its extra number.
-#[derive(Clone, Copy)]
-pub enum AskedAdded {
-    Yes,
-    No,
-    Refused { number: u32, extra: u32 },
-}
-
-// The state as it was, and why.
-fn not_taken(state: Added, number: u32) -> Adding
-    ensures { (taken_of result.answer ≡ refused number 0) × (result.state ≡ state) }
-{
-    Adding {
-        answer: Taken::Refused { number, extra: 0 },
-        state,
-    }
 }
 
 // Adds an edge to those beside an index of n vertices: refusal 7 where an end is n or more, 21 where 256 or more stand already, and then nothing changes; otherwise the
@@ -68,28 +43,27 @@ pub fn add(state: Added, n: u32, from: u32, to: u32) -> Adding
     ensures answer_value { taken_of result.answer ≡ add_answer state.count n from to }
     ensures state_value { result.state ≡ add_state state n from to }
 {
-    if n <= from {
-        return not_taken(state, BAD_EDGE);
-    }
-    if n <= to {
-        return not_taken(state, BAD_EDGE);
+    if n <= from || n <= to {
+        return Adding {
+            answer: Err(Refusal::BadEdge(0)),
+            state,
+        };
     }
     let count = state.count;
     if MOST_ADDED <= count {
-        return not_taken(state, MANY_ADDED);
+        return Adding {
+            answer: Err(Refusal::ManyAdded),
+            state,
+        };
     }
     let at = count as usize;
-    let mut sources = state.sources;
-    let mut targets = state.targets;
-    sources[at] = from;
-    targets[at] = to;
+    let mut more = state;
+    more.sources[at] = from;
+    more.targets[at] = to;
+    more.count = count + 1;
     Adding {
-        answer: Taken::Done,
-        state: Added {
-            sources,
-            targets,
-            count: count + 1,
-        },
+        answer: Ok(()),
+        state: more,
     }
 }
 
@@ -125,7 +99,7 @@ fn ask_over(
     u: usize,
     v: usize,
     marks: &mut [u8],
-) -> AskedAdded
+) -> Result<bool, Refusal>
     requires sound_bytes { SoundBytes index.now l }
     requires sources_len { (length sources.now ≡ length targets.now) × (length sources.now ≤ 256) }
     requires n_in_bounds { (l.n ≤ length marks.old) × ((u < l.n) × (v < l.n)) }
@@ -135,15 +109,9 @@ fn ask_over(
 {
     let first = build_orders::bad_edge(l.n, sources, targets);
     if first < sources.len() {
-        return AskedAdded::Refused {
-            number: BAD_EDGE,
-            extra: first as u32,
-        };
+        return Err(Refusal::BadEdge(first as u32));
     }
-    if says_over(index, l, sources, targets, u, v, marks) {
-        return AskedAdded::Yes;
-    }
-    AskedAdded::No
+    Ok(says_over(index, l, sources, targets, u, v, marks))
 }
 
 // The question over sound bytes and the edges that a state holds: refusal 21 for more than 256 of them, then 7; otherwise yes or no.
@@ -154,7 +122,7 @@ fn ask_sound(
     u: usize,
     v: usize,
     marks: &mut [u8],
-) -> AskedAdded
+) -> Result<bool, Refusal>
     requires sound_bytes { SoundBytes index.now l }
     requires n_in_bounds { (l.n ≤ length marks.old) × ((u < l.n) × (v < l.n)) }
     requires marks_value { marks.old ≡ cleared l.n marks.old }
@@ -163,15 +131,18 @@ fn ask_sound(
 {
     let count = state.count;
     if MOST_ADDED < count {
-        return AskedAdded::Refused {
-            number: MANY_ADDED,
-            extra: 0,
-        };
+        return Err(Refusal::ManyAdded);
     }
     let m = count as usize;
-    let sources = state.sources;
-    let targets = state.targets;
-    ask_over(index, l, &sources[..m], &targets[..m], u, v, marks)
+    ask_over(
+        index,
+        l,
+        &state.sources[..m],
+        &state.targets[..m],
+        u,
+        v,
+        marks,
+    )
 }
 
 // Whether source reaches target over a stored index of a form from `least` to `most` and the edges added beside it: yes or no, or the first of the refusals 10, 11, 12,
@@ -186,36 +157,24 @@ pub fn ask_added_taking(
     target: u32,
     marks: &mut [u8],
     work: &mut [u32],
-) -> AskedAdded
+) -> Result<bool, Refusal>
     ensures result_value { asked_added_of result ≡ added_answer (forms_taken least most) index.now state source target (length marks.old) (length work.old) }
     ensures marks_after { marks.new ≡ added_marks (forms_taken least most) index.now source target marks.old (length work.old) }
     ensures work_after { work.new ≡ added_work (forms_taken least most) index.now source target (length marks.old) work.old }
 {
-    let l = match stored_header::admit(least, most, index, marks.len(), work.len()) {
-        Header::Refused { number, extra } => return AskedAdded::Refused { number, extra },
-        Header::Passed(l) => l,
-    };
+    let l = stored_header::admit(least, most, index, marks.len(), work.len())?;
     let n = l.n;
     let u = source as usize;
     let v = target as usize;
     if n <= u {
-        return AskedAdded::Refused {
-            number: BAD_VERTEX,
-            extra: 0,
-        };
+        return Err(Refusal::BadVertex(0));
     }
     if n <= v {
-        return AskedAdded::Refused {
-            number: BAD_VERTEX,
-            extra: 1,
-        };
+        return Err(Refusal::BadVertex(1));
     }
     clear_words(work, words_needed(l));
     if !contents_sound(index, l, marks) {
-        return AskedAdded::Refused {
-            number: NOT_SOUND,
-            extra: 0,
-        };
+        return Err(Refusal::NotSound);
     }
     ask_sound(index, l, state, u, v, marks)
 }
@@ -228,7 +187,7 @@ pub fn ask_added(
     target: u32,
     marks: &mut [u8],
     work: &mut [u32],
-) -> AskedAdded
+) -> Result<bool, Refusal>
     ensures result_value { asked_added_of result ≡ added_answer ordinary index.now state source target (length marks.old) (length work.old) }
     ensures marks_after { marks.new ≡ added_marks ordinary index.now source target marks.old (length work.old) }
     ensures work_after { work.new ≡ added_work ordinary index.now source target (length marks.old) work.old }

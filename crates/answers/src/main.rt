@@ -1,7 +1,8 @@
 // The text program: standard input is read to its end, and what the run prints is written to standard output.
 #![tactic(auto)]
 
-ghost use Rattle.std.specs.Prelude.{◌≤◌, length, IfOk};
+ghost use Rattle.std.specs.Prelude.{◌≤◌, ◌<◌, length, take, IfOk};
+ghost use Rattle.std.specs.Io.KnownBytes.{Consumes, IsAtEnd};
 
 use std::io;
 use std::io::{Read, Write};
@@ -10,10 +11,12 @@ use text_run::MOST_OUTPUT;
 
 // Fills a buffer from a reader, up to the end of either.
 fn read_full<R: Read + Drop>(from: &mut R, text: &mut [u8]) -> io::Result<usize>
-    ensures { IfOk result (λ n. n ≤ length text.old) }
+    ensures within { IfOk result (λ n. n ≤ length text.old) }
+    ensures bytes { IfOk result (λ n. Consumes (R.remaining from.old) (R.remaining from.new) (take n text.new)) }
+    ensures all { IfOk result (λ n. n < length text.old → IsAtEnd (R.remaining from.new)) }
 {
-    let mut n: usize = 0;
-    for _ in 0..u64::MAX {
+    let mut n = 0;
+    while n < text.len() {
         let got = from.read(&mut text[n..])?;
         if got == 0 {
             break;

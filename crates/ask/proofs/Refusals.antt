@@ -22,9 +22,9 @@ use Rattle.stored_header.proofs.Admitted.{Admits, admitted, admitted_laid}
 use Rattle.open.proofs.Checks.{words_cleared}
 use Rattle.ask_stacked.specs.Words.{stack_words}
 use Rattle.ask_stacked.proofs.Words.{stack_needed}
-use Rattle.ask.specs.declared.question.Reply.{Reply}
+use Rattle.ask.specs.declared.Asked.{Asked}
 use Rattle.ask.specs.Replies.{answer_by}
-use Rattle.ask.specs.Asked.{marks_laid}
+use Rattle.ask.specs.Asked.{said_by, marks_laid}
 
 -- the needed words suffice for the stack
 pub stack_fits : (l : Layout) → stack_words l.width l.n ≤ words_of l
@@ -45,8 +45,8 @@ module _ (b : List ℕ) (u v : ℕ) (marks : List ℕ) where
     pub replies_unsound : (contents_check b).applies ≡ true → Replies (refused 15 0) m
     replies_unsound s = (sym (stops_outcome said late 0 s), left ∙ rw (s, n_is L) refl)
 
-    pub replies_answered : (contents_check b).applies ≡ false → (q : Reply) (m' : List ℕ) → answer_by q m' ≡ answer (index_in b) u v
-        → Replies (answered (record { says = q.says; reason = q.reason; opened = q.opened; deciding = q.deciding })) (m' ++ drop l.n m)
+    pub replies_answered : (contents_check b).applies ≡ false → (q : Asked) (m' : List ℕ) → answer_by q m' ≡ answer (index_in b) u v
+        → Replies (answered (said_by q)) (m' ++ drop l.n m)
     replies_answered s q m' e =
         let same : m' ++ drop l.n m ≡ (answer_by q m').marks ++ drop (counts_in b).n marks = rw (left, cleared_past l.n marks, n_is L) refl in
         (ap (λ (a : Answer). answered (said_of a)) e ∙ sym (stops_outcome said late 1 (s, tt)), same ∙ ap (λ (a : Answer). a.marks ++ drop (counts_in b).n marks) e ∙ rw s refl)

@@ -20,10 +20,10 @@ use Rattle.laws.proofs.Tests.{clash, is_false}
 use Rattle.numbers.proofs.Numbers.{numbers_at}
 use Rattle.stored.specs.Sections.{labels_in}
 use Rattle.stored.proofs.Sections.{labels_long}
-use Rattle.ask_intervals.specs.declared.Judged.{Judged}
+use Rattle.ask_intervals.specs.declared.Judged.TheVariants.{Inside, Outside, Neither}
 use Rattle.ask_intervals.specs.Intervals.{judged}
-use Rattle.ask_intervals.proofs.Deciding.{first_given, judged_inside, judged_outside, judged_neither}
-use Rattle.ask.specs.declared.question.Reply.{Reply}
+use Rattle.ask_intervals.proofs.Deciding.{first_given, judged_tells}
+use Rattle.ask.specs.declared.Asked.{Asked}
 use Rattle.ask_walk.specs.Fit.{groups_in, net_in, Fit}
 use Rattle.ask.specs.Replies.{answer_by}
 use Rattle.ask_walk.proofs.Counting.{Gains, ones_low, open_gains, open_deciding}
@@ -42,15 +42,15 @@ first_low : (p : Labelling → Bool) (w k d : ℕ) (labels : List ℕ) → first
 first_low p w k d labels = omega (arith, first_from_lem p 0 (labels_in w 3 labels k d), labels_long w 3 labels k d)
 
 -- and so is the number of one that decides
-module _ (w k d : ℕ) (labels : List ℕ) (x t : ℕ) {j : Judged} (told : j ≡ judged x t (labels_in w 3 labels k d)) where
-  pub inside_low : 0 < j.inside → j.inside ≤ d
-  inside_low h = omega (arith, judged_inside x t (labels_in w 3 labels k d) told h, first_low (inside x t) w k d labels)
+module _ (w k d : ℕ) (labels : List ℕ) (x t : ℕ) {l : ℕ} where
+  pub inside_low : Inside l ≡ judged x t (labels_in w 3 labels k d) → l ≤ d
+  inside_low told = omega (arith, judged_tells x t (labels_in w 3 labels k d) told, first_low (inside x t) w k d labels)
 
-  pub outside_low : 0 < j.outside → j.outside ≤ d
-  outside_low h = omega (arith, judged_outside x t (labels_in w 3 labels k d) told h, first_low (outside x t) w k d labels)
+  pub outside_low : Outside l ≡ judged x t (labels_in w 3 labels k d) → l ≤ d
+  outside_low told = omega (arith, judged_tells x t (labels_in w 3 labels k d) told, first_low (outside x t) w k d labels)
 
 module _ {w k d t : ℕ} {groups levels starts children labels : List ℕ} {marks : ℕ} (F : Fit w k d t groups levels starts children labels marks)
-    (x : ℕ) (m : List ℕ) (r : Reply) where
+    (x : ℕ) (m : List ℕ) (r : Asked) where
   abbrev I : Index
   I = groups_in w k d groups levels starts children labels
 
@@ -58,7 +58,7 @@ module _ {w k d t : ℕ} {groups levels starts children labels : List ℕ} {mark
   Says says reason deciding = r ≡ record { says = says; reason = reason; deciding = deciding; opened = 0 }
 
   pub rule_1 : Says true 1 0 → x ≡ t → answer_by r m ≡ between I x t m
-  rule_1 s e = ap (λ (q : Reply). answer_by q m) s ∙ rw (eq-eqb x t e) refl
+  rule_1 s e = ap (λ (q : Asked). answer_by q m) s ∙ rw (eq-eqb x t e) refl
 
   -- x and t differ, and their levels are read
   module _ (apart : x ≢ t) (x_low : x < k) (a b : ℕ) (level : a ≡ num_at w levels x) (above : b ≡ num_at w levels t) where
@@ -70,27 +70,27 @@ module _ {w k d t : ℕ} {groups levels starts children labels : List ℕ} {mark
     rule_3 s h =
         let holds : rule3 I x t ≡ true = three ∙ le-leb a b h in
         let not_two : rule2 I x t ≡ false = is_false (rule2 I x t) (λ y. clash holds (F.sure.not_3 x x_low y apart)) in
-        ap (λ (q : Reply). answer_by q m) s ∙ rw (ne_eqb x t apart, not_two, holds) refl
+        ap (λ (q : Asked). answer_by q m) s ∙ rw (ne_eqb x t apart, not_two, holds) refl
 
     -- the labellings judge
-    module _ (lower : b < a) {j : Judged} (told : j ≡ judged x t (labels_in w 3 labels k d)) where
-      pub rule_2 : Says true 2 j.inside → 0 < j.inside → answer_by r m ≡ between I x t m
-      rule_2 s h =
-          let first : j.inside ≡ first_labelling (inside x t) (labels_in w 3 labels k d) = judged_inside x t (labels_in w 3 labels k d) told h in
-          let holds : rule2 I x t ≡ true = first_given (inside x t) (labels_in w 3 labels k d) ∙ rw (← first) (lt-ltb 0 j.inside h) in
-          ap (λ (q : Reply). answer_by q m) s ∙ rw (ne_eqb x t apart, holds, ← first) refl
+    module _ (lower : b < a) where
+      pub rule_2 : {l : ℕ} → Says true 2 l → Inside l ≡ judged x t (labels_in w 3 labels k d) → answer_by r m ≡ between I x t m
+      rule_2 {l} s told =
+          let first = judged_tells x t (labels_in w 3 labels k d) told in
+          let holds : rule2 I x t ≡ true = first_given (inside x t) (labels_in w 3 labels k d) ∙ rw (← first.1) (lt-ltb 0 l first.0) in
+          ap (λ (q : Asked). answer_by q m) s ∙ rw (ne_eqb x t apart, holds, ← first.1) refl
 
       -- what 4 rules out, 2 does not say yes of
-      pub rule_4 : Says false 4 j.outside → 0 < j.outside → answer_by r m ≡ between I x t m
-      rule_4 s h =
-          let first : j.outside ≡ first_labelling (outside x t) (labels_in w 3 labels k d) = judged_outside x t (labels_in w 3 labels k d) told h in
-          let holds : rule4 I x t ≡ true = first_given (outside x t) (labels_in w 3 labels k d) ∙ rw (← first) (lt-ltb 0 j.outside h) in
+      pub rule_4 : {l : ℕ} → Says false 4 l → Outside l ≡ judged x t (labels_in w 3 labels k d) → answer_by r m ≡ between I x t m
+      rule_4 {l} s told =
+          let first = judged_tells x t (labels_in w 3 labels k d) told in
+          let holds : rule4 I x t ≡ true = first_given (outside x t) (labels_in w 3 labels k d) ∙ rw (← first.1) (lt-ltb 0 l first.0) in
           let not_two : rule2 I x t ≡ false = is_false (rule2 I x t) (λ y. clash holds (F.sure.not_4 x x_low y)) in
-          ap (λ (q : Reply). answer_by q m) s ∙ rw (ne_eqb x t apart, not_two, three, lt-leb a b lower, holds, ← first) refl
+          ap (λ (q : Asked). answer_by q m) s ∙ rw (ne_eqb x t apart, not_two, three, lt-leb a b lower, holds, ← first.1) refl
 
-      module _ (none : j.inside ≤ 0) (uncut : j.outside ≤ 0) where
+      module _ (told : Neither ≡ judged x t (labels_in w 3 labels k d)) where
         neither : (first_labelling (inside x t) (labels_in w 3 labels k d) ≡ 0) × (first_labelling (outside x t) (labels_in w 3 labels k d) ≡ 0)
-        neither = judged_neither x t (labels_in w 3 labels k d) told none uncut
+        neither = judged_tells x t (labels_in w 3 labels k d) told
 
         not_two : rule2 I x t ≡ false
         not_two = first_given (inside x t) (labels_in w 3 labels k d) ∙ ap (ltb 0) neither.0
@@ -105,7 +105,7 @@ module _ {w k d t : ℕ} {groups levels starts children labels : List ℕ} {mark
 
           pub rule_5_6 : r ≡ record { says = f; reason = cond f 5 6; deciding = l; opened = n } → answer_by r m' ≡ between I x t m
           rule_5_6 s =
-              ap (λ (q : Reply). answer_by q m') s
+              ap (λ (q : Asked). answer_by q m') s
               ∙ rw (ne_eqb x t apart, not_two, three, lt-leb a b lower, not_four) (ap by_walk walked_is)
 
 -- the walk opens no more groups than there are marks, and is ended by one of the labellings

@@ -11,6 +11,7 @@ use Prim.Native.Nat.{ℕ, ◌≤◌, ◌<◌}
 use native.Mathlib.Omega.{arith}
 use lib.ListN.{length, get_or, take, drop, length-map, get_or-append}
 use lib.Seq.{take_at, drop_at}
+use Rattle.std.specs.Prelude.{Result}
 use Rattle.lineage.specs.Lists.{Every, ones, cleared}
 use Rattle.lineage.specs.Graph.{Graph, Ends, Reaches}
 use Rattle.lineage.specs.Labels.{Order}
@@ -26,9 +27,10 @@ use Rattle.laws_answers.specs.Answers.{Member, Deciding, Opened, marks_of, NoMor
 use Rattle.laws_answers.specs.Walks.{Through}
 use Rattle.laws_answers.proofs.Demands.{answer_right, deciding_first, marks_are_opened, opened_on_a_no, more_orders}
 use Rattle.stored.proofs.Contents.{names_many, labels_many}
+use Rattle.refusals.specs.declared.Refusal.{Refusal}
+use Rattle.refusals.proofs.Told.{outcome_once}
 use Rattle.ask.specs.declared.Asked.{Asked}
-use Rattle.ask.specs.declared.Asked.TheVariants.{Answer, Refused}
-use Rattle.ask.specs.Asked.{asked_of}
+use Rattle.ask.specs.Asked.{said_by, asked_of}
 use Rattle.ask.proofs.Answered.{Answered, answered_only, none_applies, none_early}
 
 pub orders_long : (G : Graph) (orders : List (List ℕ)) → length (index_of G orders).labels ≡ length orders
@@ -160,26 +162,15 @@ module _ (G : Graph) (ends : Ends G) (orders₁ orders₂ : List (List ℕ)) (up
       )
 
 -- What `ask` may answer and leave, by its contract: two results are equal.
-pub record Allowed (T : FormsTaken) (b : List ℕ) (u v : ℕ) (marks work : List ℕ) (r : Asked) (m w : List ℕ) : Type 0 where
+pub record Allowed (T : FormsTaken) (b : List ℕ) (u v : ℕ) (marks work : List ℕ) (r : Result Asked Refusal) (m w : List ℕ) : Type 0 where
   pub answers : asked_of r ≡ ask_answer T b u v (length marks) (length work)
   pub leaves : m ≡ ask_marks T b u v marks (length work)
   pub clears : w ≡ ask_work T b u v (length marks) work
 
-answer_one :
-    {says says' : Bool} {reason reason' opened opened' deciding deciding' : ℕ}
-    → says ≡ says' → reason ≡ reason' → opened ≡ opened' → deciding ≡ deciding' → Answer says reason opened deciding ≡ Answer says' reason' opened' deciding'
-answer_one a b c d = cc
-
-asked_one : (r r' : Asked) → asked_of r ≡ asked_of r' → r ≡ r'
-asked_one (Answer says reason opened deciding) (Answer says' reason' opened' deciding') e =
-    let same : ◌≡◌ {A = Said} (record { says = says; reason = reason; opened = opened; deciding = deciding })
-    (record { says = says'; reason = reason'; opened = opened'; deciding = deciding' }) = cc in
-    answer_one (ap (λ (z : Said). z.says) same) (ap (λ (z : Said). z.reason) same) (ap (λ (z : Said). z.opened) same) (ap (λ (z : Said). z.deciding) same)
-asked_one (Answer says reason opened deciding) (Refused number extra) e = let z : ◌≡◌ {A = ℕ} 0 1 = cc in absurd (omega arith)
-asked_one (Refused number extra) (Answer says reason opened deciding) e = let z : ◌≡◌ {A = ℕ} 0 1 = cc in absurd (omega arith)
-asked_one (Refused number extra) (Refused number' extra') e = cc
+said_once : (a a' : Asked) → said_by a ≡ said_by a' → a ≡ a'
+said_once a a' e = λ i. record { says = (e i).says; reason = (e i).reason; opened = (e i).opened; deciding = (e i).deciding }
 
 pub asked_once :
-    {T : FormsTaken} {b : List ℕ} {u v : ℕ} {marks work : List ℕ} {r r' : Asked} {m m' w w' : List ℕ}
+    {T : FormsTaken} {b : List ℕ} {u v : ℕ} {marks work : List ℕ} {r r' : Result Asked Refusal} {m m' w w' : List ℕ}
     → Allowed T b u v marks work r m w → Allowed T b u v marks work r' m' w' → (r ≡ r') × ((m ≡ m') × (w ≡ w'))
-asked_once A B = (asked_one _ _ (A.answers ∙ sym B.answers), (A.leaves ∙ sym B.leaves, A.clears ∙ sym B.clears))
+asked_once A B = (outcome_once said_by said_once _ _ (A.answers ∙ sym B.answers), (A.leaves ∙ sym B.leaves, A.clears ∙ sym B.clears))

@@ -12,23 +12,16 @@ ghost use Rattle.ask.specs.Asked.{asked_of, marks_laid};
 pub mod question;
 
 use numbers::clear_words;
-use refusals::{BAD_VERTEX, NOT_SOUND};
-use stored_header::{Header, Layout, words_needed};
+use refusals::Refusal;
+use stored_header::{Layout, words_needed};
 
-// An answer: yes or no, the reason 1 to 6, the groups opened, and the number, from 1, of the labelling that decided (0 where none did); or a refusal with
-// its number and its extra number.
-#[derive(Clone, Copy)]
-pub enum Asked {
-    Answer {
-        says: bool,
-        reason: u32,
-        opened: u32,
-        deciding: u32,
-    },
-    Refused {
-        number: u32,
-        extra: u32,
-    },
+// An answer: yes or no, the reason 1 to 6, the groups opened, and the number, from 1, of the labelling that decided (0 where none did).
+#[derive(Clone, Copy, Debug, PartialEq, Eq)]
+pub struct Asked {
+    pub says: bool,
+    pub reason: u32,
+    pub opened: u32,
+    pub deciding: u32,
 }
 
 // The question on bytes of a layout, for vertices below n: 15, or the answer. Afterwards the marks below n tell the groups opened, by name, and 15 leaves them 0; of
@@ -40,7 +33,7 @@ fn ask_laid(
     v: usize,
     marks: &mut [u8],
     work: &mut [u32],
-) -> Asked
+) -> Result<Asked, Refusal>
     requires laid { Laid index.now l }
     requires u_lt_n { (u < l.n) × ((v < l.n) × ((l.n ≤ length marks.old) × (stack_words l.width l.n ≤ length work.old))) }
     requires stride_value { l.stride ≡ 3 }
@@ -50,12 +43,9 @@ fn ask_laid(
 {
     let n = l.n;
     if !open::contents_sound(index, l, marks) {
-        return Asked::Refused {
-            number: NOT_SOUND,
-            extra: 0,
-        };
+        return Err(Refusal::NotSound);
     }
-    let r = question::question(
+    Ok(question::question(
         stored::parts::names(index, l),
         stored::parts::groups(index, l),
         stored::parts::levels(index, l),
@@ -68,13 +58,7 @@ fn ask_laid(
         &mut marks[..n],
         work,
         1,
-    );
-    Asked::Answer {
-        says: r.says,
-        reason: r.reason,
-        opened: r.opened,
-        deciding: r.deciding,
-    }
+    ))
 }
 
 // Whether the source reaches the target, by the index that the bytes hold, in a form from `least` to `most`, none of pairs: refusals 10 to 13, 6, 14 and 15 in order, or the answer.
@@ -87,29 +71,20 @@ pub fn ask_taking(
     target: u32,
     marks: &mut [u8],
     work: &mut [u32],
-) -> Asked
+) -> Result<Asked, Refusal>
     requires { most ≤ 3 }
     ensures result_value { asked_of result ≡ ask_answer (forms_taken least most) index.now source target (length marks.old) (length work.old) }
     ensures marks_after { marks.new ≡ ask_marks (forms_taken least most) index.now source target marks.old (length work.old) }
     ensures work_after { work.new ≡ ask_work (forms_taken least most) index.now source target (length marks.old) work.old }
 {
-    let l = match stored_header::admit(least, most, index, marks.len(), work.len()) {
-        Header::Refused { number, extra } => return Asked::Refused { number, extra },
-        Header::Passed(l) => l,
-    };
+    let l = stored_header::admit(least, most, index, marks.len(), work.len())?;
     let u = source as usize;
     let v = target as usize;
     if l.n <= u {
-        return Asked::Refused {
-            number: BAD_VERTEX,
-            extra: 0,
-        };
+        return Err(Refusal::BadVertex(0));
     }
     if l.n <= v {
-        return Asked::Refused {
-            number: BAD_VERTEX,
-            extra: 1,
-        };
+        return Err(Refusal::BadVertex(1));
     }
     let r = ask_laid(index, l, u, v, marks, work);
     clear_words(work, words_needed(l));
@@ -117,7 +92,13 @@ pub fn ask_taking(
 }
 
 // The question on a stored index of form 1 or 2.
-pub fn ask(index: &[u8], source: u32, target: u32, marks: &mut [u8], work: &mut [u32]) -> Asked
+pub fn ask(
+    index: &[u8],
+    source: u32,
+    target: u32,
+    marks: &mut [u8],
+    work: &mut [u32],
+) -> Result<Asked, Refusal>
     ensures result_value { asked_of result ≡ ask_answer ordinary index.now source target (length marks.old) (length work.old) }
     ensures marks_after { marks.new ≡ ask_marks ordinary index.now source target marks.old (length work.old) }
     ensures work_after { work.new ≡ ask_work ordinary index.now source target (length marks.old) work.old }
@@ -126,7 +107,7 @@ pub fn ask(index: &[u8], source: u32, target: u32, marks: &mut [u8], work: &mut 
 }
 
 // The question on a stored index of form 1, which needs no words.
-pub fn ask_form1(index: &[u8], source: u32, target: u32, marks: &mut [u8]) -> Asked
+pub fn ask_form1(index: &[u8], source: u32, target: u32, marks: &mut [u8]) -> Result<Asked, Refusal>
     ensures result_value { asked_of result ≡ ask_answer host index.now source target (length marks.old) 0 }
     ensures marks_after { marks.new ≡ ask_marks host index.now source target marks.old 0 }
 {

@@ -11,51 +11,34 @@ ghost use Rattle.ask_walk.specs.Stamps.{seen_as, Under};
 ghost use Rattle.ask_stacked.specs.Words.{stack_words};
 ghost use Rattle.ask.specs.Replies.{answer_by};
 
+use crate::Asked;
+use ask_intervals::Judged;
 use ask_walk::Seen;
 use stored_header::Layout;
 
-// Yes or no, the reason, the number of the labelling that decided (0 where none did), and the number of groups opened.
-#[derive(Clone, Copy)]
-pub struct Reply {
-    pub says: bool,
-    pub reason: u32,
-    pub deciding: u32,
-    pub opened: u32,
-}
-
 // A reply under reasons 1 to 4: no group is opened.
-fn plain(says: bool, reason: u32, deciding: usize) -> Reply
+fn plain(says: bool, reason: u32, deciding: usize) -> Asked
     requires { deciding ≤ most_labellings }
     ensures { result ≡ record { says = says; reason = reason; deciding = deciding; opened = 0 } }
 {
-    Reply {
+    Asked {
         says,
         reason,
-        deciding: deciding as u32,
         opened: 0,
+        deciding: deciding as u32,
     }
 }
 
 // A reply by the walk: reason 5 where it found the target, otherwise 6.
-fn by_walk(a: Seen) -> Reply
+fn by_walk(a: Seen) -> Asked
     requires { (a.deciding ≤ most_labellings) × (a.opened ≤ vertex_bound) }
     ensures { result ≡ record { says = a.found; reason = cond a.found 5 6; deciding = a.deciding; opened = a.opened } }
 {
-    let deciding = a.deciding as u32;
-    let opened = a.opened as u32;
-    if a.found {
-        return Reply {
-            says: true,
-            reason: 5,
-            deciding,
-            opened,
-        };
-    }
-    Reply {
-        says: false,
-        reason: 6,
-        deciding,
-        opened,
+    Asked {
+        says: a.found,
+        reason: if a.found { 5 } else { 6 },
+        opened: a.opened as u32,
+        deciding: a.deciding as u32,
     }
 }
 
@@ -74,7 +57,7 @@ pub fn decide(
     marks: &mut [u8],
     work: &mut [u32],
     stamp: u8,
-) -> Reply
+) -> Asked
     requires fit { Fit w k d t groups.now levels.now starts.now children.now labels.now (length marks.old) }
     requires x_lt_k { (x < k) × ((length marks.old ≤ vertex_bound) × (Under stamp marks.old × (stack_words w (length marks.old) ≤ length work.old))) }
     ensures marks_after { answer_by result (seen_as stamp marks.new) ≡ between (groups_in w k d groups.now levels.now starts.now children.now labels.now) x t (seen_as stamp marks.old) }
@@ -89,17 +72,13 @@ pub fn decide(
     if level <= numbers::num(levels, w, t) {
         return plain(false, 3, 0);
     }
-    let j = ask_intervals::judge(labels, w, k, d, x, t);
-    if 0 < j.inside {
-        return plain(true, 2, j.inside);
+    match ask_intervals::judge(labels, w, k, d, x, t) {
+        Judged::Inside(deciding) => plain(true, 2, deciding),
+        Judged::Outside(deciding) => plain(false, 4, deciding),
+        Judged::Neither => by_walk(ask_stacked::walk_from(
+            groups, levels, starts, children, labels, w, k, d, t, marks, work, level, x, stamp,
+        )),
     }
-    if 0 < j.outside {
-        return plain(false, 4, j.outside);
-    }
-    let a = ask_stacked::walk_from(
-        groups, levels, starts, children, labels, w, k, d, t, marks, work, level, x, stamp,
-    );
-    by_walk(a)
 }
 
 // The answer between two vertices; of the marks, one for each vertex, none bears the stamp before, and none a higher one. Where no group is opened, the marks
@@ -117,7 +96,7 @@ pub fn question(
     marks: &mut [u8],
     work: &mut [u32],
     stamp: u8,
-) -> Reply
+) -> Asked
     requires in_triples { InTriples l names.now groups.now levels.now starts.now children.now labels.now }
     requires u_lt_n { (u < l.n) × ((v < l.n) × ((length marks.old ≡ l.n) × (Under stamp marks.old × (stack_words l.width l.n ≤ length work.old)))) }
     ensures marks_after { answer_by result (seen_as stamp marks.new) ≡ answer (index_at l names.now groups.now levels.now starts.now children.now labels.now) u v }

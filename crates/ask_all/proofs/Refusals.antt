@@ -5,7 +5,7 @@ use mathlib.Core.List.{List, [], ◌∷◌, ◌++◌, map}
 use Prim.Native.Nat.{ℕ, zero, suc, ◌+◌, ◌*◌, ◌/◌, ◌≤◌, ◌<◌}
 use native.Mathlib.Omega.{arith}
 use native.Mathlib.Nat.{div-lt_iff_lt-mul, mul-div-le}
-use lib.Dec.{eqb, leb}
+use lib.Dec.{leb}
 use lib.ListN.{length, get_or, drop}
 use borrow.Author.Tests.{leb-true, eq-eqb, ne_eqb, lt-ltb}
 use Rattle.lineage.specs.Lists.{upto, joined, cleared, Every}
@@ -140,11 +140,3 @@ module _ (a : List ℕ) (i : ℕ) where
         past_end a (6 * i + 5) (omega arith),
       )
       refl
-
-  pub pair_answered :
-      {f y r o d : ℕ} → f ≡ get_or a (6 * i) 0 → y ≡ get_or a (6 * i + 2) 0 → r ≡ get_or a (6 * i + 3) 0 → o ≡ get_or a (6 * i + 4) 0 → d ≡ get_or a (6 * i + 5) 0 → f ≡ 0
-      → answered (record { says = eqb y 1; reason = r; opened = o; deciding = d }) ≡ pair_in a i
-  pair_answered {f} ef ey er eo ed z = rw (← ef, ← ey, ← er, ← eo, ← ed, eq-eqb f 0 z) refl
-
-  pub pair_refused : {f x : ℕ} → f ≡ get_or a (6 * i) 0 → x ≡ get_or a (6 * i + 1) 0 → (f ≡ 0 → ⊥) → refused f x ≡ pair_in a i
-  pair_refused {f} ef ex z = rw (← ef, ← ex, ne_eqb f 0 z) refl

@@ -12,6 +12,7 @@ use native.Mathlib.Nat.{add-zero}
 use lib.ListN.{length, get_or, drop, length-append, length-drop, length-replicate, get_or-append}
 use lib.Seq.{drop_at}
 use borrow.Author.Tests.{ltb-false, ne_eqb}
+use Rattle.std.specs.Prelude.{Result}
 use Rattle.lineage.specs.Lists.{upto, joined, cleared}
 use Rattle.lineage.specs.Stored.{counts_in}
 use Rattle.lineage.specs.Graph.{Reaches}
@@ -27,30 +28,25 @@ use Rattle.laws.specs.Checks.{Pass, Told}
 use Rattle.laws.proofs.Checks.{outcome_told, answered_pass, pass_front}
 use Rattle.ask.proofs.Theorems.{asked_right, answer_long}
 use Rattle.ask_pairs.specs.Pairs.{last_marks}
-use Rattle.ask_all.specs.declared.Batched.{Batched}
-use Rattle.ask_all.specs.declared.Batched.TheVariants.{Count, Refused}
-use Rattle.ask_all.specs.Batched.{batched_of}
+use Rattle.ask_all.specs.declared.BatchRefusal.{BatchRefusal}
+use Rattle.ask_all.specs.Batched.{batched_of, Own}
+use Rattle.ask_all.proofs.Own.{batched_one}
 use Rattle.ask_all.specs.Batch.{six_of, pair_in, asked_at, batch_late, batch_answer, batch_answers, batch_marks, batch_work}
 
 -- what a call is allowed to return, and to leave
-pub record Allowed (T : FormsTaken) (b sources targets marks work answers : List ℕ) (r : Batched) (m w a : List ℕ) : Type 0 where
+pub record Allowed (T : FormsTaken) (b sources targets marks work answers : List ℕ) (r : Result ℕ BatchRefusal) (m w a : List ℕ) : Type 0 where
+  pub own : Own r
   pub returns : batched_of r ≡ batch_answer T b sources targets (length marks) (length work) (length answers)
   pub leaves : m ≡ batch_marks T b sources targets marks (length work) (length answers)
   pub clears : w ≡ batch_work T b (length marks) work
   pub writes : a ≡ batch_answers T b sources targets (length marks) (length work) answers
 
-batched_one : (r r' : Batched) → batched_of r ≡ batched_of r' → r ≡ r'
-batched_one (Count c) (Count c') e = cc
-batched_one (Count c) (Refused number extra) e = let z : ◌≡◌ {A = ℕ} 0 1 = cc in absurd (omega arith)
-batched_one (Refused number extra) (Count c) e = let z : ◌≡◌ {A = ℕ} 0 1 = cc in absurd (omega arith)
-batched_one (Refused number extra) (Refused number' extra') e = cc
-
 pub batch_once :
-    {T : FormsTaken} {b sources targets marks work answers : List ℕ} {r r' : Batched} {m m' w w' a a' : List ℕ}
+    {T : FormsTaken} {b sources targets marks work answers : List ℕ} {r r' : Result ℕ BatchRefusal} {m m' w w' a a' : List ℕ}
     → Allowed T b sources targets marks work answers r m w a → Allowed T b sources targets marks work answers r' m' w' a'
     → (r ≡ r') × ((m ≡ m') × ((w ≡ w') × (a ≡ a')))
 batch_once {r = r} {r'} A B =
-    (batched_one r r' (A.returns ∙ sym B.returns), (A.leaves ∙ sym B.leaves, (A.clears ∙ sym B.clears, A.writes ∙ sym B.writes)))
+    (batched_one r r' A.own B.own (A.returns ∙ sym B.returns), (A.leaves ∙ sym B.leaves, (A.clears ∙ sym B.clears, A.writes ∙ sym B.writes)))
 
 -- The six numbers of a pair determine its outcome, since no refusal has the number 0.
 abbrev Some : ℕ → ℕ → Type 0

@@ -9,24 +9,61 @@ ghost use Rattle.numbers.specs.Regions.{Kept};
 ghost use Rattle.stored_header.specs.Header.{words_of, Laid};
 ghost use Rattle.ask_stacked.specs.Words.{stack_words};
 ghost use Rattle.ask_pairs.specs.Pairs.{sixes, last_marks};
-ghost use Rattle.ask.specs.Asked.{asked_of};
 ghost use Rattle.ask_all.specs.Batch.{pair_in, batch_late, batch_answer, batch_answers, batch_marks, batch_work};
-ghost use Rattle.ask_all.specs.Batched.{batched_of, marks_laid, answers_laid};
+ghost use Rattle.ask_all.specs.declared.BatchRefusal.TheVariants.{Refused};
+ghost use Rattle.ask_all.specs.Batched.{batch_number, batch_extra, batched_of, Own, read_of, marks_laid, answers_laid};
 ghost use Rattle.ask_all.specs.Lent.{SoundPairs};
 
 use ask::Asked;
 use numbers::clear_words;
-use refusals::{LIST_SHORT, LISTS_DIFFER, NOT_SOUND};
-use stored_header::{Header, Layout, words_needed};
+use refusals::Refusal;
+use stored_header::{Layout, words_needed};
 
 // The vertices that form 1 has at most, each with a word for the place of its group.
 const MOST_VERTICES: usize = 4096;
 
-// The number of pairs, or a refusal with its number and its extra number.
-#[derive(Clone, Copy)]
-pub enum Batched {
-    Count(usize),
-    Refused { number: u32, extra: usize },
+// Why no pair is answered: a refusal, or an answer list too short for so many pairs.
+#[derive(Clone, Copy, Debug, PartialEq, Eq)]
+pub enum BatchRefusal {
+    Refused(Refusal),
+    AnswersShort(usize),
+}
+
+impl BatchRefusal {
+    // The number that the documents give it.
+    pub fn number(self) -> u32
+        ensures { result ≡ batch_number self }
+    {
+        match self {
+            BatchRefusal::Refused(r) => r.number(),
+            BatchRefusal::AnswersShort(_) => 16,
+        }
+    }
+
+    // Its extra number.
+    pub fn extra(self) -> usize
+        ensures { result ≡ batch_extra self }
+    {
+        match self {
+            BatchRefusal::Refused(r) => r.extra() as usize,
+            BatchRefusal::AnswersShort(pairs) => pairs,
+        }
+    }
+}
+
+impl From<Refusal> for BatchRefusal {
+    ghost from_gives = { λ r e. e ≡ Refused r };
+
+    fn from(r: Refusal) -> BatchRefusal {
+        BatchRefusal::Refused(r)
+    }
+}
+
+// A refusal that stands in an answer list: its two numbers, which may be any.
+#[derive(Clone, Copy, Debug, PartialEq, Eq)]
+pub struct PairRefusal {
+    pub number: u32,
+    pub extra: u32,
 }
 
 // Answers the pairs over sound bytes of a layout, in words that suffice for the walk's stack and the table of places. The marks below n are 0 before; afterwards they are
@@ -96,36 +133,28 @@ fn ask_laid(
     marks: &mut [u8],
     work: &mut [u32],
     answers: &mut [u32],
-) -> Batched
+) -> Result<usize, BatchRefusal>
     requires laid { Laid index.now l × (l.n ≤ length marks.old) }
     requires n_bound { (l.width ≡ 2 → l.n ≤ 4096) × (words_of l ≤ length work.old) }
     requires stride_value { l.stride ≡ 3 }
+    ensures own { Own result }
     ensures result_value { batched_of result ≡ outcome (batch_late index.now sources.now targets.now (length answers.old)) (length sources.now) }
     ensures marks_after { marks.new ≡ marks_laid index.now sources.now targets.now marks.old (length answers.old) }
     ensures answers_after { answers.new ≡ answers_laid index.now sources.now targets.now answers.old }
     ensures kept { Kept work.old work.new 0 (words_of l) }
 {
     if !open::contents_sound(index, l, marks) {
-        return Batched::Refused {
-            number: NOT_SOUND,
-            extra: 0,
-        };
+        return Err(BatchRefusal::Refused(Refusal::NotSound));
     }
     let pairs = sources.len();
     if pairs != targets.len() {
-        return Batched::Refused {
-            number: LISTS_DIFFER,
-            extra: 0,
-        };
+        return Err(BatchRefusal::Refused(Refusal::ListsDiffer));
     }
     if answers.len() / 6 < pairs {
-        return Batched::Refused {
-            number: LIST_SHORT,
-            extra: pairs,
-        };
+        return Err(BatchRefusal::AnswersShort(pairs));
     }
     ask_lent(index, l, sources, targets, marks, work, answers);
-    Batched::Count(pairs)
+    Ok(pairs)
 }
 
 // Answers all pairs by six numbers each, over an index in a form from `least` to `most`, none of pairs: refusals 10 to 13, 6, 15, 2 and 16 in order, or the number of pairs. A refusal
@@ -140,22 +169,15 @@ pub fn ask_all_taking(
     marks: &mut [u8],
     work: &mut [u32],
     answers: &mut [u32],
-) -> Batched
+) -> Result<usize, BatchRefusal>
     requires { most ≤ 3 }
+    ensures own { Own result }
     ensures result_value { batched_of result ≡ batch_answer (forms_taken least most) index.now sources.now targets.now (length marks.old) (length work.old) (length answers.old) }
     ensures marks_after { marks.new ≡ batch_marks (forms_taken least most) index.now sources.now targets.now marks.old (length work.old) (length answers.old) }
     ensures work_after { work.new ≡ batch_work (forms_taken least most) index.now (length marks.old) work.old }
     ensures answers_after { answers.new ≡ batch_answers (forms_taken least most) index.now sources.now targets.now (length marks.old) (length work.old) answers.old }
 {
-    let l = match stored_header::admit(least, most, index, marks.len(), work.len()) {
-        Header::Refused { number, extra } => {
-            return Batched::Refused {
-                number,
-                extra: extra as usize,
-            };
-        }
-        Header::Passed(l) => l,
-    };
+    let l = stored_header::admit(least, most, index, marks.len(), work.len())?;
     let r = ask_laid(index, l, sources, targets, marks, work, answers);
     clear_words(work, words_needed(l));
     r
@@ -169,7 +191,8 @@ pub fn ask_all(
     marks: &mut [u8],
     work: &mut [u32],
     answers: &mut [u32],
-) -> Batched
+) -> Result<usize, BatchRefusal>
+    ensures own { Own result }
     ensures result_value { batched_of result ≡ batch_answer ordinary index.now sources.now targets.now (length marks.old) (length work.old) (length answers.old) }
     ensures marks_after { marks.new ≡ batch_marks ordinary index.now sources.now targets.now marks.old (length work.old) (length answers.old) }
     ensures work_after { work.new ≡ batch_work ordinary index.now (length marks.old) work.old }
@@ -185,7 +208,8 @@ pub fn ask_all_form1(
     targets: &[u32],
     marks: &mut [u8],
     answers: &mut [u32],
-) -> Batched
+) -> Result<usize, BatchRefusal>
+    ensures own { Own result }
     ensures result_value { batched_of result ≡ batch_answer host index.now sources.now targets.now (length marks.old) 0 (length answers.old) }
     ensures marks_after { marks.new ≡ batch_marks host index.now sources.now targets.now marks.old 0 (length answers.old) }
     ensures answers_after { answers.new ≡ batch_answers host index.now sources.now targets.now (length marks.old) 0 answers.old }
@@ -202,34 +226,29 @@ fn number_at(answers: &[u32], p: usize) -> u32
 }
 
 // The answer of pair i, read back from an answer list.
-pub fn answer_at(answers: &[u32], i: usize) -> Asked
-    ensures { asked_of result ≡ pair_in answers.now i }
+pub fn answer_at(answers: &[u32], i: usize) -> Result<Asked, PairRefusal>
+    ensures { read_of result ≡ pair_in answers.now i }
 {
     if answers.len() <= i {
-        return Asked::Answer {
+        return Ok(Asked {
             says: false,
             reason: 0,
             opened: 0,
             deciding: 0,
-        };
+        });
     }
     let at = 6 * i;
-    let refusal = number_at(answers, at);
-    let extra = number_at(answers, at + 1);
-    let yes = number_at(answers, at + 2);
-    let reason = number_at(answers, at + 3);
-    let opened = number_at(answers, at + 4);
-    let deciding = number_at(answers, at + 5);
-    if refusal == 0 {
-        return Asked::Answer {
-            says: yes == 1,
-            reason,
-            opened,
-            deciding,
-        };
+    let number = number_at(answers, at);
+    if number != 0 {
+        return Err(PairRefusal {
+            number,
+            extra: number_at(answers, at + 1),
+        });
     }
-    Asked::Refused {
-        number: refusal,
-        extra,
-    }
+    Ok(Asked {
+        says: number_at(answers, at + 2) == 1,
+        reason: number_at(answers, at + 3),
+        opened: number_at(answers, at + 4),
+        deciding: number_at(answers, at + 5),
+    })
 }

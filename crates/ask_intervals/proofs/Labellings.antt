@@ -21,6 +21,7 @@ use Rattle.laws.proofs.Lists.{table_at}
 use Rattle.numbers.specs.Regions.{Part}
 use Rattle.stored.specs.Sections.{labelling_in, tuples_of, places_of, labels_in}
 use Rattle.stored.proofs.Sections.{s_at, m_at, e_at, labels_long}
+use Rattle.ask_intervals.specs.declared.Judged.TheVariants.{Inside, Outside, Neither}
 use Rattle.ask_intervals.specs.Intervals.{judged_by, judged_from, judged, undecided_by}
 
 -- number i of the triple of x lies within l bytes
@@ -93,14 +94,10 @@ module _ (w k : ℕ) (labels : List ℕ) where
     is_neither h = let d = leaves upper inner outer h in (inside_is ∙ d.0, outside_is ∙ d.1)
 
   -- none of the first l labellings of d decides
-  pub record Judging (x t d l : ℕ) : Type 0 where
-    pub low : l ≤ d
-    pub left : judged_from (l + 1) x t (drop l (labels_in w 3 labels k d)) ≡ judged x t (labels_in w 3 labels k d)
+  abbrev pub Judging : (x t d l : ℕ) → Type 0
+  Judging x t d l = judged_from (l + 1) x t (drop l (labels_in w 3 labels k d)) ≡ judged x t (labels_in w 3 labels k d)
 
   module _ (x t d : ℕ) where
-    pub judging_none : Judging x t d 0
-    judging_none = record { low = omega arith; left = refl }
-
     module _ (l : ℕ) (J : Judging x t d l) where
       ahead : l < d → drop l (labels_in w 3 labels k d) ≡ own l ∷ drop (l + 1) (labels_in w 3 labels k d)
       unfolding labels_in
@@ -113,19 +110,18 @@ module _ (w k : ℕ) (labels : List ℕ) where
           l < d
           → judged_by (inside x t (own l)) (outside x t (own l)) (l + 1) (judged_from (l + 1 + 1) x t (drop (l + 1) (labels_in w 3 labels k d)))
           ≡ judged x t (labels_in w 3 labels k d)
-      turned h = simp add-one (simp add-one at (rw (ahead h) at J.left))
+      turned h = simp add-one (simp add-one at (rw (ahead h) at J))
 
       pub judging_more : l < d → (inside x t (own l) ≡ false) × (outside x t (own l) ≡ false) → Judging x t d (l + 1)
-      judging_more h e = record { low = omega arith; left = rw (e.0, e.1) at (turned h) }
+      judging_more h e = rw (e.0, e.1) at (turned h)
 
-      pub judging_inside : l < d → inside x t (own l) ≡ true → record { inside = l + 1; outside = 0 } ≡ judged x t (labels_in w 3 labels k d)
+      pub judging_inside : l < d → inside x t (own l) ≡ true → Inside (l + 1) ≡ judged x t (labels_in w 3 labels k d)
       judging_inside h e = rw e at (turned h)
 
-      pub judging_outside :
-          l < d → (inside x t (own l) ≡ false) × (outside x t (own l) ≡ true) → record { inside = 0; outside = l + 1 } ≡ judged x t (labels_in w 3 labels k d)
+      pub judging_outside : l < d → (inside x t (own l) ≡ false) × (outside x t (own l) ≡ true) → Outside (l + 1) ≡ judged x t (labels_in w 3 labels k d)
       judging_outside h e = rw (e.0, e.1) at (turned h)
 
-      pub judging_all : d ≤ l → record { inside = 0; outside = 0 } ≡ judged x t (labels_in w 3 labels k d)
+      pub judging_all : d ≤ l → Neither ≡ judged x t (labels_in w 3 labels k d)
       judging_all h =
           let high : length (labels_in w 3 labels k d) ≤ l = omega (arith, labels_long w 3 labels k d) in
-          ap (judged_from (l + 1) x t) (sym (drop_of_length-le (labels_in w 3 labels k d) high)) ∙ J.left
+          ap (judged_from (l + 1) x t) (sym (drop_of_length-le (labels_in w 3 labels k d) high)) ∙ J

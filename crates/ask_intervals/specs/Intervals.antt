@@ -4,16 +4,17 @@ use Rattle.lineage.specs.Numbers.{num_at}
 use Rattle.lineage.specs.Labels.{Labelling}
 use Rattle.lineage.specs.Question.{inside, outside}
 use Rattle.ask_intervals.specs.declared.Judged.{Judged}
+use Rattle.ask_intervals.specs.declared.Judged.TheVariants.{Inside, Outside, Neither}
 
 -- labelling n decides: x's inner interval contains t's e, or else x's outer interval does not contain t's; or it decides neither, and the rest does
 abbrev pub judged_by : Bool → Bool → ℕ → Judged → Judged
-judged_by true o n rest = record { inside = n; outside = 0 }
-judged_by false true n rest = record { inside = 0; outside = n }
+judged_by true o n rest = Inside n
+judged_by false true n rest = Outside n
 judged_by false false n rest = rest
 
--- the first labelling that decides either way, by its number, counted on from n; where none does, both are 0
+-- the first labelling that decides either way, by its number, counted on from n
 abbrev pub judged_from : ℕ → (x t : ℕ) → List Labelling → Judged
-judged_from n x t [] = record { inside = 0; outside = 0 }
+judged_from n x t [] = Neither
 judged_from n x t (l ∷ ls) = judged_by (inside x t l) (outside x t l) n (judged_from (suc n) x t ls)
 
 -- counted from 1

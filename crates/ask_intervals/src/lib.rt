@@ -9,12 +9,13 @@ ghost use Rattle.ask_intervals.specs.Intervals.{judged, undecided_by};
 
 use stored::parts::{E, M, S};
 
-// The number, from 1, of the first labelling that decides: in which x's inner interval contains t's e, or x's outer interval does not contain t's. The other is 0,
-// and both are where none decides.
-#[derive(Clone, Copy)]
-pub struct Judged {
-    pub inside: usize,
-    pub outside: usize,
+// What the labellings tell, by the number, from 1, of the first that decides: in it x's inner interval contains t's e, or x's outer interval does not contain t's; or
+// none decides.
+#[derive(Clone, Copy, Debug, PartialEq, Eq)]
+pub enum Judged {
+    Inside(usize),
+    Outside(usize),
+    Neither,
 }
 
 // Whether number i of x's triple is not above number j of t's.
@@ -49,24 +50,19 @@ pub fn judge(labels: &[u8], w: usize, k: usize, d: usize, x: usize, t: usize) ->
     requires x_lt_k { (x < k) × (t < k) }
     ensures { result ≡ judged x t (labels_in w 3 labels.now k d) }
 {
-    let mut l = 0;
-    let mut inside = 0;
-    let mut outside = 0;
-    'labellings: while l < d {
+    let mut told = Judged::Neither;
+    'labellings: for l in 0..d {
         let triples = stored::parts::tuples(labels, w, 3, k, d, l);
-        let mut b = 0;
-        while b < 3 {
+        for b in 0..3 {
             if !undecided_by(triples, w, x, t, b) {
                 if b == 1 {
-                    inside = l + 1;
+                    told = Judged::Inside(l + 1);
                     break 'labellings;
                 }
-                outside = l + 1;
+                told = Judged::Outside(l + 1);
                 break 'labellings;
             }
-            b += 1;
         }
-        l += 1;
     }
-    Judged { inside, outside }
+    told
 }

@@ -18,7 +18,7 @@ use Rattle.numbers.specs.Put.{put}
 use Rattle.numbers.proofs.Put.{put_none, put_start, put_next, put_sets}
 use Rattle.ask_walk.specs.Stamps.{seen_as, Under}
 use Rattle.ask_walk.proofs.Stamped.{seen_new, zero_under}
-use Rattle.ask.specs.declared.question.Reply.{Reply}
+use Rattle.ask.specs.declared.Asked.{Asked}
 use Rattle.ask.specs.Replies.{answer_by}
 use Rattle.ask_pairs.specs.Pairs.{six_refused, six_answered, pair_six, sixes, last_marks}
 
@@ -127,7 +127,7 @@ module _ (n : ℕ) (ans : ℕ → ℕ → Answer) (sources targets answers₀ : 
 
     -- an answered pair has marks of its own
     pub asking_answer :
-        {answers' : List ℕ} → u < n → v < n → (r : Reply) (stamp used' : ℕ) (marks' : List ℕ) → answer_by r (seen_as stamp marks') ≡ ans u v → Under (used' + 1) marks' → length marks' ≡ n
+        {answers' : List ℕ} → u < n → v < n → (r : Asked) (stamp used' : ℕ) (marks' : List ℕ) → answer_by r (seen_as stamp marks') ≡ ans u v → Under (used' + 1) marks' → length marks' ≡ n
         → answers' ≡ put answers (6 * i) (0 ∷ 0 ∷ cond r.says 1 0 ∷ r.reason ∷ r.opened ∷ r.deciding ∷ [])
         → Asking n ans sources targets answers₀ marks' answers' (i + 1) used' stamp
     unfolding pair_six last_marks

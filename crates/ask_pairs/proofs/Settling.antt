@@ -1,21 +1,15 @@
 -- Marks settled one by one: those below i are 1 or 0 by whether they bore the stamp, and from i on all are as they were.
 use mathlib.Core.Bool.{cond}
 use mathlib.Core.Path.{◌≡◌, refl, sym, ap, ◌∙◌}
-use mathlib.Core.List.{List, ◌++◌, append-nil}
+use mathlib.Core.List.{List}
 use Prim.Native.Nat.{ℕ, ◌+◌, ◌≤◌, ◌<◌}
 use native.Mathlib.Decide.{ℕ_discrete}
 use native.Mathlib.Omega.{arith}
 use lib.Dec.{eqb}
-use lib.ListN.{length, get_or, set, drop_of_length-le, replicate, length-set}
+use lib.ListN.{length, get_or, set, length-set}
 use lib.Seq.{get_or-set_same, get_or-set_other, ext_get_or}
-use Rattle.lineage.specs.Lists.{cleared}
 use Rattle.ask_walk.specs.Stamps.{seen_as}
 use Rattle.ask_walk.proofs.Stamped.{seen_long, seen_at}
-
--- marks that are all cleared
-pub cleared_whole : (m m' : List ℕ) → m' ≡ cleared (length m) m → m' ≡ replicate (length m) 0
-unfolding cleared
-cleared_whole m m' e = e ∙ ap (λ (z : List ℕ). replicate (length m) 0 ++ z) (drop_of_length-le m {i = length m} (omega arith)) ∙ append-nil (replicate (length m) 0)
 
 pub record Settled (s : ℕ) (m₀ m : List ℕ) (i : ℕ) : Type 0 where
   pub long : length m ≡ length m₀

@@ -13,11 +13,12 @@ ghost use Rattle.ask_walk.specs.Fit.{groups_in, Fit};
 ghost use Rattle.ask_walk.specs.Stamps.{seen_as, Under};
 ghost use Rattle.ask_stacked.specs.Words.{stack_words};
 ghost use Rattle.ask.specs.Replies.{answer_by};
-ghost use Rattle.ask_pairs.specs.Pairs.{sixes, last_marks};
+ghost use Rattle.refusals.specs.Refusals.{number_of, extra_of};
+ghost use Rattle.ask_pairs.specs.Pairs.{six_refused, sixes, last_marks};
 ghost use Rattle.ask_pairs.specs.Places.{table_in, Ready, by_place};
 
-use ask::question::Reply;
-use refusals::BAD_VERTEX;
+use ask::Asked;
+use refusals::Refusal;
 use stored_header::Layout;
 
 pub mod places;
@@ -25,9 +26,9 @@ pub mod places;
 const LAST_STAMP: u8 = 255;
 
 // A pair's reply, the stamp that its walk marked with, and the highest stamp that a mark may bear behind it.
-#[derive(Clone, Copy)]
+#[derive(Clone, Copy, Debug, PartialEq, Eq)]
 pub struct Next {
-    pub reply: Reply,
+    pub reply: Asked,
     pub stamp: u8,
     pub used: u8,
 }
@@ -38,8 +39,7 @@ fn next_stamp(marks: &mut [u8], used: u8) -> u8
     ensures { (0 < result) × (Under result marks.new × (length marks.new ≡ length marks.old)) }
 {
     if used == LAST_STAMP {
-        let n = marks.len();
-        numbers::clear_marks(marks, n);
+        marks.fill(0);
         return 1;
     }
     used + 1
@@ -71,17 +71,10 @@ fn next_reply(
     let reply = ask::question::decide(
         groups, levels, starts, children, labels, w, k, d, x, t, marks, work, stamp,
     );
-    if reply.opened == 0 {
-        return Next {
-            reply,
-            stamp,
-            used: stamp - 1,
-        };
-    }
     Next {
         reply,
         stamp,
-        used: stamp,
+        used: if reply.opened == 0 { stamp - 1 } else { stamp },
     }
 }
 
@@ -107,8 +100,16 @@ fn put_six(
     answers[at + 5] = labelling;
 }
 
+// Writes a refusal as six numbers.
+fn put_refused(answers: &mut [u32], at: usize, r: Refusal)
+    requires { at + 6 ≤ length answers.old }
+    ensures { answers.new ≡ put answers.old at (six_refused (number_of r) (extra_of r)) }
+{
+    put_six(answers, at, r.number(), r.extra(), 0, 0, 0, 0)
+}
+
 // Writes a reply as six numbers.
-fn put_reply(answers: &mut [u32], at: usize, r: Reply)
+fn put_reply(answers: &mut [u32], at: usize, r: Asked)
     requires { at + 6 ≤ length answers.old }
     ensures { answers.new ≡ put answers.old at (0 ∷ 0 ∷ cond r.says 1 0 ∷ r.reason ∷ r.opened ∷ r.deciding ∷ []) }
 {
@@ -150,50 +151,36 @@ fn ask_each(
     ensures kept { Kept work.old work.new 0 (stack_words w n) }
 {
     let base = ask_stacked::stack_words(w, n);
-    let mut i = 0;
     let mut used = 0;
     let mut last = 1;
-    while i < sources.len() {
+    for i in 0..sources.len() {
         let u = sources[i] as usize;
         let v = targets[i] as usize;
         let at = 6 * i;
-        i += 1;
         if n <= u {
-            put_six(answers, at, BAD_VERTEX, 0, 0, 0, 0, 0);
+            put_refused(answers, at, Refusal::BadVertex(0));
+        } else if n <= v {
+            put_refused(answers, at, Refusal::BadVertex(1));
         } else {
-            if n <= v {
-                put_six(answers, at, BAD_VERTEX, 1, 0, 0, 0, 0);
-            } else {
-                let x = work[base + u] as usize;
-                let t = work[base + v] as usize;
-                let a = next_reply(
-                    groups, levels, starts, children, labels, w, k, d, x, t, marks, work, used,
-                );
-                let r = a.reply;
-                put_reply(answers, at, r);
-                used = a.used;
-                last = a.stamp;
-            }
+            let x = work[base + u] as usize;
+            let t = work[base + v] as usize;
+            let a = next_reply(
+                groups, levels, starts, children, labels, w, k, d, x, t, marks, work, used,
+            );
+            put_reply(answers, at, a.reply);
+            used = a.used;
+            last = a.stamp;
         }
     }
     last
-}
-
-// Whether a mark bears the stamp: 1 or 0.
-fn bears(mark: u8, stamp: u8) -> u8
-    ensures { result ≡ cond (eqb mark stamp) 1 0 }
-{
-    if mark == stamp { 1 } else { 0 }
 }
 
 // Sets each mark that bears the stamp to 1, and all others to 0.
 fn settle(marks: &mut [u8], stamp: u8)
     ensures { marks.new ≡ seen_as stamp marks.old }
 {
-    let mut i = 0;
-    while i < marks.len() {
-        marks[i] = bears(marks[i], stamp);
-        i += 1;
+    for mark in marks.iter_mut() {
+        *mark = u8::from(*mark == stamp);
     }
 }
 

@@ -7,11 +7,9 @@ fn place_groups(groups: &[u8], w: usize, k: usize, places: &mut [u32])
     requires { Listed w (length places.old) k groups.now }
     ensures { AtNames w k groups.now places.new }
 {
-    let mut p = 0;
-    while p < k {
+    for p in 0..k {
         let name = numbers::num(groups, w, p);
         places[name] = p as u32;
-        p += 1;
     }
 }
 
@@ -20,11 +18,9 @@ fn place_vertices(names: &[u8], w: usize, n: usize, places: &mut [u32])
     requires { Named w n names.now × (n ≤ length places.old) }
     ensures { FromNames w n names.now places.old places.new }
 {
-    let mut v = 0;
-    while v < n {
+    for v in 0..n {
         let name = numbers::num(names, w, v);
         places[v] = places[name];
-        v += 1;
     }
 }
 

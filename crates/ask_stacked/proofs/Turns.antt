@@ -17,7 +17,7 @@ use Rattle.laws.proofs.Tests.{or_false_left}
 use Rattle.numbers.proofs.Regions.{kept_then}
 use Rattle.numbers.proofs.Numbers.{numbers_long, numbers_at}
 use Rattle.stored.specs.Sections.{labels_in}
-use Rattle.ask_intervals.specs.declared.Judged.{Judged}
+use Rattle.ask_intervals.specs.declared.Judged.TheVariants.{Inside, Outside}
 use Rattle.ask_intervals.specs.Intervals.{judged}
 use Rattle.ask_walk.specs.Fit.{count, all, net_in, skips, Fit}
 use Rattle.ask_walk.proofs.Counting.{ones_low}
@@ -97,27 +97,26 @@ module _ {w k d t : ℕ} {groups levels starts children labels : List ℕ} {n L 
   pub turn_skip : {r : Bool} → r ≡ skips w t groups levels m h → r ≡ true → Walking w k d t groups levels starts children labels n L a work₀ m work behind depth opened
   turn_skip is e = over (skip_over C.fit C.walking.safe turn_low is e)
 
-  module _ {j : Judged} (told : j ≡ judged h t (labels_in w 3 labels k d)) where
-    pub turn_cut : 0 < j.outside → Walking w k d t groups levels starts children labels n L a work₀ m work behind depth opened
-    turn_cut b = over (judged_cut C.fit C.walking.safe turn_low told b)
+  pub turn_cut : {l : ℕ} → Outside l ≡ judged h t (labels_in w 3 labels k d) → Walking w k d t groups levels starts children labels n L a work₀ m work behind depth opened
+  turn_cut told = over (judged_cut C.fit C.walking.safe turn_low told)
 
-    -- rule 2 ends the walk
-    pub turn_hit : 0 < j.inside → walked true j.inside opened m ≡ a
-    turn_hit b =
-        let y = judged_hit C.fit C.walking.safe turn_low told b in
-        ends C.walking true j.inside
-        (ap (λ z. try_rows N (L - depth) z (frames cs work depth) m) ahead
-        ∙ rows_hit N h (rest cs behind) m (L - depth) (frames cs work depth) y.0
-        ∙ ap (λ z. walked true z 0 m) (sym y.1))
+  -- rule 2 ends the walk
+  pub turn_hit : {l : ℕ} → Inside l ≡ judged h t (labels_in w 3 labels k d) → walked true l opened m ≡ a
+  turn_hit {l} told =
+      let y = judged_hit C.fit C.walking.safe turn_low told in
+      ends C.walking true l
+      (ap (λ z. try_rows N (L - depth) z (frames cs work depth) m) ahead
+      ∙ rows_hit N h (rest cs behind) m (L - depth) (frames cs work depth) y.0
+      ∙ ap (λ z. walked true z 0 m) (sym y.1))
 
   -- no test decides it: it is opened
   module _ (U : Untold w k d t groups levels labels m h) {m' work' : List ℕ} {row' : Row} (E : Entered w groups starts h m m' row')
       (noted : work' ≡ set (set work (2 * depth) (row.next + 1)) (2 * depth + 1) row.end) where
     missed : N.yes h ≡ false
-    missed = judged_missed C.fit C.walking.safe turn_low U.told U.none U.uncut
+    missed = judged_missed C.fit C.walking.safe turn_low U.told
 
     passes : (marked N m h || N.no h) ≡ false
-    passes = judged_free C.fit C.walking.safe turn_low U.told U.none U.uncut U.is U.passes
+    passes = judged_free C.fit C.walking.safe turn_low U.told U.is U.passes
 
     free : eqb (get_or m (num_at w groups h) 0) 1 ≡ false
     free = rw (net_spot C.fit h turn_low) (or_false_left (marked N m h) (N.no h) passes)

@@ -11,6 +11,7 @@ ghost use Rattle.ask_walk.specs.Stamps.{seen_as, Under};
 ghost use Rattle.ask_stacked.specs.Entered.{Entered};
 ghost use Rattle.ask_stacked.specs.Words.{stack_words};
 
+use ask_intervals::Judged;
 use ask_walk::Seen;
 
 // What is left of a row of children: those from `next` to before `end`.
@@ -31,21 +32,16 @@ fn push(work: &mut [u32], depth: usize, row: Row)
     work[i + 1] = row.end as u32;
 }
 
-fn wide(x: u32) -> usize
-    ensures { result ≡ x }
-{
-    x as usize
-}
-
 // The row in the frame at a depth.
 fn frame(work: &[u32], depth: usize) -> Row
     requires { 2 * depth + 1 < length work.now }
     ensures { (result.next ≡ get_or work.now (2 * depth) 0) × (result.end ≡ get_or work.now (2 * depth + 1) 0) }
 {
     let i = 2 * depth;
-    let next = wide(work[i]);
-    let end = wide(work[i + 1]);
-    Row { next, end }
+    Row {
+        next: work[i] as usize,
+        end: work[i + 1] as usize,
+    }
 }
 
 // Enters g: marks it with the stamp, at its name, and takes its row.
@@ -97,19 +93,21 @@ fn open_in_words(
             let h = numbers::num(children, w, row.next);
             row.next += 1;
             if !ask_walk::skipped(groups, levels, w, t, marks, h, stamp) {
-                let j = ask_intervals::judge(labels, w, k, d, h, t);
-                if 0 < j.inside {
-                    return Seen {
-                        found: true,
-                        deciding: j.inside,
-                        opened,
-                    };
-                }
-                if j.outside == 0 {
-                    push(work, depth, row);
-                    row = enter(groups, starts, w, marks, h, stamp);
-                    depth += 1;
-                    opened += 1;
+                match ask_intervals::judge(labels, w, k, d, h, t) {
+                    Judged::Inside(deciding) => {
+                        return Seen {
+                            found: true,
+                            deciding,
+                            opened,
+                        };
+                    }
+                    Judged::Outside(_) => {}
+                    Judged::Neither => {
+                        push(work, depth, row);
+                        row = enter(groups, starts, w, marks, h, stamp);
+                        depth += 1;
+                        opened += 1;
+                    }
                 }
             }
         } else if depth > 0 {

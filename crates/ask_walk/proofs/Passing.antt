@@ -4,7 +4,7 @@ use mathlib.Core.Bool.{Bool, true, false, not, ◌||◌, cond}
 use mathlib.Core.Logic.{◌⊎◌, inl, inr, ◌≢◌}
 use mathlib.Core.Path.{◌≡◌, refl, sym, ap, ◌∙◌}
 use mathlib.Core.List.{List}
-use Prim.Native.Nat.{ℕ, ◌≤◌, ◌<◌}
+use Prim.Native.Nat.{ℕ, ◌<◌}
 use native.Mathlib.Omega.{arith}
 use lib.Dec.{eqb, leb, ltb}
 use lib.ListN.{get_or}
@@ -16,9 +16,9 @@ use Rattle.lineage.specs.Question.{inside, outside, first_labelling, rule2, rule
 use Rattle.laws.proofs.Tests.{or_left, or_right, clash, is_false}
 use Rattle.numbers.proofs.Numbers.{numbers_at}
 use Rattle.stored.specs.Sections.{labels_in}
-use Rattle.ask_intervals.specs.declared.Judged.{Judged}
+use Rattle.ask_intervals.specs.declared.Judged.TheVariants.{Inside, Outside, Neither}
 use Rattle.ask_intervals.specs.Intervals.{judged}
-use Rattle.ask_intervals.proofs.Deciding.{first_given, judged_inside, judged_outside, judged_neither}
+use Rattle.ask_intervals.proofs.Deciding.{first_given, judged_tells}
 use Rattle.ask_walk.specs.Fit.{groups_in, net_in, skips, Fit, Safe}
 use Rattle.ask_walk.proofs.Nets.{net_spot, net_yes, net_deciding, net_not_yes}
 
@@ -86,31 +86,31 @@ module _ {w k d t : ℕ} {groups levels starts children labels : List ℕ} {mark
   four = first_given (outside h t) (labels_in w 3 labels k d)
 
   -- the labellings
-  module _ {j : Judged} (told : j ≡ judged h t (labels_in w 3 labels k d)) where
-    pub judged_hit : 0 < j.inside → (N.yes h ≡ true) × (j.inside ≡ N.deciding h)
-    judged_hit b =
-        let first = judged_inside h t (labels_in w 3 labels k d) told b in
-        (net_yes F h j.inside first b, net_deciding F h j.inside first)
+  pub judged_hit : {n : ℕ} → Inside n ≡ judged h t (labels_in w 3 labels k d) → (N.yes h ≡ true) × (n ≡ N.deciding h)
+  judged_hit {n} told =
+      let first = judged_tells h t (labels_in w 3 labels k d) told in
+      (net_yes F h n first.1 first.0, net_deciding F h n first.1)
 
-    pub judged_cut : 0 < j.outside → Over
-    judged_cut b =
-        let cut : rule4 I h t ≡ true = four ∙ rw (← judged_outside h t (labels_in w 3 labels k d) told b) (lt-ltb 0 j.outside b) in (
-          net_two ∙ is_false (rule2 I h t) (λ y. clash cut (F.sure.not_4 h low y)),
-          or_right (marked N m h) (net_no ∙ or_right (rule3 I h t) cut),
-        )
+  pub judged_cut : {n : ℕ} → Outside n ≡ judged h t (labels_in w 3 labels k d) → Over
+  judged_cut {n} told =
+      let first = judged_tells h t (labels_in w 3 labels k d) told in
+      let cut : rule4 I h t ≡ true = four ∙ rw (← first.1) (lt-ltb 0 n first.0) in (
+        net_two ∙ is_false (rule2 I h t) (λ y. clash cut (F.sure.not_4 h low y)),
+        or_right (marked N m h) (net_no ∙ or_right (rule3 I h t) cut),
+      )
 
-    module _ (none : j.inside ≤ 0) (uncut : j.outside ≤ 0) where
-      neither : (first_labelling (inside h t) (labels_in w 3 labels k d) ≡ 0) × (first_labelling (outside h t) (labels_in w 3 labels k d) ≡ 0)
-      neither = judged_neither h t (labels_in w 3 labels k d) told none uncut
+  module _ (told : Neither ≡ judged h t (labels_in w 3 labels k d)) where
+    neither : (first_labelling (inside h t) (labels_in w 3 labels k d) ≡ 0) × (first_labelling (outside h t) (labels_in w 3 labels k d) ≡ 0)
+    neither = judged_tells h t (labels_in w 3 labels k d) told
 
-      pub judged_missed : N.yes h ≡ false
-      judged_missed = net_not_yes F h 0 (sym neither.0) (omega arith)
+    pub judged_missed : N.yes h ≡ false
+    judged_missed = net_not_yes F h 0 (sym neither.0) (omega arith)
 
-      other : h ≢ t
-      other z = clash F.sure.home (ap (λ (q : ℕ). rule2 I q t) (sym z) ∙ sym net_two ∙ judged_missed)
+    other : h ≢ t
+    other z = clash F.sure.home (ap (λ (q : ℕ). rule2 I q t) (sym z) ∙ sym net_two ∙ judged_missed)
 
-      pub judged_free : {r : Bool} → r ≡ skips w t groups levels m h → r ≡ false → (marked N m h || N.no h) ≡ false
-      judged_free is f =
-          let both = skip_not is f other in
-          ap (λ (b : Bool). marked N m h || b) net_no
-          ∙ none_of (marked N m h) (rule3 I h t) (rule4 I h t) both.0 both.1 (four ∙ ap (ltb 0) neither.1)
+    pub judged_free : {r : Bool} → r ≡ skips w t groups levels m h → r ≡ false → (marked N m h || N.no h) ≡ false
+    judged_free is f =
+        let both = skip_not is f other in
+        ap (λ (b : Bool). marked N m h || b) net_no
+        ∙ none_of (marked N m h) (rule3 I h t) (rule4 I h t) both.0 both.1 (four ∙ ap (ltb 0) neither.1)

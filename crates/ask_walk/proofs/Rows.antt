@@ -3,7 +3,7 @@ use mathlib.Core.Path.{◌≡◌, sym, ap, ◌∙◌}
 use mathlib.Core.List.{List, []}
 use Prim.Native.Nat.{ℕ, ◌+◌, ◌-◌, ◌*◌, ◌≤◌, ◌<◌}
 use native.Mathlib.Omega.{arith}
-use native.Mathlib.Nat.{mul-le-mul_left, mul-div-le, div-eq_of_eq-mul_right, lt_of_mul-lt-mul_left, le_of_mul-le-mul_left}
+use native.Mathlib.Nat.{mul-le-mul_left, mul-div-le, div-eq_of_eq-mul_right}
 use lib.ListN.{length, get_or}
 use Rattle.lineage.specs.Numbers.{Width, num_at, numbers}
 use Rattle.numbers.proofs.Numbers.{num_part, numbers_part}
@@ -14,14 +14,6 @@ use Rattle.ask_walk.specs.Fit.{count, all, Fit, Below}
 -- how many whole numbers a stretch holds
 pub count_is : (w n : ℕ) (s : List ℕ) → Width w → length s ≡ w * n → count w s ≡ n
 count_is w n s W e = div-eq_of_eq-mul_right (omega (arith, W.low)) e
-
--- number i is one of them exactly where it starts within the stretch
-module _ (w i : ℕ) (s : List ℕ) (W : Width w) (whole : length s ≡ w * count w s) where
-  pub more : w * i < length s → i < count w s
-  more h = lt_of_mul-lt-mul_left w (rw whole at h)
-
-  pub no_more : length s ≤ w * i → count w s ≤ i
-  no_more h = le_of_mul-le-mul_left (rw whole at h) (omega (arith, W.low))
 
 -- a row ends within the children
 pub end_low :

@@ -22,7 +22,6 @@ open_is N L g name row m f l n m' at is e = rw add-one (ap (added 1) (rw (at, is
 
 -- before child i of the row, n groups are opened and the marks are m
 pub record Tried (N : Net) (L : ℕ) (row m₀ m : List ℕ) (i n : ℕ) : Type 0 where
-  pub low : i ≤ length row
   pub long : length m ≡ length m₀
   pub gain : ones m ≡ ones m₀ + n
   pub left : added n (try_at N L (drop i row) m) ≡ try_at N L row m₀
@@ -30,7 +29,6 @@ pub record Tried (N : Net) (L : ℕ) (row m₀ m : List ℕ) (i n : ℕ) : Type 
 module _ (N : Net) (L : ℕ) (row m₀ : List ℕ) where
   pub tried_none : Tried N L row m₀ m₀ 0 0
   tried_none = record {
-    low = omega arith;
     long = refl;
     gain = omega arith;
     left = let a : Walked = try_at N L row m₀ in ap (λ (n : ℕ). walked a.found a.deciding n a.marks) (zero-add a.opened);
@@ -65,7 +63,7 @@ module _ (N : Net) (L : ℕ) (row m₀ : List ℕ) where
 
         pub tried_over : Tried N L row m₀ m (i + 1) n
         unfolding rest
-        tried_over = record { low = omega arith; long = T.long; gain = T.gain; left = ap (added n) (sym past) ∙ T.left }
+        tried_over = record { long = T.long; gain = T.gain; left = ap (added n) (sym past) ∙ T.left }
 
       -- the child is opened
       module _ (f : Bool) (l a : ℕ) (m' : List ℕ) (y : N.yes h ≡ false) (p : (marked N m h || N.no h) ≡ false) (e : walked f l a m' ≡ open_at N L h m) where
@@ -82,7 +80,6 @@ module _ (N : Net) (L : ℕ) (row m₀ : List ℕ) where
             let A : Gains m (walked f l a m') = rw (← e) at G in
             let b : Walked = rest m' in
             record {
-              low = omega arith;
               long = A.long ∙ T.long;
               gain = omega (arith, T.gain, A.gain);
               left = ap (λ (k : ℕ). walked b.found b.deciding k b.marks) (add_assoc n a b.opened) ∙ ap (added n) (sym (rw t at opened)) ∙ T.left;

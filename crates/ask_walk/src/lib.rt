@@ -6,15 +6,25 @@
 ghost use Rattle.std.specs.Prelude.{◌≡◌, ◌+◌, ◌*◌, ◌≤◌, ◌<◌, length};
 ghost use Rattle.lineage.specs.Numbers.{Width, num_at};
 ghost use Rattle.lineage.specs.Walk.{walked, open_at, try_at};
-ghost use Rattle.ask_walk.specs.Fit.{all, net_in, skips, Fit, Fresh, Marks, Below};
+ghost use Rattle.ask_walk.specs.Fit.{count, all, net_in, skips, Fit, Fresh, Marks, Below};
 ghost use Rattle.ask_walk.specs.Stamps.{seen_as, Under};
 
+use ask_intervals::Judged;
+
 // Whether the target is found, by which labelling, and how many groups were opened.
-#[derive(Clone, Copy)]
+#[derive(Clone, Copy, Debug, PartialEq, Eq)]
 pub struct Seen {
     pub found: bool,
     pub deciding: usize,
     pub opened: usize,
+}
+
+// How many numbers of w bytes a row holds. Each width has its own quotient, so that the machine does not divide.
+fn count(row: &[u8], w: usize) -> usize
+    requires { Width w }
+    ensures { result ≡ count w row.now }
+{
+    if w == 2 { row.len() / 2 } else { row.len() / 4 }
 }
 
 // Whether h is passed over before any labelling is read: by its level, unless it is the target itself, or because it is already opened.
@@ -100,43 +110,43 @@ pub fn try_children(
     ensures marks_after { walked result.found result.deciding result.opened (seen_as stamp marks.new) ≡ try_at (net_in w k d t groups.now levels.now starts.now children.now labels.now) lev (all w row.now) (seen_as stamp marks.old) }
     ensures under { Under (stamp + 1) marks.new }
 {
-    let mut i = 0;
     let mut opened = 0;
-    while w * i < row.len() {
+    for i in 0..count(row, w) {
         let h = numbers::num(row, w, i);
-        i += 1;
         if !skipped(groups, levels, w, t, marks, h, stamp) {
-            let j = ask_intervals::judge(labels, w, k, d, h, t);
-            if 0 < j.inside {
-                return Seen {
-                    found: true,
-                    deciding: j.inside,
-                    opened,
-                };
-            }
-            if j.outside == 0 {
-                let a = open_group(
-                    groups,
-                    levels,
-                    starts,
-                    children,
-                    labels,
-                    w,
-                    k,
-                    d,
-                    t,
-                    marks,
-                    lev - 1,
-                    h,
-                    stamp,
-                );
-                opened += a.opened;
-                if a.found {
+            match ask_intervals::judge(labels, w, k, d, h, t) {
+                Judged::Inside(deciding) => {
                     return Seen {
                         found: true,
-                        deciding: a.deciding,
+                        deciding,
                         opened,
                     };
+                }
+                Judged::Outside(_) => {}
+                Judged::Neither => {
+                    let a = open_group(
+                        groups,
+                        levels,
+                        starts,
+                        children,
+                        labels,
+                        w,
+                        k,
+                        d,
+                        t,
+                        marks,
+                        lev - 1,
+                        h,
+                        stamp,
+                    );
+                    opened += a.opened;
+                    if a.found {
+                        return Seen {
+                            found: true,
+                            deciding: a.deciding,
+                            opened,
+                        };
+                    }
                 }
             }
         }

@@ -1,19 +1,21 @@
 -- The tests of edges and orders by the first bad one, and what holds where checks 1 to 7 pass.
 use mathlib.Core.Bool.{Bool, true, false}
-use mathlib.Core.Path.{◌≡◌, ◌∙◌}
+use mathlib.Core.Path.{◌≡◌, refl, sym, ◌∙◌}
 use Prim.Native.Nat.{ℕ, ◌*◌, ◌≤◌, ◌<◌}
 use native.Mathlib.Omega.{arith}
 use native.Mathlib.Nat.{pos_of_ne-zero}
 use lib.Dec.{eqb, ltb}
 use lib.ListN.{length}
 use borrow.Author.Tests.{ltb-false, eqb-true, eqb-false, not-false, lt-ltb, le-ltb}
+use Rattle.std.specs.Prelude.{Option, Some, None}
 use Rattle.lineage.specs.Lists.{upto, any, first_of}
 use Rattle.lineage.specs.Graph.{Graph}
 use Rattle.lineage.specs.Stored.{Form}
 use Rattle.lineage.specs.Calls.{Input, work_needed, build_early}
 use Rattle.laws.proofs.Tests.{or_false_left, or_false_right}
 use Rattle.laws.specs.Checks.{Pass}
-use Rattle.build_orders.proofs.First.{first_other, any_first}
+use Rattle.build_orders.specs.Found.{found_below}
+use Rattle.build_orders.proofs.First.{first_other, any_first, found_is, found_not}
 use Rattle.build_orders.proofs.Edges.{ends_of}
 use Rattle.build.specs.Admitted.{Admitted}
 
@@ -27,6 +29,21 @@ module _ (p : ℕ → Bool) (n first : ℕ) (found : first ≡ first_of p (upto 
 
   pub first_found : first < n → first ≡ first_of p (upto n) 0
   first_found h = found ∙ first_other p (upto n) n 0 (any_found h)
+
+-- the same, by what a search returned
+module _ (p : ℕ → Bool) (n : ℕ) {r : Option ℕ} (found : r ≡ found_below n (first_of p (upto n) n)) where
+  module _ {first : ℕ} (some : r ≡ Some first) where
+    pub some_low : first < n
+    some_low = (found_is p n (sym some ∙ found)).1
+
+    pub any_some : any p (upto n) ≡ true
+    any_some = any_found p n first (found_is p n (sym some ∙ found)).0 some_low
+
+    pub first_some : first ≡ first_of p (upto n) 0
+    first_some = first_found p n first (found_is p n (sym some ∙ found)).0 some_low
+
+  pub any_none_found : r ≡ None → any p (upto n) ≡ false
+  any_none_found none = none_found p n (first_of p (upto n) n) refl (found_not p n (sym none ∙ found))
 
 -- where none of 1 to 7 applies, all that they ask holds
 pub admitted : (F : Form) (B : Input) (work : ℕ) → Pass (build_early F B work) → Admitted F B work

@@ -11,6 +11,7 @@ use native.Mathlib.Omega.{arith}
 use lib.Dec.{leb, ltb}
 use lib.ListN.{length, get_or, take, replicate, length-replicate}
 use borrow.Author.Tests.{leb-true}
+use Rattle.std.specs.Prelude.{Result}
 use Rattle.lineage.specs.Lists.{upto, any, first_of, joined, part, Every}
 use Rattle.lineage.specs.Graph.{Reaches}
 use Rattle.lineage.specs.Labels.{Order, Labelling}
@@ -35,23 +36,23 @@ use Rattle.open.specs.Yields.{Yields}
 use Rattle.open.proofs.Fits.{form_wide}
 use Rattle.open.proofs.Checks.{opened_right}
 use Rattle.open.proofs.Theorem.{opened_made, opened_plain, opens_within}
-use Rattle.build.specs.declared.Built.{Built}
+use Rattle.refusals.specs.declared.Refusal.{Refusal}
 use Rattle.build.specs.Admitted.{Admitted}
 use Rattle.build.specs.Answers.{built_of}
 use Rattle.build.proofs.Accepted.{orders_good, early_accepted, accepted}
 use Rattle.build.proofs.Theorems.{Finished, built_one, answers_finish, names_many, build_stores, stored_form, stored_counts, build_opens}
 
 -- What `build_hierarchy` may answer and leave.
-pub record Allowed (B : Input) (work out : List ℕ) (r : Built) (work' out' : List ℕ) : Type 0 where
+pub record Allowed (B : Input) (work out : List ℕ) (r : Result ℕ Refusal) (work' out' : List ℕ) : Type 0 where
   pub answers : built_of r ≡ build_answer form4 B (length work) (length out)
   pub leaves : work' ≡ build_work form4 B work
   pub writes : out' ≡ build_output form4 B (length work) out
 
 -- two results are equal
-pub hierarchy_once : {B : Input} {work out : List ℕ} {r r' : Built} {w w' o o' : List ℕ} → Allowed B work out r w o → Allowed B work out r' w' o' → (r ≡ r') × ((w ≡ w') × (o ≡ o'))
+pub hierarchy_once : {B : Input} {work out : List ℕ} {r r' : Result ℕ Refusal} {w w' o o' : List ℕ} → Allowed B work out r w o → Allowed B work out r' w' o' → (r ≡ r') × ((w ≡ w') × (o ≡ o'))
 hierarchy_once X Y = (built_one _ _ (X.answers ∙ sym Y.answers), (X.leaves ∙ sym Y.leaves, X.writes ∙ sym Y.writes))
 
-module _ {B : Input} {work out : List ℕ} {r : Built} {work' out' : List ℕ} (X : Allowed B work out r work' out') where
+module _ {B : Input} {work out : List ℕ} {r : Result ℕ Refusal} {work' out' : List ℕ} (X : Allowed B work out r work' out') where
   -- a plain hierarchy under one order, within the bounds, is built
   pub hierarchy_finishes : Admitted form4 B (length work) → Every (Order B.graph.n) (orders_of B) → is_tree (built B).children ≡ true
       → length_of form4 (built B) ≤ length out

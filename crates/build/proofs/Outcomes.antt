@@ -8,6 +8,7 @@ use Prim.Native.Nat.{ℕ, ◌+◌, ◌*◌, ◌^◌, ◌≤◌, ◌<◌}
 use native.Mathlib.Omega.{arith}
 use lib.ListN.{length, get_or, drop}
 use borrow.Author.Tests.{lt-ltb, le-ltb}
+use Rattle.std.specs.Prelude.{Option, Some, None}
 use Rattle.lineage.specs.Lists.{upto, any, first_of, part}
 use Rattle.lineage.specs.Graph.{Graph, Condensed}
 use Rattle.lineage.specs.Index.{Index, index_by, index_of}
@@ -18,6 +19,7 @@ use Rattle.laws.proofs.Lists.{in_upto, any_none}
 use Rattle.laws.proofs.Parts.{part_at}
 use Rattle.numbers.specs.Regions.{Kept}
 use Rattle.numbers.proofs.Regions.{kept_then, kept_wider}
+use Rattle.build_orders.specs.Found.{found_below}
 use Rattle.build_orders.proofs.Permutations.{order_of}
 use Rattle.build_labelled.specs.Window.{labels_window, children_by}
 use Rattle.stored_header.specs.declared.Row.{Row}
@@ -31,7 +33,7 @@ use Rattle.build_indexed.proofs.Written.{index_total, header_small}
 use Rattle.build.specs.Input.{form_by, RowFit}
 use Rattle.build.specs.Admitted.{Admitted}
 use Rattle.build.specs.Answers.{LateBuilt}
-use Rattle.build.proofs.Checks.{any_found, none_found, first_found}
+use Rattle.build.proofs.Checks.{any_some, first_some, any_none_found}
 use Rattle.build.proofs.Tree.{tree_passes, tree_fails}
 
 module _ {B : Input} {form : ℕ} {row : Row} (fit : RowFit row) (work : List ℕ) (A : Admitted (form_by form row) B (length work)) where
@@ -48,15 +50,15 @@ module _ {B : Input} {form : ℕ} {row : Row} (fit : RowFit row) (work : List �
   e = length G.sources
 
   -- the first order that is no permutation, looked for in the first n words
-  module _ {bad : ℕ} (found : bad ≡ first_of (bad_order n B.orders) (upto B.d) B.d) {w₁ : List ℕ} (K : Kept work w₁ 0 n) where
+  module _ {bad : Option ℕ} (found : bad ≡ found_below B.d (first_of (bad_order n B.orders) (upto B.d) B.d)) {w₁ : List ℕ} (K : Kept work w₁ 0 n) where
     order_kept : Kept work w₁ 0 (work_needed G)
     order_kept = kept_wider 0 (work_needed G) (omega arith) (omega arith) K
 
-    pub order_refused : (out : List ℕ) → bad < B.d → LateBuilt F B work out (refused 8 bad) w₁ out
+    pub order_refused : (out : List ℕ) {i : ℕ} → bad ≡ Some i → LateBuilt F B work out (refused 8 i) w₁ out
     order_refused out h =
-        let some = any_found (bad_order n B.orders) B.d bad found h in
+        let some = any_some (bad_order n B.orders) B.d found h in
         record {
-          answer = ap (refused 8) (first_found (bad_order n B.orders) B.d bad found h) ∙ rw some;
+          answer = ap (refused 8) (first_some (bad_order n B.orders) B.d found h) ∙ rw some;
           output = rw some;
           kept = order_kept;
         }
@@ -66,14 +68,14 @@ module _ {B : Input} {form : ℕ} {row : Row} (fit : RowFit row) (work : List �
 
     -- every order is a permutation, and k groups and c child entries are found
     module _
-        (right : B.d ≤ bad) {w₂ : List ℕ} {k c : ℕ} (C : CondensedFound G w₁ w₂ k c)
+        (right : bad ≡ None) {w₂ : List ℕ} {k c : ℕ} (C : CondensedFound G w₁ w₂ k c)
       where
         -- the layout
         abbrev L : Layout
         L = layout_by row.width row.stride (counts n k c B.d)
 
         none : any (bad_order n B.orders) (upto B.d) ≡ false
-        none = none_found (bad_order n B.orders) B.d bad found right
+        none = any_none_found (bad_order n B.orders) B.d found right
 
         ready : Ready L e B.orders w₂
         ready = record {
@@ -133,32 +135,36 @@ module _ {B : Input} {form : ℕ} {row : Row} (fit : RowFit row) (work : List �
         children_built = ap (λ (I : Index). I.children) (sym index_built)
 
         -- the first group that keeps the graph out of the form
-        module _ {first : ℕ} (first_is : first ≡ cond row.tree (first_of (row_shared (part w₂ (3 * n) (k + 1))) (upto k) k) k) where
-          kept_out_is : first ≡ cond row.tree (first_of (shared children) (upto k) k) k
-          kept_out_is = first_is ∙ ap (λ (x : ℕ). cond row.tree x k) (first_shared C.stored)
+        module _ {first : Option ℕ} (first_is : first ≡ cond row.tree (found_below k (first_of (row_shared (part w₂ (3 * n) (k + 1))) (upto k) k)) None) where
+          kept_out_is : first ≡ cond row.tree (found_below k (first_of (shared children) (upto k) k)) None
+          kept_out_is = first_is ∙ ap (λ (x : ℕ). cond row.tree (found_below k x) None) (first_shared C.stored)
 
-          -- its name
-          name_is : first < k → get_or w₂ (n + first) 0 ≡ get_or (built B).groups first 0
-          unfolding index_by
-          name_is h = part_at w₂ n k first h ∙ ap (λ (I : Index). get_or I.groups first 0) index_built
+          module _ {p : ℕ} (h : first ≡ Some p) where
+            pub shared_low : p < k
+            shared_low = (tree_fails children k children_long row.tree first kept_out_is h).low
 
-          pub shared_refused : (out : List ℕ) → first < k → LateBuilt F B work out (refused 22 (get_or w₂ (n + first) 0)) w₂ out
-          shared_refused out h =
-              let (fails, is) = tree_fails children k children_long row.tree first kept_out_is h in
-              let test : (row.tree && not (is_tree (built B).children)) ≡ true = ap (λ (x : List (List ℕ)). row.tree && not (is_tree x)) children_built ∙ fails in
-              let name : get_or w₂ (n + first) 0 ≡ (tree_check F (built B)).extra =
-              name_is h
-              ∙ ap (λ (i : ℕ). get_or (built B).groups i 0)
-              (is ∙ ap (λ (x : List (List ℕ)). first_of (shared x) (upto (length x)) 0) (sym children_built)) in
-              record { answer = ap (refused 22) name ∙ rw (none, test); output = rw (none, test); kept = condensed_kept }
+            -- its name
+            name_is : get_or w₂ (n + p) 0 ≡ get_or (built B).groups p 0
+            unfolding index_by
+            name_is = part_at w₂ n k p shared_low ∙ ap (λ (I : Index). get_or I.groups p 0) index_built
 
-          passes : k ≤ first → (row.tree && not (is_tree (built B).children)) ≡ false
+            pub shared_refused : (out : List ℕ) → LateBuilt F B work out (refused 22 (get_or w₂ (n + p) 0)) w₂ out
+            shared_refused out =
+                let fails = tree_fails children k children_long row.tree first kept_out_is h in
+                let test : (row.tree && not (is_tree (built B).children)) ≡ true = ap (λ (x : List (List ℕ)). row.tree && not (is_tree x)) children_built ∙ fails.applies in
+                let name : get_or w₂ (n + p) 0 ≡ (tree_check F (built B)).extra =
+                name_is
+                ∙ ap (λ (i : ℕ). get_or (built B).groups i 0)
+                (fails.is ∙ ap (λ (x : List (List ℕ)). first_of (shared x) (upto (length x)) 0) (sym children_built)) in
+                record { answer = ap (refused 22) name ∙ rw (none, test); output = rw (none, test); kept = condensed_kept }
+
+          passes : first ≡ None → (row.tree && not (is_tree (built B).children)) ≡ false
           passes h =
               ap (λ (x : List (List ℕ)). row.tree && not (is_tree x)) children_built
               ∙ tree_passes children k children_long row.tree first kept_out_is h
 
           -- none does: the output is too short, or it is written
-          module _ (plain : k ≤ first) {l : Layout} (l-is : l ≡ L) where
+          module _ (plain : first ≡ None) {l : Layout} (l-is : l ≡ L) where
             pub short_refused : (out : List ℕ) → length out < l.total → LateBuilt F B work out (refused 9 l.total) w₂ out
             short_refused out h =
                 let short = lt-ltb (length out) (length_of F (built B)) (omega (arith, total_is l-is)) in

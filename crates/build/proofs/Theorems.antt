@@ -11,6 +11,7 @@ use lib.Dec.{leb}
 use lib.ListN.{length, take, drop}
 use lib.Seq.{take_at, drop_at}
 use borrow.Author.Tests.{lt-leb}
+use Rattle.std.specs.Prelude.{Result}
 use Rattle.lineage.specs.Lists.{upto, Every}
 use Rattle.lineage.specs.Graph.{Graph, Reaches, condense}
 use Rattle.lineage.specs.Labels.{Order, labelling}
@@ -30,8 +31,8 @@ use Rattle.laws.specs.Checks.{Pass}
 use Rattle.laws.proofs.Checks.{stops_early, pass_front, pass_behind, pass_both, stops_outcome, answered_pass, answered_is}
 use Rattle.stored.proofs.Encoded.{header_read, counts_read, encode_long, index_encode}
 use Rattle.open.proofs.Fits.{Wide, form_wide, bounds_kept, yielded_fits, fits_opens}
-use Rattle.build.specs.declared.Built.{Built}
-use Rattle.build.specs.declared.Built.TheVariants.{Total, Refused}
+use Rattle.refusals.specs.declared.Refusal.{Refusal}
+use Rattle.refusals.proofs.Told.{outcome_once}
 use Rattle.build.specs.Admitted.{Admitted}
 use Rattle.build.specs.Answers.{built_of}
 use Rattle.build.proofs.Checks.{admitted}
@@ -64,22 +65,19 @@ answers_finish F B work out X A permuted plain room =
     ∙ stops_outcome (length_of F (built B)) (build_early F B (length work) ++ build_late F B (length out)) 10 (accepted F B (length work) (length out) A permuted plain room)
 
 -- What `build` may answer and leave, by its contract.
-pub record Allowed (form : ℕ) (B : Input) (work out : List ℕ) (r : Built) (work' out' : List ℕ) : Type 0 where
+pub record Allowed (form : ℕ) (B : Input) (work out : List ℕ) (r : Result ℕ Refusal) (work' out' : List ℕ) : Type 0 where
   pub answers : built_of r ≡ build_call form B (length work) (length out)
   pub leaves : work' ≡ build_call_work form B work
   pub writes : out' ≡ build_call_output form B (length work) out
 
-pub built_one : (r r' : Built) → built_of r ≡ built_of r' → r ≡ r'
-built_one (Total t) (Total t') e = cc
-built_one (Total t) (Refused number extra) e = let z : ◌≡◌ {A = ℕ} 0 1 = cc in absurd (omega arith)
-built_one (Refused number extra) (Total t) e = let z : ◌≡◌ {A = ℕ} 0 1 = cc in absurd (omega arith)
-built_one (Refused number extra) (Refused number' extra') e = cc
+pub built_one : (r r' : Result ℕ Refusal) → built_of r ≡ built_of r' → r ≡ r'
+built_one = outcome_once (λ total. total) (λ t t' e. e)
 
 -- two results are equal
-pub built_once : {form : ℕ} {B : Input} {work out : List ℕ} {r r' : Built} {w w' o o' : List ℕ} → Allowed form B work out r w o → Allowed form B work out r' w' o' → (r ≡ r') × ((w ≡ w') × (o ≡ o'))
+pub built_once : {form : ℕ} {B : Input} {work out : List ℕ} {r r' : Result ℕ Refusal} {w w' o o' : List ℕ} → Allowed form B work out r w o → Allowed form B work out r' w' o' → (r ≡ r') × ((w ≡ w') × (o ≡ o'))
 built_once X Y = (built_one _ _ (X.answers ∙ sym Y.answers), (X.leaves ∙ sym Y.leaves, X.writes ∙ sym Y.writes))
 
-module _ {form : ℕ} {B : Input} {work out : List ℕ} {r : Built} {work' out' : List ℕ} (X : Allowed form B work out r work' out') where
+module _ {form : ℕ} {B : Input} {work out : List ℕ} {r : Result ℕ Refusal} {work' out' : List ℕ} (X : Allowed form B work out r work' out') where
   abbrev own : Form
   own = form_of form
 

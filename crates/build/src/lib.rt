@@ -1,31 +1,22 @@
 // Build: from an edge list and some orders to exactly the bytes of the stored form, in lent memory.
 #![tactic(auto)]
 
-ghost use Rattle.std.specs.Prelude.{true, cond, ◌≡◌, ◌+◌, ◌^◌, ◌≤◌, ◌<◌, length};
+ghost use Rattle.std.specs.Prelude.{None, true, cond, ◌≡◌, ◌+◌, ◌^◌, ◌≤◌, ◌<◌, length};
 ghost use Rattle.lineage.specs.Lists.{upto, first_of, part};
 ghost use Rattle.lineage.specs.Stored.{form4, form_of, is_form};
 ghost use Rattle.lineage.specs.Calls.{work_needed, build_early, build_answer, build_output, build_work, build_call, build_call_output, build_call_work, outcome};
 ghost use Rattle.stored_header.specs.Header.{row_of};
 ghost use Rattle.build_orders.specs.Input.{graph_of};
+ghost use Rattle.build_orders.specs.Found.{found_below};
 ghost use Rattle.build_indexed.specs.Shared.{row_shared};
 ghost use Rattle.build.specs.Input.{input_of, form_by, RowFit};
 ghost use Rattle.build.specs.Answers.{checked_of, built_of, LateBuilt};
 ghost use Rattle.build.specs.Admitted.{Admitted};
 
-use refusals::{
-    BAD_EDGE, BAD_LABELLINGS, BAD_ORDER, BAD_ORDER_LIST, LISTS_DIFFER, MANY_EDGES, MANY_VERTICES,
-    OTHER_FORM, OUTPUT_SHORT, SHARED_CHILD, WORK_SHORT,
-};
+use refusals::Refusal;
 use stored_header::Row;
 
-// What checks 1 to 7 come to: the words of work memory that are needed, or a refusal with its number and its extra number.
-#[derive(Clone, Copy)]
-enum Checked {
-    Passed(usize),
-    Refused { number: u32, extra: u32 },
-}
-
-// Checks 1 to 7: lengths against the bounds of a form's row, then the edge ends.
+// Checks 1 to 7: lengths against the bounds of a form's row, then the edge ends. Returns the words of work memory that are needed.
 fn early(
     row: Row,
     n: usize,
@@ -34,7 +25,7 @@ fn early(
     orders: &[u32],
     d: usize,
     work: usize,
-) -> Checked
+) -> Result<usize, Refusal>
     requires { RowFit row }
     ensures { checked_of result ≡ outcome (build_early (form_by 0 row) (input_of n sources.now targets.now d orders.now) work) (work_needed (graph_of n sources.now targets.now)) }
 {
@@ -43,75 +34,40 @@ fn early(
     let most_labellings = row.labellings;
     let edges = sources.len();
     if most_vertices < n {
-        return Checked::Refused {
-            number: MANY_VERTICES,
-            extra: 0,
-        };
+        return Err(Refusal::ManyVertices);
     }
     if edges != targets.len() {
-        return Checked::Refused {
-            number: LISTS_DIFFER,
-            extra: 0,
-        };
+        return Err(Refusal::ListsDiffer);
     }
     if most_edges < edges {
-        return Checked::Refused {
-            number: MANY_EDGES,
-            extra: 0,
-        };
+        return Err(Refusal::ManyEdges);
     }
-    if d == 0 {
-        return Checked::Refused {
-            number: BAD_LABELLINGS,
-            extra: 0,
-        };
-    }
-    if most_labellings < d {
-        return Checked::Refused {
-            number: BAD_LABELLINGS,
-            extra: 0,
-        };
+    if d == 0 || most_labellings < d {
+        return Err(Refusal::BadLabellings);
     }
     if orders.len() != d * n {
-        return Checked::Refused {
-            number: BAD_ORDER_LIST,
-            extra: 0,
-        };
+        return Err(Refusal::BadOrderList);
     }
     let needed = 16 * n + 4 * edges + 64;
     if work < needed {
-        return Checked::Refused {
-            number: WORK_SHORT,
-            extra: needed as u32,
-        };
+        return Err(Refusal::WorkShort(needed as u32));
     }
     let first = build_orders::bad_edge(n, sources, targets);
     if first < edges {
-        return Checked::Refused {
-            number: BAD_EDGE,
-            extra: first as u32,
-        };
+        return Err(Refusal::BadEdge(first as u32));
     }
-    Checked::Passed(needed)
+    Ok(needed)
 }
 
-// A finished build's total length, or a refusal with its number and its extra number.
-#[derive(Clone, Copy)]
-pub enum Built {
-    Total(u32),
-    Refused { number: u32, extra: u32 },
-}
-
-// The first group that keeps a graph out of a form: at a form of plain hierarchies the first that is a child of two others, by its row of parents; where none does, the
-// number of groups.
-fn first_kept_out(tree: bool, work: &[u32], parents: usize, k: usize) -> usize
+// The first group that keeps a graph out of a form: at a form of plain hierarchies the first that is a child of two others, by its row of parents.
+fn first_kept_out(tree: bool, work: &[u32], parents: usize, k: usize) -> Option<usize>
     requires { parents + k + 1 ≤ length work.now }
-    ensures { (result ≡ cond tree (first_of (row_shared (part work.now parents (k + 1))) (upto k) k) k) × (result ≤ k) }
+    ensures { result ≡ cond tree (found_below k (first_of (row_shared (part work.now parents (k + 1))) (upto k) k)) None }
 {
     if tree {
         build_indexed::first_shared(work, parents, k)
     } else {
-        k
+        None
     }
 }
 
@@ -127,41 +83,27 @@ fn late(
     d: usize,
     work: &mut [u32],
     out: &mut [u8],
-) -> Built
+) -> Result<u32, Refusal>
     requires form_bound { form < 2 ^ 32 }
     requires row_fit { RowFit row }
     requires admitted { Admitted (form_by form row) (input_of n sources.now targets.now d orders.now) (length work.old) }
     ensures { LateBuilt (form_by form row) (input_of n sources.now targets.now d orders.now) work.old out.old (built_of result) work.new out.new }
 {
     let edges = sources.len();
-    let bad = build_orders::bad_order(orders, d, n, work, 0);
-    if bad < d {
-        return Built::Refused {
-            number: BAD_ORDER,
-            extra: bad as u32,
-        };
+    if let Some(bad) = build_orders::bad_order(orders, d, n, work, 0) {
+        return Err(Refusal::BadOrder(bad as u32));
     }
     let found = build_indexed::condensed(n, sources, targets, work);
     let l = stored_header::lay_out(row.width, row.stride, n, found.k, found.c, d);
     let total = l.total as u32;
-    let shared = first_kept_out(row.tree, work, 3 * n, found.k);
-    let kept_out = shared < found.k;
-    let short = out.len() < l.total;
-    if kept_out {
-        let name = work[n + shared];
-        return Built::Refused {
-            number: SHARED_CHILD,
-            extra: name,
-        };
+    if let Some(shared) = first_kept_out(row.tree, work, 3 * n, found.k) {
+        return Err(Refusal::SharedChild(work[n + shared]));
     }
-    if short {
-        return Built::Refused {
-            number: OUTPUT_SHORT,
-            extra: total,
-        };
+    if out.len() < l.total {
+        return Err(Refusal::OutputShort(total));
     }
     build_indexed::write_index(out, form, l, edges, orders, work);
-    Built::Total(total)
+    Ok(total)
 }
 
 // A build at a form of the table, with the form's row: checks 1 to 7 alter nothing, and what comes behind them ends with the needed words at 0.
@@ -175,21 +117,17 @@ pub fn build_form(
     d: usize,
     work: &mut [u32],
     out: &mut [u8],
-) -> Built
+) -> Result<u32, Refusal>
     requires form_value { is_form form ≡ true }
     requires row_value { row ≡ row_of form }
     ensures result_value { built_of result ≡ build_answer (form_of form) (input_of n sources.now targets.now d orders.now) (length work.old) (length out.old) }
     ensures work_after { work.new ≡ build_work (form_of form) (input_of n sources.now targets.now d orders.now) work.old }
     ensures out_after { out.new ≡ build_output (form_of form) (input_of n sources.now targets.now d orders.now) (length work.old) out.old }
 {
-    match early(row, n, sources, targets, orders, d, work.len()) {
-        Checked::Refused { number, extra } => Built::Refused { number, extra },
-        Checked::Passed(needed) => {
-            let built = late(form, row, n, sources, targets, orders, d, work, out);
-            numbers::clear_words(work, needed);
-            built
-        }
-    }
+    let needed = early(row, n, sources, targets, orders, d, work.len())?;
+    let built = late(form, row, n, sources, targets, orders, d, work, out);
+    numbers::clear_words(work, needed);
+    built
 }
 
 // Builds the index of an edge list under d orders, at form 1 or 2; any other form is refused before all else. The output then holds the stored form, and nothing else
@@ -203,17 +141,14 @@ pub fn build(
     d: u32,
     work: &mut [u32],
     out: &mut [u8],
-) -> Built
+) -> Result<u32, Refusal>
     ensures result_value { built_of result ≡ build_call form (input_of n sources.now targets.now d orders.now) (length work.old) (length out.old) }
     ensures work_after { work.new ≡ build_call_work form (input_of n sources.now targets.now d orders.now) work.old }
     ensures out_after { out.new ≡ build_call_output form (input_of n sources.now targets.now d orders.now) (length work.old) out.old }
 {
     let number = form as usize;
     if !stored_header::takes(1, 2, number) {
-        return Built::Refused {
-            number: OTHER_FORM,
-            extra: form,
-        };
+        return Err(Refusal::OtherForm(form));
     }
     build_form(
         number,
@@ -237,7 +172,7 @@ pub fn build_hierarchy(
     d: u32,
     work: &mut [u32],
     out: &mut [u8],
-) -> Built
+) -> Result<u32, Refusal>
     ensures result_value { built_of result ≡ build_answer form4 (input_of n sources.now targets.now d orders.now) (length work.old) (length out.old) }
     ensures work_after { work.new ≡ build_work form4 (input_of n sources.now targets.now d orders.now) work.old }
     ensures out_after { out.new ≡ build_output form4 (input_of n sources.now targets.now d orders.now) (length work.old) out.old }

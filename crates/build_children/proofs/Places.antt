@@ -1,5 +1,5 @@
--- Parents of groups told by their places. The rows of edges by target hold, for each group, the places that its edges come from: an edge leads from p into q exactly where p
--- stands in row q. Without their own numbers and without repeats they are the rows of parents.
+-- Parents of groups told by their places. The rows of edges by target hold, for each group, the places that its edges come from: an edge leads from p into q
+-- exactly where p stands in row q. Without their own numbers and without repeats they are the rows of parents.
 use mathlib.Core.Bool.{Bool, true, false, not, ◌&&◌, ◌||◌, and-true, and-false, and_comm, or-false}
 use mathlib.Core.Path.{◌≡◌, refl, sym, ap, ap₂, ◌∙◌}
 use mathlib.Core.List.{List, [], ◌∷◌}

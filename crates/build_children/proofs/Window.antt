@@ -1,4 +1,5 @@
--- From pass to pass. The stamps and then the sequence lie between the two areas; each pass finds what those before it left, and the table of places is as it was.
+-- From pass to pass. The stamps and then the sequence lie between the two areas; each pass finds what those before it left, and the table of places is as it
+-- was.
 use mathlib.Core.Path.{◌≡◌, sym, ap, subst}
 use mathlib.Core.List.{List, [], ◌∷◌}
 use Prim.Native.Nat.{ℕ, ◌+◌, ◌≤◌}

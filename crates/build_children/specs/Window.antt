@@ -1,5 +1,6 @@
 -- The window that children and parents of k groups and e edges are laid out in. From base on: where the rows of parents start, k + 1 words, and e words whose
--- first c are the parents; k stamps, and then the sequence 0, .. , k - 1; where the rows of children start, k + 1 words, and e words whose first c are the children.
+-- first c are the parents; k stamps, and then the sequence 0, .. , k - 1; where the rows of children start, k + 1 words, and e words whose first c are the
+-- children.
 use Rattle.std.specs.Prelude.{Bool, List, ℕ, ◌+◌, ◌*◌, ◌^◌, ◌≤◌, ◌<◌, length}
 use Rattle.lineage.specs.Lists.{part}
 use Rattle.lineage.specs.Graph.{Graph, Ends, is_child}

@@ -1,5 +1,6 @@
--- From the edges to the groups, step by step. The first n words send each vertex to itself, so the rows that are laid out are the rows of the edge list; every vertex is a root
--- of the traversal, so the names that it leaves are the graph's; and names that are not above their vertices and are their own names can be listed.
+-- From the edges to the groups, step by step. The first n words send each vertex to itself, so the rows that are laid out are the rows of the edge list; every
+-- vertex is a root of the traversal, so the names that it leaves are the graph's; and names that are not above their vertices and are their own names can be
+-- listed.
 use mathlib.Core.Bool.{true}
 use mathlib.Core.Path.{◌≡◌, sym, ap, ◌∙◌, subst}
 use mathlib.Core.Logic.{◌↔◌}

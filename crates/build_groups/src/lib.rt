@@ -21,8 +21,7 @@ pub fn group_list(work: &mut [u32], names: usize, n: usize, base: usize) -> usiz
     let groups = base + n;
     let places = base + 2 * n;
     let mut k = 0;
-    let mut v = 0;
-    while v < n {
+    for v in 0..n {
         let name = work[names + v];
         let own = name as usize;
         work[base + v] = name;
@@ -33,7 +32,6 @@ pub fn group_list(work: &mut [u32], names: usize, n: usize, base: usize) -> usiz
         } else {
             work[places + v] = work[places + own];
         }
-        v += 1;
     }
     k
 }

@@ -3,13 +3,11 @@ use mathlib.Core.Path.{◌≡◌, ap, ◌∙◌}
 use mathlib.Core.List.{List}
 use Prim.Native.Nat.{ℕ, ◌+◌, ◌*◌, ◌≤◌, ◌<◌}
 use native.Mathlib.Omega.{arith}
-use native.Mathlib.Nat.{mul-le-mul}
 use lib.ListN.{length}
 use Rattle.lineage.specs.Lists.{part}
 use Rattle.lineage.specs.Numbers.{written}
 use Rattle.lineage.specs.Labels.{Labelling}
-use Rattle.lineage.specs.Stored.{label_numbers, most_labellings}
-use Rattle.numbers.specs.Bounds.{vertex_bound}
+use Rattle.lineage.specs.Stored.{label_numbers}
 use Rattle.numbers.specs.Put.{put}
 use Rattle.build_orders.proofs.Permutations.{order_room}
 use Rattle.build_labelled.specs.Window.{walk_at, window_labelling, Labelled}
@@ -20,12 +18,6 @@ use Rattle.build_writing.specs.Fit.{LabellingFit}
 use Rattle.build_indexed.specs.Memory.{children_from, labels_from, labelling_block, Ready, OrderLabelled}
 
 module _ {l : Layout} {e : ℕ} {orders work : List ℕ} (fit : Ready l e orders work) where
-  -- order j lies in the order list
-  pub order_small : (j : ℕ) → j < l.d → j * l.n ≤ most_labellings * vertex_bound
-  order_small j h =
-      let few : j ≤ most_labellings = omega (arith, fit.most) in
-      mul-le-mul few fit.vertices
-
   -- the regions that code has reckoned
   module _
       {children base walk : ℕ} (children-is : children ≡ children_from l.n l.k e) (base-is : base ≡ labels_from l.n l.k e)

@@ -28,9 +28,7 @@ use Rattle.build_writing.proofs.Behind.{blocks_put, blocks_none, blocks_more}
 use Rattle.build_indexed.specs.Memory.{children_from, labels_from, labelling_under, labelling_block, GroupsStored, Ready, OrderLabelled}
 
 -- j orders are gone through: their labellings are written, and the last of them is still there
-pub record Turns (l : Layout) (e : ℕ) (orders out₀ work₀ out work : List ℕ) (at j : ℕ) : Type 0 where
-  pub most : j ≤ l.d
-  pub here : at ≡ l.labels + l.width * ((l.stride + 1) * l.k * j)
+pub record Turns (l : Layout) (e : ℕ) (orders out₀ work₀ out work : List ℕ) (j : ℕ) : Type 0 where
   pub long : length out ≡ length out₀
   pub kept : Kept work₀ work (labels_from l.n l.k e) (labels_window l.n l.k l.c)
   pub last : 0 < j → OrderLabelled l e orders work₀ work (j - 1)
@@ -90,54 +88,48 @@ module _ {l : Layout} {e : ℕ} {orders work₀ : List ℕ} (fit : Ready l e ord
       numbers_of_long fit.stride l.k (labelling_under l e orders work₀ j)
       ((labelling_sound G.sound (order_at l.n orders j) (rw all (fit.permuted j h))).at_long ∙ G.sound.children_long ∙ G.vertices.all)
 
-  pub turns_none : (out₀ : List ℕ) → Turns l e orders out₀ work₀ out₀ work₀ l.labels 0
+  pub turns_none : (out₀ : List ℕ) → Turns l e orders out₀ work₀ out₀ work₀ 0
   turns_none out₀ = record {
-    most = omega arith;
-    here = omega arith;
     long = refl;
     kept = kept_same work₀ (labels_from l.n l.k e) (labels_window l.n l.k l.c);
     last = λ h. absurd (omega arith);
     labels = blocks_none l.width l.labels (labelling_block l e orders work₀) out₀;
   }
 
-  module _ {out₀ out work : List ℕ} {at j : ℕ} (t : Turns l e orders out₀ work₀ out work at j) where
+  module _ {out₀ out work : List ℕ} {j : ℕ} (t : Turns l e orders out₀ work₀ out work j) where
     pub turns_ready : Ready l e orders work
     turns_ready = ready_kept t.kept
 
-    -- the next labelling lies in the output
-    pub turns_within : l.total ≤ length out₀ → j < l.d → at + l.width * ((l.stride + 1) * l.k) ≤ length out₀
-    turns_within room h =
-        omega (arith, t.here, total_at, mul-le-mul_left l.width (labelling_within ((l.stride + 1) * l.k) l.d j h))
+    -- where the next labelling goes; it lies in the output
+    pub turns_within : l.total ≤ length out₀ → j < l.d → l.labels + l.width * ((l.stride + 1) * l.k * j) + l.width * ((l.stride + 1) * l.k) ≤ length out₀
+    turns_within room h = omega (arith, total_at, mul-le-mul_left l.width (labelling_within ((l.stride + 1) * l.k) l.d j h))
 
-    pub turns_more : {out' work' : List ℕ} (step : ℕ)
+    pub turns_more : {out' work' : List ℕ} {at : ℕ}
         → l.total ≤ length out₀
         → j < l.d
-        → step ≡ l.width * ((l.stride + 1) * l.k)
+        → at ≡ l.labels + l.width * ((l.stride + 1) * l.k * j)
         → length out' ≡ length out
         → OrderLabelled l e orders work work' j
         → out' ≡ put out at (written l.width (labelling_block l e orders work j))
-        → Turns l e orders out₀ work₀ out' work' (at + step) (j + 1)
-    turns_more step room h step_is long made put_is =
+        → Turns l e orders out₀ work₀ out' work' (j + 1)
+    turns_more {at = at} room h here long made put_is =
         let since = labelled_since fit.stored.fit t.kept made in
         let before : j ≡ j + 1 - 1 = omega arith in
         record {
-          most = omega arith;
-          here = omega (arith, t.here);
           long = long ∙ t.long;
           kept = since.kept;
           last = λ _. subst (OrderLabelled l e orders work₀ _) before since;
           labels =
               put_is
               ∙ ap (λ (z : List ℕ). put out at (written l.width z)) (block_same t.kept j)
-              ∙ blocks_more l.width l.labels (labelling_block l e orders work₀) out₀ ((l.stride + 1) * l.k) out at j (λ i b. block_long i (omega arith)) t.labels t.here
+              ∙ blocks_more l.width l.labels (labelling_block l e orders work₀) out₀ ((l.stride + 1) * l.k) out at j (λ i b. block_long i (omega arith)) t.labels here
               (omega (arith, turns_within room h));
         }
 
     -- all of them
-    pub turns_all : l.d ≤ j
+    pub turns_all : j ≡ l.d
         → OrderLabelled l e orders work₀ work (l.d - 1) × (out ≡ put out₀ l.labels (written l.width (joined (map (labelling_block l e orders work₀) (upto l.d)))))
-    turns_all h =
-        let done : j ≡ l.d = omega (arith, t.most) in (
-          subst (λ (i : ℕ). OrderLabelled l e orders work₀ work (i - 1)) done (t.last (omega (arith, fit.least))),
-          t.labels ∙ ap (blocks_put l.width l.labels (labelling_block l e orders work₀) out₀) done,
-        )
+    turns_all done = (
+      subst (λ (i : ℕ). OrderLabelled l e orders work₀ work (i - 1)) done (t.last (omega (arith, fit.least))),
+      t.labels ∙ ap (blocks_put l.width l.labels (labelling_block l e orders work₀) out₀) done,
+    )

@@ -12,10 +12,12 @@ ghost use Rattle.numbers.specs.Put.{put};
 ghost use Rattle.numbers.specs.Regions.{Kept};
 ghost use Rattle.build_labelled.specs.Window.{walk_at, labels_window};
 ghost use Rattle.build_orders.specs.Input.{graph_of};
+ghost use Rattle.build_orders.specs.Found.{found_below};
 ghost use Rattle.build_indexed.specs.Written.{written_as};
 ghost use Rattle.build_indexed.specs.Shared.{row_shared};
 ghost use Rattle.build_indexed.specs.Memory.{children_from, labels_from, condensed_in, labelling_block, CondensedFit, CondensedFound, Ready, OrderLabelled};
 
+use build_rows::WorkRows;
 use stored_header::Layout;
 
 // k groups, and c child entries.
@@ -35,20 +37,18 @@ pub fn condensed(n: usize, sources: &[u32], targets: &[u32], work: &mut [u32]) -
     Sizes { k, c }
 }
 
-// The first group whose row of parents, of k rows, has two entries or more; where there is none, the number of groups.
-pub fn first_shared(work: &[u32], parents: usize, k: usize) -> usize
+// The first group whose row of parents, of k rows, has two entries or more.
+pub fn first_shared(work: &[u32], parents: usize, k: usize) -> Option<usize>
     requires { parents + k + 1 ≤ length work.now }
-    ensures { (result ≡ first_of (row_shared (part work.now parents (k + 1))) (upto k) k) × (result ≤ k) }
+    ensures { result ≡ found_below k (first_of (row_shared (part work.now parents (k + 1))) (upto k) k) }
 {
-    let mut p = 0;
-    while p < k {
+    for p in 0..k {
         let row = parents + p;
         if work[row] as usize + 1 < work[row + 1] as usize {
-            return p;
+            return Some(p);
         }
-        p += 1;
     }
-    p
+    None
 }
 
 // Where the children lie: behind names, group list, places and parents.
@@ -131,12 +131,8 @@ fn write_labels(out: &mut [u8], l: Layout, edges: usize, orders: &[u32], work: &
     ensures out_after { out.new ≡ put out.old l.labels (written l.width (joined (map (labelling_block l edges orders.now work.old) (upto l.d)))) }
 {
     let step = numbers::bytes_of(l.width, (l.stride + 1) * l.k);
-    let mut at = l.labels;
-    let mut j = 0;
-    while j < l.d {
-        write_order(out, at, l, edges, orders, j, work);
-        at += step;
-        j += 1;
+    for j in 0..l.d {
+        write_order(out, l.labels + step * j, l, edges, orders, j, work);
     }
 }
 
@@ -164,6 +160,16 @@ pub fn write_index(
     let walk = walk_from(n, k, c, edges);
     let values = children + k + 1;
     write_labels(out, l, edges, orders, work);
-    build_levels::levels(work, walk + 4 * k, k, children, values, c, base);
+    build_levels::levels(
+        work,
+        walk + 4 * k,
+        WorkRows {
+            starts: children,
+            values,
+            c,
+            k,
+        },
+        base,
+    );
     build_writing::write_groups(out, form, l, work, 0, n, base, children, values);
 }

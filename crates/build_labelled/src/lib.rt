@@ -5,6 +5,8 @@ ghost use Rattle.lineage.specs.Lists.{part};
 ghost use Rattle.build_labelled.specs.Window.{OrderRows, Labelled};
 ghost use Rattle.build_labelled.specs.Fit.{OrderFit, LabelFit};
 
+use build_rows::WorkRows;
+
 // Lays out what a traversal under the order at `at` goes through: the groups that are nobody's child, and of each group its children, all as their names stand in
 // the order. Returns how many are nobody's child.
 fn order_rows(
@@ -25,7 +27,13 @@ fn order_rows(
     let roots = base + n;
     build_orders::ranked(orders, at, n, work, names, place, base);
     let q = build_orders::roots(work, parents, k, base, roots);
-    build_turning::turn(work, parents, parents + k + 1, c, k, base, roots + k);
+    let of_parents = WorkRows {
+        starts: parents,
+        values: parents + k + 1,
+        c,
+        k,
+    };
+    build_turning::turn(work, of_parents, base, roots + k);
     q
 }
 
@@ -51,5 +59,16 @@ pub fn label(
     let rows = roots + k;
     let walk = rows + k + 1 + c;
     let q = order_rows(orders, at, work, n, k, c, names, place, parents, base);
-    build_traversal::traverse(work, rows, rows + k + 1, c, roots, q, k, walk);
+    build_traversal::traverse(
+        work,
+        WorkRows {
+            starts: rows,
+            values: rows + k + 1,
+            c,
+            k,
+        },
+        roots,
+        q,
+        walk,
+    );
 }

@@ -13,7 +13,7 @@ use Rattle.lineage.specs.Lists.{among, position, part}
 use Rattle.lineage.specs.Stored.{row_at}
 use Rattle.lineage.specs.Sound.{child_of}
 use Rattle.numbers.specs.Regions.{Kept}
-use Rattle.numbers.proofs.Regions.{part_set, kept_same, kept_apart, kept_more, read_at}
+use Rattle.numbers.proofs.Regions.{part_set, kept_apart, kept_more, read_at}
 use Rattle.laws.proofs.Lists.{in_get_d, at_position, position_low, position_most, table_at, table_long}
 use Rattle.laws.proofs.Parts.{part_length, part_part}
 use Rattle.laws.proofs.Laid.{start_low, row_below, below_in}
@@ -26,9 +26,6 @@ use Rattle.build_levels.specs.Fit.{RowFit, UpFit}
 pub record Filling (work₀ work table : List ℕ) (out k base r : ℕ) : Type 0 where
   pub kept : Kept work₀ work base k
   pub filled : (j : ℕ) → j < r → get_or (part work base k) (get_or (part work₀ out k) j 0) 0 ≡ get_or table (get_or (part work₀ out k) j 0) 0
-
-pub filling_none : (work table : List ℕ) (out k base : ℕ) → Filling work work table out k base 0
-filling_none work table out k base = record { kept = kept_same work base k; filled = λ j h. absurd (omega arith) }
 
 -- the place at hand: where its turn reads and writes, and its row
 pub record Place (work : List ℕ) (out k starts values base r : ℕ) : Type 0 where

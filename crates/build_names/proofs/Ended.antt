@@ -7,13 +7,11 @@ use Rattle.laws.specs.OnePass.{stage_after, at_first, GroupNames}
 use Rattle.laws.proofs.OnePass.{roots_grouped, groups_named}
 use Rattle.laws.proofs.Laid.{below_in}
 use Rattle.numbers.specs.Regions.{Kept}
-use Rattle.numbers.proofs.Regions.{kept_then}
 use Rattle.build_rows.specs.Rows.{rows_in}
 use Rattle.build_traversal.specs.Fit.{TraverseFit}
 use Rattle.build_traversal.proofs.Reach.{rows_low, traverse_visits}
 use Rattle.build_traversal.proofs.Tasks.{tries}
 use Rattle.build_traversal.proofs.Frames.{tasks_end}
-use Rattle.build_traversal.proofs.Ended.{cleared_wide, cleared_roots, cleared_rows}
 use Rattle.build_names.proofs.Machine.{Runs, nothing, run_end}
 use Rattle.build_names.proofs.Holding.{Holds}
 use Rattle.build_names.proofs.Going.{Going}
@@ -35,10 +33,3 @@ module _
         let same : g.stage ≡ stage_after visits at_first = run_end visits (run_through z h) in
         let holds : Holds work base n sp low (stage_after visits at_first) = subst (Holds work base n sp low) same g.holds in
         (g.frames.kept, groups_named visits (part work (base + 5 * n) n) (λ v i. holds.names v (roots_low v i) (roots_grouped visits v i)))
-
--- what is lent is what it was once the numbers are cleared
-module _ {work work' : List ℕ} {starts values c roots q n base : ℕ} (fit : TraverseFit work starts values c roots q n base (6 * n)) (cleared : Kept work work' base n) where
-  pub named_all :
-      {work'' : List ℕ} {names : List ℕ} → Kept work' work'' base (6 * n) → GroupNames (rows_in work' starts values c n) (part work' roots q) names
-      → Kept work work'' base (6 * n) × GroupNames (rows_in work starts values c n) (part work roots q) names
-  named_all k t = (kept_then (cleared_wide fit cleared) k, rw (cleared_rows fit cleared, cleared_roots fit cleared) at t)

@@ -1,4 +1,5 @@
--- The open vertices stand on the stack, each further up than those that were entered before it: so what stands from one of them on holds no vertex of a frame below.
+-- The open vertices stand on the stack, each further up than those that were entered before it: so what stands from one of them on holds no vertex of a frame
+-- below.
 use mathlib.Core.Bool.{true, false}
 use mathlib.Core.Path.{◌≡◌, sym, ap, ◌∙◌}
 use mathlib.Core.List.{List, [], ◌∷◌, ◌++◌}

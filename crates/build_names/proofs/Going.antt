@@ -1,5 +1,5 @@
--- The pass on its way. Whatever the machine comes to from the tasks of the frames, at the stage that memory holds, it comes to from the roots: each turn is one step of the
--- machine. Neither frames nor stack nor what is unseen ever come to more than n together, so every region has room.
+-- The pass on its way. Whatever the machine comes to from the tasks of the frames, at the stage that memory holds, it comes to from the roots: each turn is one
+-- step of the machine. Neither frames nor stack nor what is unseen ever come to more than n together, so every region has room.
 use mathlib.Core.Bool.{false}
 use mathlib.Core.Path.{◌≡◌, refl, sym, ap, ◌∙◌, subst}
 use mathlib.Core.List.{List, [], ◌∷◌, ◌++◌}

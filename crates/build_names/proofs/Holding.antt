@@ -1,5 +1,5 @@
--- What memory tells of a stage: the first sp words of the fifth region are the stack, the first region has the numbers, the sixth the names of those that have a group. Each
--- step of the machine is told so.
+-- What memory tells of a stage: the first sp words of the fifth region are the stack, the first region has the numbers, the sixth the names of those that have
+-- a group. Each step of the machine is told so.
 use mathlib.Core.Bool.{Bool, true, false, cond, false≢true}
 use mathlib.Core.Logic.{◌⊎◌, inl, inr}
 use mathlib.Core.Path.{◌≡◌, refl, sym, ap, ap₂, ◌∙◌, subst}

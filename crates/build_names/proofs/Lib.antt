@@ -1,7 +1,6 @@
 -- The fold as a machine.
 pub mod Machine
 -- Each turn in memory.
-pub mod Least
 pub mod Runs
 pub mod Taking
 pub mod Pushed

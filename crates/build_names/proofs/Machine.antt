@@ -1,5 +1,5 @@
--- The fold as a machine: a list of tasks, to try a vertex or to finish one, as in `build_traversal`, with the fold's stage for its state. What a traversal folds to, the machine
--- comes to, and it comes to one end only.
+-- The fold as a machine: a list of tasks, to try a vertex or to finish one, as in `build_traversal`, with the fold's stage for its state. What a traversal
+-- folds to, the machine comes to, and it comes to one end only.
 use mathlib.Core.Bool.{Bool, true, false, ◌||◌}
 use mathlib.Core.Path.{◌≡◌, refl, sym, ap, ap₂, ◌∙◌, subst}
 use mathlib.Core.List.{List, [], ◌∷◌, ◌++◌, append_assoc, append-nil}

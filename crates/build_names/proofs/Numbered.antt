@@ -1,5 +1,5 @@
--- The number of a vertex: one more than its place on the stack, n where it has a group, and 0 where it is not seen. For the low, n is as good as any number that no place of
--- the stack has.
+-- The number of a vertex: one more than its place on the stack, n where it has a group, and 0 where it is not seen. For the low, n is as good as any number
+-- that no place of the stack has.
 use mathlib.Core.Bool.{Bool, true, false, ◌||◌}
 use mathlib.Core.Path.{◌≡◌, refl, sym, ap, ◌∙◌}
 use mathlib.Core.List.{List, [], ◌∷◌, ◌++◌}

@@ -7,7 +7,7 @@ use Rattle.lineage.specs.Lists.{part}
 use Rattle.laws.specs.Laid.{Below}
 use Rattle.laws.proofs.Parts.{part_part}
 use Rattle.laws.proofs.Laid.{part_below}
-use Rattle.numbers.specs.Regions.{Kept, under, over}
+use Rattle.numbers.specs.Regions.{Kept, under}
 use Rattle.numbers.proofs.Regions.{kept_then, kept_wider}
 use Rattle.numbers.specs.Stamped.{Stamped}
 use Rattle.laws.specs.OnePass.{least_of}
@@ -24,13 +24,6 @@ module _ {work : List ℕ} {base n begin sp : ℕ} (fit : TakeFit work base n be
   module _ {work₁ : List ℕ} (naming : Kept work work₁ (base + 5 * n) n) where
     group_same : group_at work₁ base n begin sp ≡ group_at work base n begin sp
     group_same = naming.below (base + 4 * n + begin) (sp - begin) (omega (arith, fit.some, fit.most))
-
-    pub numbers_fit : RunFit work₁ (base + 4 * n + begin) (sp - begin) base n
-    numbers_fit = record {
-      run_there = record { fits = omega (arith, fit.room, fit.some, fit.most, naming.long); apart = over (omega arith) };
-      run_low = subst (Below n) (sym group_same) fit.low;
-      room = omega (arith, fit.room, naming.long);
-    }
 
     pub taken :
         {work₂ : List ℕ} {name : ℕ} → name ≡ least_of (group_at work base n begin sp) → Stamped name (group_at work base n begin sp) (part work (base + 5 * n) n) (part work₁ (base + 5 * n) n)

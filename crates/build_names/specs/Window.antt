@@ -1,5 +1,5 @@
--- The pass in work memory. Six regions of n words from base on: the numbers (0 where a vertex is not seen, one more than its place on the stack, or n where it has a group);
--- the vertices of the frames, the place in the row below to come back to, the low of the vertex below; the stack; and the names.
+-- The pass in work memory. Six regions of n words from base on: the numbers (0 where a vertex is not seen, one more than its place on the stack, or n where it
+-- has a group); the vertices of the frames, the place in the row below to come back to, the low of the vertex below; the stack; and the names.
 use Rattle.std.specs.Prelude.{◌≡◌, List, ℕ, suc, ◌+◌, ◌-◌, ◌*◌, ◌^◌, ◌≤◌, ◌<◌, length, get_or, set}
 use Rattle.lineage.specs.Lists.{part}
 use Rattle.laws.specs.Laid.{Below}

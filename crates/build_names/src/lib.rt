@@ -10,6 +10,8 @@ ghost use Rattle.build_rows.specs.Rows.{rows_in};
 ghost use Rattle.build_traversal.specs.Fit.{TraverseFit};
 ghost use Rattle.build_names.specs.Window.{pushed, RunFit, TakeFit, Taken, SettleFit, Settled};
 
+use build_rows::WorkRows;
+
 // Enters v at depth d, at place sp of the stack: opens its frame with its number and the low of the vertex below.
 fn enter(
     work: &mut [u32],
@@ -32,17 +34,14 @@ fn enter(
     work[base + 4 * n + sp] = v;
 }
 
-// The least of the size words from at on.
-fn least_word(work: &[u32], at: usize, size: usize) -> u32
-    requires size_nonzero { 0 < size }
-    requires size_in_bounds { at + size ≤ length work.now }
-    ensures { result ≡ least_of (part work.now at size) }
+// The least of the words.
+fn least_word(words: &[u32]) -> u32
+    requires { 0 < length words.now }
+    ensures { result ≡ least_of words.now }
 {
-    let mut least = work[at];
-    let mut i = 0;
-    while i < size {
-        least = numbers::lesser_word(least, work[at + i]);
-        i += 1;
+    let mut least = words[0];
+    for word in words {
+        least = least.min(*word);
     }
     least
 }
@@ -53,11 +52,9 @@ fn name_run(work: &mut [u32], at: usize, size: usize, name: u32, base: usize, n:
     ensures kept { Kept work.old work.new base n }
     ensures stamped { Stamped name (part work.old at size) (part work.old base n) (part work.new base n) }
 {
-    let mut i = 0;
-    while i < size {
+    for i in 0..size {
         let v = work[at + i] as usize;
         work[base + v] = name;
-        i += 1;
     }
 }
 
@@ -68,7 +65,7 @@ fn take_group(work: &mut [u32], base: usize, n: usize, begin: usize, sp: usize)
 {
     let at = base + 4 * n + begin;
     let size = sp - begin;
-    let name = least_word(work, at, size);
+    let name = least_word(&work[at..at + size]);
     name_run(work, at, size, name, base + 5 * n, n);
     name_run(work, at, size, n as u32, base, n);
 }
@@ -89,21 +86,13 @@ fn settle(work: &mut [u32], base: usize, n: usize, d: usize, sp: usize, low: u32
 }
 
 // Goes through the rows from the roots, with no vertex seen.
-fn run(
-    work: &mut [u32],
-    starts: usize,
-    values: usize,
-    c: usize,
-    roots: usize,
-    q: usize,
-    n: usize,
-    base: usize,
-)
-    requires traverse_fit { TraverseFit work.old starts values c roots q n base (6 * n) }
-    requires n_value { part work.old base n ≡ replicate n 0 }
-    ensures kept { Kept work.old work.new base (6 * n) }
-    ensures group_names { GroupNames (rows_in work.old starts values c n) (part work.old roots q) (part work.new (base + 5 * n) n) }
+fn run(work: &mut [u32], rows: WorkRows, roots: usize, q: usize, base: usize)
+    requires traverse_fit { TraverseFit work.old rows.starts rows.values rows.c roots q rows.k base (6 * rows.k) }
+    requires n_value { part work.old base rows.k ≡ replicate rows.k 0 }
+    ensures kept { Kept work.old work.new base (6 * rows.k) }
+    ensures group_names { GroupNames (rows_in work.old rows.starts rows.values rows.c rows.k) (part work.old roots q) (part work.new (base + 5 * rows.k) rows.k) }
 {
+    let n = rows.k;
     let mut d: usize = 0;
     let mut sp: usize = 0;
     let mut low: u32 = 0;
@@ -122,40 +111,32 @@ fn run(
                 sp += 1;
                 low = first;
                 d += 1;
-                e = work[starts + i] as usize;
-                at = values;
-                end = work[starts + i + 1] as usize;
+                e = work[rows.starts + i] as usize;
+                at = rows.values;
+                end = work[rows.starts + i + 1] as usize;
             } else {
-                low = numbers::lesser_word(low, number);
+                low = low.min(number);
             }
         } else if d > 0 {
             d -= 1;
             sp = settle(work, base, n, d, sp, low);
-            low = numbers::lesser_word(work[base + 3 * n + d], low);
+            low = work[base + 3 * n + d].min(low);
             e = work[base + 2 * n + d] as usize;
-            at = build_traversal::row_place(roots, values, d);
-            end = build_traversal::row_end(work, starts, q, base, n, d);
+            at = build_traversal::row_place(roots, rows.values, d);
+            end = build_traversal::row_end(work, rows.starts, q, base, n, d);
         } else {
             return;
         }
     }
 }
 
-// The names by one traversal of n rows of c vertices from q roots, in the 6n words from base on: the name of each root's group stands in the sixth region of n words.
-pub fn name_groups(
-    work: &mut [u32],
-    starts: usize,
-    values: usize,
-    c: usize,
-    roots: usize,
-    q: usize,
-    n: usize,
-    base: usize,
-)
-    requires { TraverseFit work.old starts values c roots q n base (6 * n) }
-    ensures kept { Kept work.old work.new base (6 * n) }
-    ensures group_names { GroupNames (rows_in work.old starts values c n) (part work.old roots q) (part work.new (base + 5 * n) n) }
+// The names by one traversal of rows of vertices, one for each of n vertices, from q roots, in the 6n words from base on: the name of each root's group stands
+// in the sixth region of n words.
+pub fn name_groups(work: &mut [u32], rows: WorkRows, roots: usize, q: usize, base: usize)
+    requires { TraverseFit work.old rows.starts rows.values rows.c roots q rows.k base (6 * rows.k) }
+    ensures kept { Kept work.old work.new base (6 * rows.k) }
+    ensures group_names { GroupNames (rows_in work.old rows.starts rows.values rows.c rows.k) (part work.old roots q) (part work.new (base + 5 * rows.k) rows.k) }
 {
-    numbers::clear_part(work, base, n);
-    run(work, starts, values, c, roots, q, n, base);
+    numbers::clear_part(work, base, rows.k);
+    run(work, rows, roots, q, base);
 }

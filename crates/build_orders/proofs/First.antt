@@ -4,15 +4,17 @@ use mathlib.Core.Path.{◌≡◌, refl, sym, ◌∙◌}
 use mathlib.Core.List.{List, [], ◌∷◌, ◌++◌}
 use Prim.Native.Nat.{ℕ, zero, suc, ◌+◌, ◌<◌, ◌≤◌}
 use native.Mathlib.Nat.{not-suc-le-zero}
-use native.Mathlib.Decide.{ℕ_discrete}
+use native.Mathlib.Decide.{ℕ_discrete, dec_lt}
 use native.Mathlib.Omega.{arith}
 use lib.Dec.{ltb}
 use borrow.Author.Count.{below_none, below_more}
 use borrow.Author.Tests.{lt-ltb, le-ltb}
+use Rattle.std.specs.Prelude.{Some, None}
 use Rattle.lineage.specs.Lists.{upto, any, among, first_of}
 use Rattle.laws.proofs.Tests.{clash, is_false}
 use Rattle.laws.proofs.Lists.{here, there, in_any, in_upto, upto_low, any_none}
 use Rattle.laws.proofs.Rising.{rises_upto, first_of_lem}
+use Rattle.build_orders.specs.Found.{found_below}
 
 -- none of the numbers below i passes: what a loop over 0, 1, .. knows
 pub record NoneBelow (p : ℕ → Bool) (i : ℕ) : Type 0 where
@@ -69,6 +71,20 @@ module _ (p : ℕ → Bool) where
           let none : first_of p (upto n) n ≡ n = first_none n n (λ j h. any_none p (upto n) e j (in_upto n j h)) in
           e ∙ sym (le-ltb (first_of p (upto n) n) n (omega arith))
 
+  -- that something was found, and that nothing was
+  module _ (n : ℕ) where
+    pub found_is : {i : ℕ} → Some i ≡ found_below n (first_of p (upto n) n) → (i ≡ first_of p (upto n) n) × (i < n)
+    found_is {i} e = elim (dec_lt (first_of p (upto n) n) n) [
+      | yes h ↦ let same : i ≡ first_of p (upto n) n = cc (rw (lt-ltb (first_of p (upto n) n) n h) at e) in (same, omega arith)
+      | no h ↦ absurd (cc (rw (le-ltb (first_of p (upto n) n) n (omega arith)) at e))
+    ]
+
+    pub found_not : None ≡ found_below n (first_of p (upto n) n) → n ≤ first_of p (upto n) n
+    found_not e = elim (dec_lt (first_of p (upto n) n) n) [
+      | yes h ↦ absurd (cc (rw (lt-ltb (first_of p (upto n) n) n h) at e))
+      | no h ↦ omega arith
+    ]
+
 -- two tests that agree on a list have the same first
 pub first_same : (p q : ℕ → Bool) (xs : List ℕ) (other : ℕ) → ((x : ℕ) → among x xs ≡ true → p x ≡ q x) → first_of p xs other ≡ first_of q xs other
 first_same p q [] other same = refl
@@ -90,8 +106,15 @@ module _ {p : ℕ → Bool} where
   none_found {i} n s h t = sym (first_is p n n i h s.none t)
 
   -- none of the n passes
-  pub none_all : {i : ℕ} (n : ℕ) → NoneBelow p i → n ≤ i → i ≤ n → i ≡ first_of p (upto n) n
-  none_all {i} n s h k = let e : i ≡ n = omega arith in e ∙ sym (first_none p n n (λ j l. s.none j (omega arith)))
+  pub none_all : {i : ℕ} (n : ℕ) → NoneBelow p i → n ≤ i → n ≡ first_of p (upto n) n
+  none_all {i} n s h = sym (first_none p n n (λ j l. s.none j (omega arith)))
+
+  -- the same, as an option
+  pub found_here : {i : ℕ} (n : ℕ) → NoneBelow p i → i < n → p i ≡ true → Some i ≡ found_below n (first_of p (upto n) n)
+  found_here {i} n s h t = rw (first_is p n n i h s.none t, lt-ltb i n h)
+
+  pub found_nowhere : {i : ℕ} (n : ℕ) → NoneBelow p i → n ≤ i → None ≡ found_below n (first_of p (upto n) n)
+  found_nowhere n s h = rw (first_none p n n (λ j l. s.none j (omega arith)), le-ltb n n (omega arith))
 
   -- so that one passes is false
   pub none_not_any : {i : ℕ} (n : ℕ) → NoneBelow p i → n ≤ i → false ≡ any p (upto n)

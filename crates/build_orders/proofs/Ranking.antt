@@ -49,12 +49,10 @@ pub ranking_none : (orders work : List ℕ) (at n names base : ℕ) → Ranking 
 unfolding part in_order
 ranking_none orders work at n names base = record { few = omega arith; written = written_none work base n }
 
--- the vertex at hand, and where its turn reads and writes
-pub record Vertex (orders work : List ℕ) (at n names place base j k : ℕ) : Type 0 where
-  pub low : get_or orders (at + j) 0 < n
+-- where the name and the place of its group are told
+pub record Vertex (orders work : List ℕ) (at names place j : ℕ) : Type 0 where
   pub name_in : names + get_or orders (at + j) 0 < length work
   pub place_in_lem : place + get_or orders (at + j) 0 < length work
-  pub window_in : base + k < length work
 
 module _
     {orders work₀ work : List ℕ} {at n names place base j k : ℕ}
@@ -63,14 +61,12 @@ module _
     low : get_or orders (at + j) 0 < n
     low = rw (part_at orders at n j h) (order_low n (part orders at n) f.order (get_or (part orders at n) j 0) (in_get_d (part orders at n) j (omega (arith, f.order.long))))
 
-    pub ranking_vertex : Vertex orders work at n names place base j k
+    pub ranking_vertex : Vertex orders work at names place j
     ranking_vertex =
         let long = i.written.kept.long in
         record {
-          low = low;
           name_in = omega (arith, low, f.names_there.fits);
           place_in_lem = omega (arith, low, f.place_there.fits);
-          window_in = omega (arith, i.few, f.room);
         }
 
     name_at_lem : get_or work (names + get_or orders (at + j) 0) 0 ≡ get_or (part work₀ names n) (get_or orders (at + j) 0) 0

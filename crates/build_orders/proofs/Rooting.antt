@@ -24,13 +24,10 @@ pub rooting_none : (work : List ℕ) (starts k sequence base : ℕ) → Rooting 
 unfolding part
 rooting_none work starts k sequence base = record { few = omega arith; written = written_none work base k }
 
--- the place at hand, and where its turn reads and writes
-pub record Place (work : List ℕ) (starts k sequence base j c : ℕ) : Type 0 where
-  pub place_in_lem : sequence + j < length work
-  pub low : get_or work (sequence + j) 0 < k
+-- where its row is told
+pub record Place (work : List ℕ) (starts sequence j : ℕ) : Type 0 where
   pub start_in_lem : starts + get_or work (sequence + j) 0 < length work
   pub end_in : starts + (get_or work (sequence + j) 0 + 1) < length work
-  pub window_in : base + c < length work
 
 module _
     {work₀ work : List ℕ} {starts k sequence base j c : ℕ} (f : RootsFit work₀ starts k sequence base) (i : Rooting work₀ work starts k sequence base j c) (h : j < k)
@@ -44,15 +41,12 @@ module _
     low : q < k
     low = rw q_is (f.places j (omega (arith, part_length work₀ sequence k f.sequence_there.fits)))
 
-    pub rooting_place : Place work starts k sequence base j c
+    pub rooting_place : Place work starts sequence j
     rooting_place =
         let long = i.written.kept.long in
         record {
-          place_in_lem = omega (arith, f.sequence_there.fits);
-          low = low;
           start_in_lem = omega (arith, low, f.starts_there.fits);
           end_in = omega (arith, low, f.starts_there.fits);
-          window_in = omega (arith, i.few, f.room);
         }
 
     start_is : get_or work (starts + q) 0 ≡ get_or (part work₀ starts (k + 1)) q 0

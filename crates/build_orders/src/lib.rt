@@ -10,6 +10,7 @@ ghost use Rattle.numbers.specs.Regions.{Kept};
 ghost use Rattle.numbers.specs.Stamped.{Stamped};
 ghost use Rattle.build_orders.specs.Input.{graph_of};
 ghost use Rattle.build_orders.specs.Lacks.{lacks};
+ghost use Rattle.build_orders.specs.Found.{found_below};
 ghost use Rattle.build_orders.specs.Fit.{RankedFit, RootsFit};
 ghost use Rattle.build_orders.specs.Roots.{row_empty};
 
@@ -18,17 +19,12 @@ pub fn bad_edge(n: usize, sources: &[u32], targets: &[u32]) -> usize
     requires { length sources.now ≡ length targets.now }
     ensures { result ≡ first_of (bad_edge (graph_of n sources.now targets.now)) (upto (length sources.now)) (length sources.now) }
 {
-    let mut i = 0;
-    while i < sources.len() {
-        if n <= sources[i] as usize {
+    for i in 0..sources.len() {
+        if n <= sources[i] as usize || n <= targets[i] as usize {
             return i;
         }
-        if n <= targets[i] as usize {
-            return i;
-        }
-        i += 1;
     }
-    i
+    sources.len()
 }
 
 // Stamps the word of each number below n that stands in the order at `at`; a number of n or more is passed over.
@@ -38,13 +34,11 @@ fn stamp_order(orders: &[u32], at: usize, n: usize, stamp: u32, work: &mut [u32]
     ensures kept { Kept work.old work.new base n }
     ensures stamped { Stamped stamp (part orders.now at n) (part work.old base n) (part work.new base n) }
 {
-    let mut j = 0;
-    while j < n {
+    for j in 0..n {
         let v = orders[at + j] as usize;
         if v < n {
             work[base + v] = stamp;
         }
-        j += 1;
     }
 }
 
@@ -53,36 +47,32 @@ fn one_lacks(work: &[u32], base: usize, n: usize, stamp: u32) -> bool
     requires { base + n ≤ length work.now }
     ensures { result ≡ any (lacks stamp (part work.now base n)) (upto n) }
 {
-    let mut v = 0;
-    while v < n {
+    for v in 0..n {
         if work[base + v] != stamp {
             return true;
         }
-        v += 1;
     }
     false
 }
 
-// The first order that is no permutation of 0 to n - 1; where there is none, d. Order i stamps the words of its numbers with i + 1, and is a permutation
+// The first order that is no permutation of 0 to n - 1. Order i stamps the words of its numbers with i + 1, and is a permutation
 // where no word is without that stamp.
-pub fn bad_order(orders: &[u32], d: usize, n: usize, work: &mut [u32], base: usize) -> usize
+pub fn bad_order(orders: &[u32], d: usize, n: usize, work: &mut [u32], base: usize) -> Option<usize>
     requires orders_len { length orders.now ≡ d * n }
     requires d_bound { d < 2 ^ 32 }
     requires n_in_bounds { base + n ≤ length work.old }
-    ensures value { result ≡ first_of (bad_order n orders.now) (upto d) d }
+    ensures value { result ≡ found_below d (first_of (bad_order n orders.now) (upto d) d) }
     ensures kept { Kept work.old work.new base n }
 {
     numbers::clear_part(work, base, n);
-    let mut i = 0;
-    while i < d {
+    for i in 0..d {
         let stamp = (i + 1) as u32;
         stamp_order(orders, i * n, n, stamp, work, base);
         if one_lacks(work, base, n, stamp) {
-            return i;
+            return Some(i);
         }
-        i += 1;
     }
-    i
+    None
 }
 
 // The places of all groups as their names stand in the order at `at`; returns how many they are. Every vertex's place is written, and counted only where the vertex
@@ -102,8 +92,7 @@ pub fn ranked(
     ensures result_after { part work.new base result ≡ in_order (part orders.now at n) (group_list (part work.old names n)) }
 {
     let mut k = 0;
-    let mut j = 0;
-    while j < n {
+    for j in 0..n {
         let v = orders[at + j];
         let i = v as usize;
         let name = work[names + i];
@@ -111,7 +100,6 @@ pub fn ranked(
         if name == v {
             k += 1;
         }
-        j += 1;
     }
     k
 }
@@ -124,8 +112,7 @@ pub fn roots(work: &mut [u32], starts: usize, k: usize, sequence: usize, base: u
     ensures result_after { part work.new base result ≡ those (row_empty (part work.old starts (k + 1))) (part work.old sequence k) }
 {
     let mut c = 0;
-    let mut j = 0;
-    while j < k {
+    for j in 0..k {
         let q = work[sequence + j];
         let row = q as usize;
         let next = row + 1;
@@ -133,7 +120,6 @@ pub fn roots(work: &mut [u32], starts: usize, k: usize, sequence: usize, base: u
             work[base + c] = q;
             c += 1;
         }
-        j += 1;
     }
     c
 }

@@ -16,7 +16,8 @@ pub record StripFit (work : List ℕ) (starts values c k base : ℕ) : Type 0 wh
   pub few_values : c < 2 ^ 32
   pub few : k < 2 ^ 32
 
--- the entries of row p, from `from` to `to` of c values; at words stand at out, no more than were passed, and behind the c words there the stamps, of which p's alone is row p's
+-- the entries of row p, from `from` to `to` of c values; at words stand at out, no more than were passed, and behind the c words there the stamps, of which p's
+-- alone is row p's
 pub record EntriesFit (work : List ℕ) (values c from to p k out at : ℕ) : Type 0 where
   pub values_there : Outside work values c (out + at) (c - at + k)
   pub values_low : Below k (part work values c)

@@ -7,8 +7,10 @@ ghost use Rattle.numbers.specs.Regions.{Kept};
 ghost use Rattle.build_rows.specs.Rows.{RowsAt, rows_in, new_ones, stripped_row};
 ghost use Rattle.build_stripping.specs.Fit.{StripFit, EntriesFit};
 
-// Copies the entries of row p behind the first at words at out, without p and without repeats, and returns how many words that makes. An entry is copied where its stamp is not
-// the row's mark, p + 1, and is stamped then.
+use build_rows::WorkRows;
+
+// Copies the entries of row p behind the first at words at out, without p and without repeats, and returns how many words that makes. An entry is copied where
+// its stamp is not the row's mark, p + 1, and is stamped then.
 fn strip_row(
     work: &mut [u32],
     values: usize,
@@ -30,11 +32,9 @@ fn strip_row(
     let mark = p + 1;
     let stamps = out + c;
     let mut n = at;
-    let mut e = from;
-    while e < to {
+    for e in from..to {
         let x = work[values + e];
         let i = x as usize;
-        e += 1;
         if work[stamps + i] != mark {
             work[stamps + i] = mark;
             work[out + n] = x;
@@ -44,32 +44,34 @@ fn strip_row(
     n
 }
 
-// Lays out k rows at base, each without repeats and without its own number, and returns how many of the c values are left. Behind the room for c values lie the stamps.
-pub fn strip(
-    work: &mut [u32],
-    starts: usize,
-    values: usize,
-    c: usize,
-    k: usize,
-    base: usize,
-) -> usize
-    requires { StripFit work.old starts values c k base }
-    ensures kept { Kept work.old work.new base (k + 1 + c + k) }
-    ensures upper_bound { result ≤ c }
-    ensures rows_at { RowsAt work.new base k result (stripped_row (rows_in work.old starts values c k)) }
+// Lays out k rows at base, each without repeats and without its own number, and returns how many of the c values are left. Behind the room for c values lie the
+// stamps.
+pub fn strip(work: &mut [u32], rows: WorkRows, base: usize) -> usize
+    requires { StripFit work.old rows.starts rows.values rows.c rows.k base }
+    ensures kept { Kept work.old work.new base (rows.k + 1 + rows.c + rows.k) }
+    ensures upper_bound { result ≤ rows.c }
+    ensures rows_at { RowsAt work.new base rows.k result (stripped_row (rows_in work.old rows.starts rows.values rows.c rows.k)) }
 {
-    let out = base + k + 1;
-    let stamps = out + c;
+    let out = base + rows.k + 1;
+    let stamps = out + rows.c;
     let mut n = 0;
-    let mut p = 0;
-    while p < k {
-        let from = work[starts + p] as usize;
-        let to = work[starts + p + 1] as usize;
+    for p in 0..rows.k {
+        let from = work[rows.starts + p] as usize;
+        let to = work[rows.starts + p + 1] as usize;
         work[base + p] = n as u32;
         work[stamps + p] = (p + 1) as u32;
-        n = strip_row(work, values, c, from, to, p as u32, k, out, n);
-        p += 1;
+        n = strip_row(
+            work,
+            rows.values,
+            rows.c,
+            from,
+            to,
+            p as u32,
+            rows.k,
+            out,
+            n,
+        );
     }
-    work[base + k] = n as u32;
+    work[base + rows.k] = n as u32;
     n
 }

@@ -13,7 +13,6 @@ use Rattle.laws.proofs.Lists.{position_low, least_min}
 use Rattle.laws.proofs.Laid.{below_in}
 use Rattle.laws.proofs.Parts.{part_length}
 use Rattle.numbers.specs.Regions.{Kept}
-use Rattle.numbers.proofs.Regions.{kept_then, kept_wider, kept_apart, outside_kept}
 use Rattle.build_rows.specs.Rows.{rows_in}
 use Rattle.build_traversal.specs.Traversed.{Traversed}
 use Rattle.build_traversal.specs.Fit.{TraverseFit}
@@ -82,42 +81,3 @@ module _ {work₀ work : List ℕ} {starts values c roots q n base d k s e at en
       let visits = traverse_visits n (part work₀ roots q) next_low roots_low in
       let same = run_end next_low visits roots_low (state_of work₀ base n 0 1) clear (omega arith) (run_through z h) in
       (g.frames.kept, traversed next_low visits roots_low work₀ work base k s (omega (arith, fit.room)) (room_now fit g.frames) (omega (arith, held fit g)) same)
-
--- what is lent still fits once the marks are cleared, and is what it was
-module _ {work work' : List ℕ} {starts values c roots q n base size : ℕ} (fit : TraverseFit work starts values c roots q n base size) (cleared : Kept work work' base n) where
-  pub cleared_wide : Kept work work' base size
-  cleared_wide = kept_wider base size (omega arith) (omega (arith, fit.frames_room)) cleared
-
-  starts_same : part work' starts (n + 1) ≡ part work starts (n + 1)
-  starts_same = kept_apart cleared_wide fit.starts_there.apart
-
-  values_same : part work' values c ≡ part work values c
-  values_same = kept_apart cleared_wide fit.values_there.apart
-
-  pub cleared_roots : part work' roots q ≡ part work roots q
-  cleared_roots = kept_apart cleared_wide fit.roots_there.apart
-
-  pub cleared_rows : rows_in work' starts values c n ≡ rows_in work starts values c n
-  cleared_rows = rw (starts_same, values_same)
-
-  pub fits_cleared : TraverseFit work' starts values c roots q n base size
-  fits_cleared = record {
-    laid = rw (starts_same, values_same) fit.laid;
-    values_low = rw values_same fit.values_low;
-    roots_low = rw cleared_roots fit.roots_low;
-    starts_there = outside_kept fit.starts_there cleared;
-    values_there = outside_kept fit.values_there cleared;
-    roots_there = outside_kept fit.roots_there cleared;
-    room = rw cleared.long fit.room;
-    frames_room = fit.frames_room;
-    few_values = fit.few_values;
-    few_roots = fit.few_roots;
-    few = fit.few;
-  }
-
-module _ {work work' : List ℕ} {starts values c roots q n base : ℕ} (fit : TraverseFit work starts values c roots q n base (7 * n)) (cleared : Kept work work' base n) where
-  pub traversed_all :
-      {work'' : List ℕ} {r : ℕ} → Kept work' work'' base (7 * n)
-      → Traversed (rows_in work' starts values c n) (traverse (rows_in work' starts values c n) (suc n) (part work' roots q) []) work'' base n r
-      → Kept work work'' base (7 * n) × Traversed (rows_in work starts values c n) (traverse (rows_in work starts values c n) (suc n) (part work roots q) []) work'' base n r
-  traversed_all k t = (kept_then (cleared_wide fit cleared) k, rw (cleared_rows fit cleared, cleared_roots fit cleared) at t)

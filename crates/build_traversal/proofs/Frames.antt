@@ -1,5 +1,5 @@
--- The frames of a traversal on its way, whatever else it does: the row at the top and what is left of it, the tasks that the frames stand for, and what is left to do. Entering a
--- vertex opens a frame, whose row is that vertex's; leaving one comes back to the row below.
+-- The frames of a traversal on its way, whatever else it does: the row at the top and what is left of it, the tasks that the frames stand for, and what is left
+-- to do. Entering a vertex opens a frame, whose row is that vertex's; leaving one comes back to the row below.
 use mathlib.Core.Path.{◌≡◌, refl, sym, ap, ◌∙◌}
 use mathlib.Core.List.{List, [], ◌∷◌, ◌++◌}
 use Prim.Native.Nat.{ℕ, suc, ◌+◌, ◌*◌, ◌-◌, ◌^◌, ◌≤◌, ◌<◌}

@@ -1,5 +1,5 @@
--- The traversal on its way. Whatever the machine comes to from the tasks of the frames, it comes to from the roots: each turn is one step of the machine. Depth, what is out and what
--- is unseen never come to more than n together, so every region has room.
+-- The traversal on its way. Whatever the machine comes to from the tasks of the frames, it comes to from the roots: each turn is one step of the machine.
+-- Depth, what is out and what is unseen never come to more than n together, so every region has room.
 use mathlib.Core.Path.{◌≡◌, sym, ap, ap₂, ◌∙◌, subst, subst₂}
 use mathlib.Core.List.{List}
 use Prim.Native.Nat.{ℕ, suc, ◌+◌, ◌*◌, ◌^◌, min, ◌≤◌, ◌<◌}

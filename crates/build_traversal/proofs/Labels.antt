@@ -1,5 +1,5 @@
--- The labels that a traversal comes to. A vertex's m is noted as it is entered and its e as it is left, and nothing writes them again. Its s is the least of its e and of what it came
--- upon in its row; where the rows go downhill none of these is open still, so their s stay as they were.
+-- The labels that a traversal comes to. A vertex's m is noted as it is entered and its e as it is left, and nothing writes them again. Its s is the least of
+-- its e and of what it came upon in its row; where the rows go downhill none of these is open still, so their s stay as they were.
 use mathlib.Core.Bool.{true, false, false≢true}
 use mathlib.Core.Logic.{inl, inr}
 use mathlib.Core.Path.{◌≡◌, refl, sym, ap, ap₂, ◌∙◌}

@@ -1,5 +1,6 @@
--- The traversal as a machine: a list of tasks, to try a vertex or to finish one. To try a seen vertex lowers s, the least that was come upon, to the vertex's own; to try an unseen one
--- marks it, and its row is tried and it is finished before what else is to do. What a traversal folds to, the machine comes to, and it comes to one end only.
+-- The traversal as a machine: a list of tasks, to try a vertex or to finish one. To try a seen vertex lowers s, the least that was come upon, to the vertex's
+-- own; to try an unseen one marks it, and its row is tried and it is finished before what else is to do. What a traversal folds to, the machine comes to, and
+-- it comes to one end only.
 use mathlib.Core.Bool.{true, false, not}
 use mathlib.Core.Path.{◌≡◌, refl, ap, ◌∙◌}
 use mathlib.Core.List.{List, [], ◌∷◌, ◌++◌, append-nil}

@@ -1,4 +1,5 @@
--- How far a traversal goes. Along rows of vertices below n `traverse` goes deep enough, it finishes vertices below n only, and all of them where every vertex is a root.
+-- How far a traversal goes. Along rows of vertices below n `traverse` goes deep enough, it finishes vertices below n only, and all of them where every vertex
+-- is a root.
 use mathlib.Core.Bool.{true}
 use mathlib.Core.Path.{◌≡◌, subst}
 use mathlib.Core.List.{List, [], ◌∷◌}

@@ -8,13 +8,8 @@ use Rattle.lineage.specs.Lists.{part}
 use Rattle.laws.proofs.Parts.{part_at}
 use Rattle.numbers.specs.Regions.{Kept}
 use Rattle.numbers.proofs.Regions.{part_set, part_over, part_under, part_longer, kept_set, kept_then, kept_wider}
-use Rattle.build_traversal.specs.Frames.{framed, row_place, row_end}
+use Rattle.build_traversal.specs.Frames.{framed, row_end}
 use Rattle.build_traversal.specs.Traversed.{entered, finished_at}
-
--- above the first frame
-pub place_above : (roots values d : ℕ) → (d ≡ 0 → ⊥) → values ≡ row_place roots values d
-place_above roots values zero h = absurd (h refl)
-place_above roots values (suc d) h = refl
 
 module _ (work : List ℕ) (starts base n : ℕ) where
   -- the vertex of the frame below depth d

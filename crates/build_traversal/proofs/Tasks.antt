@@ -1,4 +1,5 @@
--- What a stack of frames has still to do: from the top, the tries of what is left of the row there, then that frame's vertex is finished, and so down to the roots.
+-- What a stack of frames has still to do: from the top, the tries of what is left of the row there, then that frame's vertex is finished, and so down to the
+-- roots.
 use mathlib.Core.Path.{◌≡◌, refl, ap, ◌∙◌}
 use mathlib.Core.List.{List, [], ◌∷◌, ◌++◌, append-nil}
 use Prim.Native.Nat.{ℕ, zero, suc, ◌+◌, ◌-◌, ◌≤◌, ◌<◌}

@@ -1,5 +1,5 @@
--- The marks and the frames of a traversal, by depth, in four regions of n words from base on: a mark for each vertex, 0 where it is not seen; the vertices of the frames; the place in
--- the row below to come back to; and a number of the vertex below that is kept meanwhile.
+-- The marks and the frames of a traversal, by depth, in four regions of n words from base on: a mark for each vertex, 0 where it is not seen; the vertices of
+-- the frames; the place in the row below to come back to; and a number of the vertex below that is kept meanwhile.
 use Rattle.std.specs.Prelude.{List, ℕ, zero, suc, ◌+◌, ◌*◌, get_or, set}
 
 -- v is entered at depth d with this mark, to come back to place e, and the number is kept

@@ -1,5 +1,5 @@
--- A traversal with its labels in work memory. Behind the marks and the frames three regions of n words: the vertices as they are finished; for each vertex one more than how many were
--- finished before it was entered, m; and its rank, e. The mark of a finished vertex is its s.
+-- A traversal with its labels in work memory. Behind the marks and the frames three regions of n words: the vertices as they are finished; for each vertex one
+-- more than how many were finished before it was entered, m; and its rank, e. The mark of a finished vertex is its s.
 use Rattle.std.specs.Prelude.{true, ◌≡◌, List, map, ℕ, suc, ◌+◌, ◌*◌, ◌≤◌, ◌<◌, length, get_or, set}
 use Rattle.lineage.specs.Lists.{among, position, least, part}
 use Rattle.lineage.specs.Labels.{Forest, finished}

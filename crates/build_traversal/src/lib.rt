@@ -10,6 +10,8 @@ ghost use Rattle.build_traversal.specs.Frames.{framed, row_place, row_end};
 ghost use Rattle.build_traversal.specs.Traversed.{entered, finished_at, Traversed};
 ghost use Rattle.build_traversal.specs.Fit.{TraverseFit};
 
+use build_rows::WorkRows;
+
 // Opens a frame at depth d for v: marks it, and notes the place e to come back to and a number.
 pub fn open_frame(
     work: &mut [u32],
@@ -83,29 +85,21 @@ fn leave(work: &mut [u32], base: usize, n: usize, d: usize, k: usize, s: u32)
     work[base + 6 * n + at] = (k + 1) as u32;
 }
 
-// Goes through the rows from the roots, with no vertex marked, and returns how many vertices are finished. On its way s is the least of what the vertex open last has come upon, n before
-// anything is.
-fn run(
-    work: &mut [u32],
-    starts: usize,
-    values: usize,
-    c: usize,
-    roots: usize,
-    q: usize,
-    n: usize,
-    base: usize,
-) -> usize
-    requires traverse_fit { TraverseFit work.old starts values c roots q n base (7 * n) }
-    requires n_value { part work.old base n ≡ replicate n 0 }
-    ensures kept { Kept work.old work.new base (7 * n) }
+// Goes through the rows from the roots, with no vertex marked, and returns how many vertices are finished. On its way s is the least of what the vertex open
+// last has come upon, n before anything is.
+fn run(work: &mut [u32], rows: WorkRows, roots: usize, q: usize, base: usize) -> usize
+    requires traverse_fit { TraverseFit work.old rows.starts rows.values rows.c roots q rows.k base (7 * rows.k) }
+    requires n_value { part work.old base rows.k ≡ replicate rows.k 0 }
+    ensures kept { Kept work.old work.new base (7 * rows.k) }
     ensures traversed { Traversed
-        (rows_in work.old starts values c n)
-        (traverse (rows_in work.old starts values c n) (suc n) (part work.old roots q) [])
+        (rows_in work.old rows.starts rows.values rows.c rows.k)
+        (traverse (rows_in work.old rows.starts rows.values rows.c rows.k) (suc rows.k) (part work.old roots q) [])
         work.new
         base
-        n
+        rows.k
         result }
 {
+    let n = rows.k;
     let mut d: usize = 0;
     let mut k: usize = 0;
     let mut s: u32 = 1;
@@ -122,49 +116,40 @@ fn run(
                 enter(work, base, n, d, k, v, e as u32, s);
                 s = n as u32;
                 d += 1;
-                e = work[starts + i] as usize;
-                at = values;
-                end = work[starts + i + 1] as usize;
+                e = work[rows.starts + i] as usize;
+                at = rows.values;
+                end = work[rows.starts + i + 1] as usize;
             } else {
-                s = numbers::lesser_word(s, mark);
+                s = s.min(mark);
             }
         } else if d > 0 {
             d -= 1;
-            s = numbers::lesser_word(s, (k + 1) as u32);
+            s = s.min((k + 1) as u32);
             leave(work, base, n, d, k, s);
             k += 1;
-            s = numbers::lesser_word(work[base + 3 * n + d], s);
+            s = work[base + 3 * n + d].min(s);
             e = work[base + 2 * n + d] as usize;
-            at = row_place(roots, values, d);
-            end = row_end(work, starts, q, base, n, d);
+            at = row_place(roots, rows.values, d);
+            end = row_end(work, rows.starts, q, base, n, d);
         } else {
             return k;
         }
     }
 }
 
-// The traversal of n rows of c vertices from q roots, with its labels, in the 7n words from base on: returns how many vertices are finished. They stand in the fifth region of n words;
-// for each vertex its s stands in the first, its m in the sixth and its e in the last.
-pub fn traverse(
-    work: &mut [u32],
-    starts: usize,
-    values: usize,
-    c: usize,
-    roots: usize,
-    q: usize,
-    n: usize,
-    base: usize,
-) -> usize
-    requires { TraverseFit work.old starts values c roots q n base (7 * n) }
-    ensures kept { Kept work.old work.new base (7 * n) }
+// The traversal of rows of vertices, one for each of n vertices, from q roots, with its labels, in the 7n words from base on: returns how many vertices are
+// finished. They stand in the fifth region of n words; for each vertex its s stands in the first, its m in the sixth and its e in the last.
+pub fn traverse(work: &mut [u32], rows: WorkRows, roots: usize, q: usize, base: usize) -> usize
+    requires { TraverseFit work.old rows.starts rows.values rows.c roots q rows.k base (7 * rows.k) }
+    ensures kept { Kept work.old work.new base (7 * rows.k) }
     ensures traversed { Traversed
-        (rows_in work.old starts values c n)
-        (traverse (rows_in work.old starts values c n) (suc n) (part work.old roots q) [])
+        (rows_in work.old rows.starts rows.values rows.c rows.k)
+        (traverse (rows_in work.old rows.starts rows.values rows.c rows.k) (suc rows.k) (part work.old roots q) [])
         work.new
         base
-        n
+        rows.k
         result }
 {
-    numbers::clear_part(work, base, n);
-    run(work, starts, values, c, roots, q, n, base)
+    numbers::clear_part(work, base, rows.k);
+    run(work, rows, roots, q, base)
 }

@@ -47,12 +47,9 @@ module _ (w at z s m e : ℕ) (out : List ℕ) (stride : Stride z) (room : at + 
   label_triple t u v other et eu ev = rw (ne_eqb z 2 other) (triple_put w at s m e out t u v two_fit et eu ev)
 
 -- of k groups those of group i lie where those before it end
-module _ {out : List ℕ} {at w z : ℕ} {words : List ℕ} {s m e k : ℕ} (fit : LabelsFit out at w z words s m e k) (i p : ℕ) (here : p ≡ at + w * (z * i)) where
-  pub labels_next : p + w * z ≡ at + w * (z * (i + 1))
-  labels_next = omega arith
-
-  pub labels_room : i < k → p + w * z ≤ length out
-  labels_room h = omega (arith, labels_next, mul-le-mul_left w (mul-le-mul_left z (let next : i + 1 ≤ k = omega arith in next)), fit.room)
+pub labels_room :
+    {out : List ℕ} {at w z : ℕ} {words : List ℕ} {s m e k : ℕ} → LabelsFit out at w z words s m e k → (i : ℕ) → i < k → at + w * (z * i) + w * z ≤ length out
+labels_room {w = w} {z = z} {k = k} fit i h = omega (arith, mul-le-mul_left w (mul-le-mul_left z (let next : i + 1 ≤ k = omega arith in next)), fit.room)
 
 module _ (z : ℕ) (words : List ℕ) (s m e r k : ℕ) where
   labels_are_lem : map (label_in z words s m e) (upto k) ≡ map (label_of z (labelling_in_words words s m e r k)) (upto k)

@@ -46,12 +46,16 @@ fn write_labels(
     ensures { out.new ≡ put out.old at (written w (joined (map (label_in z words.now s m e) (upto k)))) }
 {
     let step = numbers::bytes_of(w, z);
-    let mut p = at;
-    let mut i = 0;
-    while i < k {
-        write_label(out, p, w, z, words[s + i], words[m + i], words[e + i]);
-        p += step;
-        i += 1;
+    for i in 0..k {
+        write_label(
+            out,
+            at + step * i,
+            w,
+            z,
+            words[s + i],
+            words[m + i],
+            words[e + i],
+        );
     }
 }
 

@@ -1,13 +1,13 @@
 -- What the sections of sound contents give the climb and the steps: they are fit for them, and what is read of them is what the index has.
 use mathlib.Core.Bool.{true}
 use mathlib.Core.Path.{◌≡◌, sym, ap, subst, ◌∙◌}
-use mathlib.Core.List.{List}
+use mathlib.Core.List.{List, []}
 use Prim.Native.Nat.{ℕ, suc, ◌+◌, ◌*◌, ◌≤◌, ◌<◌}
 use native.Mathlib.Omega.{arith}
 use lib.Dec.{eqb}
 use lib.ListN.{length, get_or}
 use borrow.Author.Tests.{eq-eqb}
-use Rattle.lineage.specs.Lists.{among, cleared}
+use Rattle.lineage.specs.Lists.{among, first_of, cleared}
 use Rattle.lineage.specs.Graph.{place_of}
 use Rattle.lineage.specs.Numbers.{Width, num_at, numbers}
 use Rattle.lineage.specs.Index.{Index}
@@ -16,21 +16,26 @@ use Rattle.lineage.specs.Calls.{index_in}
 use Rattle.laws.specs.Rising.{Rises}
 use Rattle.laws.proofs.Lists.{at_position}
 use Rattle.numbers.specs.Bounds.{vertex_bound}
-use Rattle.numbers.specs.Regions.{Part}
 use Rattle.numbers.proofs.Numbers.{room, numbers_at}
 use Rattle.stored_header.specs.declared.Layout.{Layout}
 use Rattle.stored_header.specs.Header.{Laid}
+use Rattle.stored_header.proofs.Laid.{k_is}
 use Rattle.stored.specs.Sections.{Section, Six, children_in, index_from, index_at}
 use Rattle.stored.proofs.Sections.{children_long}
-use Rattle.stored.proofs.Contents.{stretch_of, names_only}
+use Rattle.stored.specs.Reading.{numbers_of}
+use Rattle.stored.proofs.Contents.{children_many, stretch_of, names_only}
 use Rattle.sound_places.specs.Lent.{SoundBytes, Lent}
 use Rattle.sound_places.proofs.Lent.{lent}
 use Rattle.sound_places.proofs.Vertices.{lent_sound, list_rises, list_low, name_listed, vertex_low, vertex_placed}
+use Rattle.reach_sweep.specs.declared.groups.Ranks.{Ranks}
+use Rattle.reach_sweep.specs.Fit.{names_of, children_of}
+use Rattle.reach_sweep.specs.Sweep.{marked}
 use Rattle.reach_climb.specs.Climb.{climbed}
+use Rattle.reach.specs.Fit.{RanksOf}
 use Rattle.reach.specs.Marks.{mark_in}
-use Rattle.reach.proofs.Fitted.{index_sound, labels_some, names_count, index_is, names_are, places_are}
-use Rattle.chain_steps.specs.Chain.{chain_of, chain_from}
-use Rattle.chain_steps.specs.Steps.{next_in, TrailIn, steps_in}
+use Rattle.reach.proofs.Fitted.{index_sound, labels_some, names_count, index_is, names_are}
+use Rattle.chain_steps.specs.Chain.{steps_by, chain_of, chain_from}
+use Rattle.chain_steps.specs.Steps.{Trail}
 use Rattle.chain.specs.Marks.{climbed_in, Exact}
 use Rattle.chain.proofs.Marked.{climb_exactly, climb_long, climb_cleared}
 use Rattle.chain.proofs.Traced.{steps_chain, trail, level_low, marked_says}
@@ -65,6 +70,15 @@ module _
         ∙ ap (cleared l.n) after_is
         ∙ subst (λ (n : ℕ). cleared n sized ≡ cleared n before) (names_count O) (climb_cleared (index_sound O) (labels_some O) v target before there)
         ∙ sym clear
+
+-- what the climb over the groups of sound bytes leaves is what it leaves over the index
+pub climbed_is :
+    {b : List ℕ} {l : Layout} (O : SoundBytes b l) {ranks : Ranks} (R : RanksOf (index_in b) l.k ranks) (before : List ℕ) {after : List ℕ}
+    → after ≡ climbed (names_of ranks.groups) (children_of ranks.groups) (numbers_of ranks.places) ranks.groups.rows.k before → after ≡ climbed_in (index_in b) before
+unfolding climbed_in
+climbed_is {b} O {ranks} R before e =
+    let many : length (index_in b).children ≡ ranks.groups.rows.k = omega (arith, R.many, children_many b, k_is O.laid) in
+    rw (many, ← R.names, ← R.rows, ← R.by_rank) e
 
 -- what is read of source and target: their names, their places, and the source's level
 pub record Ways (w k : ℕ) (names groups levels : List ℕ) (u v name x t lev : ℕ) : Type 0 where
@@ -101,14 +115,6 @@ module _
 
     abbrev c : ℕ
     c = l.c
-
-    -- what the climb over them leaves is what it leaves over the index
-    pub climbed_is :
-        (places : List ℕ) → Part labels (w * (0 * ((l.stride + 1) * k) + l.stride * k)) (w * k) places
-        → (before : List ℕ) {after : List ℕ} → after ≡ climbed (numbers w groups k) (children_in w starts children k c) (numbers w places k) k before
-        → after ≡ climbed_in (index_in b) before
-    unfolding climbed_in index_from
-    climbed_is places R before e = rw (index_is O P, places_are O P places R, children_long w starts children k c) e
 
     abbrev I : Index
     I = index_at l names groups levels starts children labels
@@ -169,15 +175,18 @@ module _
         named_at : get_or (numbers w groups k) x 0 ≡ name
         named_at = rw R.source (at_position name (numbers w groups k) (name_listed S hu R.named))
 
-        pub trail_in : TrailIn w k c groups starts children marks t x lev
-        unfolding index_from next_in
+        abbrev next : ℕ → ℕ
+        next p = first_of (marked (numbers w groups k) marks) (get_or (children_in w starts children k c) p []) k
+
+        pub trail_in : Trail k (marked (numbers w groups k) marks) next t x lev
+        unfolding index_from
         trail_in = rw level_is (trail {I = I} (lent_sound S) exact rows_long x (omega (arith, x_low, rows_long)) (rw named_at (eq-eqb _ 1 yes)))
 
         pub level_few : lev ≤ vertex_bound
         level_few = omega (arith, level_is, level_low (lent_sound S) x (omega (arith, x_low, rows_long)), rows_long, O.laid)
 
-        pub steps_are : steps_in w k c groups starts children marks t (suc lev) x ≡ chain_of (index_in b) u v
-        unfolding index_from next_in chain_of
+        pub steps_are : steps_by (numbers w groups k) next t (suc lev) x ≡ chain_of (index_in b) u v
+        unfolding index_from chain_of
         steps_are =
             steps_chain {I = I} (lent_sound S) exact rows_long (suc lev) x
             ∙ subst (λ (J : Index). chain_from I t (suc lev) x ≡ chain_of J u v) (sym (index_is O P))

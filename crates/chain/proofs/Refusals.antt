@@ -5,15 +5,16 @@ use mathlib.Core.List.{List, [], ◌∷◌, ◌++◌}
 use Prim.Native.Nat.{ℕ}
 use lib.Dec.{leb, ltb}
 use lib.ListN.{length}
+use Rattle.std.specs.Prelude.{Option, Result}
 use Rattle.lineage.specs.Lists.{cleared}
 use Rattle.lineage.specs.Stored.{counts_in}
 use Rattle.lineage.specs.Calls.{Check, check, Outcome, refused, outcome, FormsTaken, words_in, form_checks, contents_check, index_in}
 use Rattle.laws.specs.Checks.{Stops, Pass, stopped, Comes}
 use Rattle.laws.proofs.Checks.{pass_both, refused_comes, stops_comes, rest_comes}
+use Rattle.refusals.specs.declared.Refusal.{Refusal}
 use Rattle.stored_header.specs.declared.Layout.{Layout}
 use Rattle.stored_header.specs.Header.{layout_in}
 use Rattle.stored_header.proofs.Admitted.{Admits, admitted}
-use Rattle.chain.specs.declared.Chained.{Chained}
 use Rattle.chain.specs.Traced.{Traced, traced, room_checks, shown, chain_late, chain_answer, chain_marks, chain_work, chain_output}
 use Rattle.chain.specs.Chained.{chained_of, Shows}
 
@@ -57,7 +58,7 @@ module _ (T : FormsTaken) (b : List ℕ) (u v : ℕ) (marks work out : List ℕ)
     chains_at i s = chains_by (stops_comes found first own late i (admitted A) s)
 
     -- where 14 and 15 do not apply, 16 decides
-    pub chains_shown : Pass (own ++ (contents_check b ∷ [])) → {r : Chained} {f : List ℕ} → Shows (index_in b) u v out r f
+    pub chains_shown : Pass (own ++ (contents_check b ∷ [])) → {r : Result (Option ℕ) Refusal} {f : List ℕ} → Shows (index_in b) u v out r f
         → Chains (chained_of r) (cleared (counts_in b).n marks) (cleared (words_in b) work) f
     chains_shown p W =
         let (o, (m, (w, f))) =

@@ -12,11 +12,14 @@ use lib.Dec.{leb}
 use lib.ListN.{length, get_or, take, drop}
 use lib.Seq.{take_at, drop_at}
 use borrow.Author.Tests.{leb-false, lt-ltb, le-ltb}
+use Rattle.std.specs.Prelude.{Option, Some, None, Result}
 use Rattle.lineage.specs.Graph.{Graph, Reaches, name_of}
 use Rattle.lineage.specs.Index.{Index, Made}
 use Rattle.lineage.specs.Stored.{counts_in}
 use Rattle.lineage.specs.Question.{answer}
 use Rattle.lineage.specs.Calls.{Check, check, refused, answered, outcome, FormsTaken, form_checks, contents_check, index_in, Said, said_of, ask_early, ask_answer}
+use Rattle.refusals.specs.declared.Refusal.{Refusal}
+use Rattle.refusals.proofs.Told.{outcome_once}
 use Rattle.laws.specs.Checks.{Pass}
 use Rattle.laws.proofs.Checks.{stops_early, pass_front, pass_behind, answered_pass, answered_is, refused_comes, rest_comes}
 use Rattle.laws.specs.Leads.{OneGroup}
@@ -30,31 +33,24 @@ use Rattle.stored_header.proofs.Laid.{header_laid, d_is}
 use Rattle.stored_header.proofs.Admitted.{header_pass}
 use Rattle.stored.proofs.Contents.{names_many, labels_many}
 use Rattle.chain_steps.specs.Chain.{chain_of}
-use Rattle.chain.specs.declared.Chained.{Chained}
-use Rattle.chain.specs.declared.Chained.TheVariants.{Steps, No, Refused}
 use Rattle.chain.specs.Traced.{Traced, none, steps, traced_by, traced, room_checks, chain_late, chain_answer, chain_output}
-use Rattle.chain.specs.Chained.{chained_of, Allowed}
+use Rattle.chain.specs.Chained.{traced_of, Allowed}
 use Rattle.chain.specs.Right.{Next, Chain, arrived, onward}
 use Rattle.chain.proofs.Right.{chain_made}
 use Rattle.chain.proofs.Only.{chain_only, chain_begins, chain_next, next_path, chain_ends}
 
 -- two results that the contract allows are equal
-chained_one : (r r' : Chained) → chained_of r ≡ chained_of r' → r ≡ r'
-chained_one (Steps count) (Steps count') e = cc
-chained_one (Steps count) No e = let z : ◌≡◌ {A = ℕ} 0 1 = cc in absurd (omega arith)
-chained_one (Steps count) (Refused number extra) e = let z : ◌≡◌ {A = ℕ} 0 1 = cc in absurd (omega arith)
-chained_one No (Steps count) e = let z : ◌≡◌ {A = ℕ} 0 1 = cc in absurd (omega arith)
-chained_one No No e = refl
-chained_one No (Refused number extra) e = let z : ◌≡◌ {A = ℕ} 0 1 = cc in absurd (omega arith)
-chained_one (Refused number extra) (Steps count) e = let z : ◌≡◌ {A = ℕ} 0 1 = cc in absurd (omega arith)
-chained_one (Refused number extra) No e = let z : ◌≡◌ {A = ℕ} 0 1 = cc in absurd (omega arith)
-chained_one (Refused number extra) (Refused number' extra') e = cc
+traced_apart : (a a' : Option ℕ) → traced_of a ≡ traced_of a' → a ≡ a'
+traced_apart (Some count) (Some count') e = cc
+traced_apart (Some count) None e = cc
+traced_apart None (Some count) e = cc
+traced_apart None None e = refl
 
 pub chained_once :
-    {T : FormsTaken} {b : List ℕ} {u v : ℕ} {marks work out : List ℕ} {r r' : Chained} {ms ms' ws ws' os os' : List ℕ}
+    {T : FormsTaken} {b : List ℕ} {u v : ℕ} {marks work out : List ℕ} {r r' : Result (Option ℕ) Refusal} {ms ms' ws ws' os os' : List ℕ}
     → Allowed T b u v marks work out r ms ws os → Allowed T b u v marks work out r' ms' ws' os' → (r ≡ r') × ((ms ≡ ms') × ((ws ≡ ws') × (os ≡ os')))
 chained_once A B =
-    (chained_one _ _ (A.answers ∙ sym B.answers), (A.leaves ∙ sym B.leaves, (A.clears ∙ sym B.clears, A.writes ∙ sym B.writes)))
+    (outcome_once traced_of traced_apart _ _ (A.answers ∙ sym B.answers), (A.leaves ∙ sym B.leaves, (A.clears ∙ sym B.clears, A.writes ∙ sym B.writes)))
 
 -- The chain as a list, in every graph that yields an index.
 module _ {I : Index} (M : Made I) (v : ℕ) (hv : v < length I.names) where

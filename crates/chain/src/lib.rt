@@ -17,18 +17,12 @@ ghost use Rattle.chain.specs.Chained.{chained_of, Fills, Shows};
 use chain_steps::{count_steps, write_chain};
 use numbers::{clear_marks, clear_words, num};
 use open::contents_sound;
-use refusals::{BAD_VERTEX, LIST_SHORT, NOT_SOUND};
+use reach_sweep::groups::Groups;
+use refusals::Refusal;
 use sound_places::place_of;
 use stored::parts;
-use stored_header::{Header, Layout, words_needed};
-
-// How many steps were written, a no, or a refusal with its number and its extra number.
-#[derive(Clone, Copy)]
-pub enum Chained {
-    Steps(u32),
-    No,
-    Refused { number: u32, extra: u32 },
-}
+use stored::reading::{Numbers, Rows};
+use stored_header::{Layout, words_needed};
 
 // The climb through all ranks, by the first labelling: afterwards a group is marked exactly where it reaches one marked before.
 fn climb_up(index: &[u8], l: Layout, marks: &mut [u8])
@@ -36,50 +30,40 @@ fn climb_up(index: &[u8], l: Layout, marks: &mut [u8])
     requires n_in_bounds { l.n ≤ length marks.old }
     ensures { marks.new ≡ climbed_in (index_in index.now) marks.old }
 {
-    let w = l.width;
-    let k = l.k;
-    let c = l.c;
-    let d = l.d;
-    let groups = parts::groups(index, l);
-    let starts = parts::starts(index, l);
-    let children = parts::children(index, l);
-    let labels = parts::labels(index, l);
-    let places = parts::by_rank(labels, w, l.stride, k, d, 0);
-    reach_climb::climb(groups, starts, children, places, marks, w, k, c);
+    reach_climb::climb(&reach::ranks_of(index, l), marks);
 }
 
 // The steps from the marked group at place x, which is at most `lev` high, down to the target: refusal 16, or the steps.
 fn show(
-    groups: &[u8],
-    starts: &[u8],
-    children: &[u8],
+    groups: &Groups,
     marks: &[u8],
     steps: &mut [u32],
-    w: usize,
-    k: usize,
-    c: usize,
     t: usize,
     x: usize,
     lev: usize,
-) -> Chained
-    requires spots { Spots w k c groups.now starts.now children.now (length marks.now) }
-    requires trail_in { TrailIn w k c groups.now starts.now children.now marks.now t x lev }
+) -> Result<Option<u32>, Refusal>
+    requires spots { Spots groups.now (length marks.now) }
+    requires trail_in { TrailIn groups.now marks.now t x lev }
     requires lev_le_vertex_bound { lev ≤ vertex_bound }
-    ensures { Fills (steps_in w k c groups.now starts.now children.now marks.now t (suc lev) x) steps.old result steps.new }
+    ensures { Fills (steps_in groups.now marks.now t (suc lev) x) steps.old result steps.new }
 {
-    let count = count_steps(groups, starts, children, marks, w, k, c, t, x, lev);
+    let count = count_steps(groups, marks, t, x, lev);
     if steps.len() < count {
-        return Chained::Refused {
-            number: LIST_SHORT,
-            extra: count as u32,
-        };
+        return Err(Refusal::ListShort(count as u32));
     }
-    write_chain(groups, starts, children, marks, steps, w, k, c, t, x, lev);
-    Chained::Steps(count as u32)
+    write_chain(groups, marks, steps, t, x, lev);
+    Ok(Some(count as u32))
 }
 
 // The steps from u's group to v's over sound bytes, where exactly the groups that reach v's are marked: a no, refusal 16, or the steps.
-fn trace(index: &[u8], l: Layout, u: usize, v: usize, marks: &[u8], steps: &mut [u32]) -> Chained
+fn trace(
+    index: &[u8],
+    l: Layout,
+    u: usize,
+    v: usize,
+    marks: &[u8],
+    steps: &mut [u32],
+) -> Result<Option<u32>, Refusal>
     requires sound_bytes { SoundBytes index.now l }
     requires n_in_bounds { (l.n ≤ length marks.now) × ((u < l.n) × (v < l.n)) }
     requires exact { Exact (index_in index.now) (place_in (index_in index.now) v) marks.now }
@@ -88,7 +72,6 @@ fn trace(index: &[u8], l: Layout, u: usize, v: usize, marks: &[u8], steps: &mut 
     let w = l.width;
     let n = l.n;
     let k = l.k;
-    let c = l.c;
     let names = parts::names(index, l);
     let groups = parts::groups(index, l);
     let levels = parts::levels(index, l);
@@ -96,12 +79,24 @@ fn trace(index: &[u8], l: Layout, u: usize, v: usize, marks: &[u8], steps: &mut 
     let children = parts::children(index, l);
     let name = num(names, w, u);
     if marks[name] != 1 {
-        return Chained::No;
+        return Ok(None);
     }
     let x = place_of(groups, w, n, k, name);
     let t = place_of(groups, w, n, k, num(names, w, v));
     let lev = num(levels, w, x);
-    show(groups, starts, children, marks, steps, w, k, c, t, x, lev)
+    let names = Numbers {
+        bytes: groups,
+        width: w,
+        len: k,
+    };
+    let rows = Rows {
+        starts,
+        children,
+        width: w,
+        k,
+        c: l.c,
+    };
+    show(&Groups { names, rows }, marks, steps, t, x, lev)
 }
 
 // The chain of bytes whose contents are sound, on marks that are 0 below n, and are so afterwards: a no, refusal 16, or the steps.
@@ -112,7 +107,7 @@ fn chain_sound(
     v: usize,
     marks: &mut [u8],
     steps: &mut [u32],
-) -> Chained
+) -> Result<Option<u32>, Refusal>
     requires sound_bytes { SoundBytes index.now l }
     requires n_in_bounds { (l.n ≤ length marks.old) × ((u < l.n) × (v < l.n)) }
     requires marks_value { marks.old ≡ cleared l.n marks.old }
@@ -138,37 +133,25 @@ pub fn chain_taking(
     marks: &mut [u8],
     work: &mut [u32],
     steps: &mut [u32],
-) -> Chained
+) -> Result<Option<u32>, Refusal>
     ensures result_value { chained_of result ≡ chain_answer (forms_taken least most) index.now source target (length marks.old) (length work.old) (length steps.old) }
     ensures marks_after { marks.new ≡ chain_marks (forms_taken least most) index.now source target marks.old (length work.old) }
     ensures work_after { work.new ≡ chain_work (forms_taken least most) index.now source target (length marks.old) work.old }
     ensures steps_after { steps.new ≡ chain_output (forms_taken least most) index.now source target (length marks.old) (length work.old) steps.old }
 {
-    let l = match stored_header::admit(least, most, index, marks.len(), work.len()) {
-        Header::Refused { number, extra } => return Chained::Refused { number, extra },
-        Header::Passed(l) => l,
-    };
+    let l = stored_header::admit(least, most, index, marks.len(), work.len())?;
     let n = l.n;
     let u = source as usize;
     let v = target as usize;
     if n <= u {
-        return Chained::Refused {
-            number: BAD_VERTEX,
-            extra: 0,
-        };
+        return Err(Refusal::BadVertex(0));
     }
     if n <= v {
-        return Chained::Refused {
-            number: BAD_VERTEX,
-            extra: 1,
-        };
+        return Err(Refusal::BadVertex(1));
     }
     clear_words(work, words_needed(l));
     if !contents_sound(index, l, marks) {
-        return Chained::Refused {
-            number: NOT_SOUND,
-            extra: 0,
-        };
+        return Err(Refusal::NotSound);
     }
     chain_sound(index, l, u, v, marks, steps)
 }
@@ -181,7 +164,7 @@ pub fn chain(
     marks: &mut [u8],
     work: &mut [u32],
     steps: &mut [u32],
-) -> Chained
+) -> Result<Option<u32>, Refusal>
     ensures result_value { chained_of result ≡ chain_answer ordinary index.now source target (length marks.old) (length work.old) (length steps.old) }
     ensures marks_after { marks.new ≡ chain_marks ordinary index.now source target marks.old (length work.old) }
     ensures work_after { work.new ≡ chain_work ordinary index.now source target (length marks.old) work.old }

@@ -8,6 +8,7 @@ use native.Mathlib.Omega.{arith}
 use lib.Dec.{ltb}
 use lib.ListN.{length, take, drop}
 use lib.Seq.{take_at}
+use Rattle.std.specs.Prelude.{Result}
 use Rattle.lineage.specs.Stored.{Form, form1, form2, Counts, counts_in, form_of, is_form}
 use Rattle.lineage.specs.Calls.{Check, check, answered, refuse, outcome, FormsTaken, takes, words_for, words_in, contents_check, open_answer, ask_answer, ask_marks, list_answer, list_output, list_marks}
 use Rattle.laws.specs.Checks.{Pass}
@@ -15,10 +16,10 @@ use Rattle.laws.proofs.Checks.{stops_early, answered_pass, answered_is, pass_fro
 use Rattle.numbers.proofs.Written.{Bytes}
 use Rattle.stored_header.proofs.Admitted.{header_pass}
 use Rattle.ask_all.specs.Batch.{batch_answer, batch_answers, batch_marks}
-use Rattle.convert.specs.declared.Converted.{Converted}
-use Rattle.convert.specs.declared.Converted.TheVariants.{Total, Refused}
+use Rattle.refusals.specs.declared.Refusal.{Refusal}
+use Rattle.refusals.proofs.Told.{outcome_once}
 use Rattle.convert.specs.Convert.{converted, only, beyond, convert_early, convert_late, convert_answer, convert_output}
-use Rattle.convert.specs.Converted.{converted_of, Allowed}
+use Rattle.convert.specs.Converted.{Allowed}
 use Rattle.convert.proofs.Same.{Alike, asked_same, ask_marks_same, listed_same, list_output_same, list_marks_same}
 use Rattle.convert.proofs.Monday.{batched_same, batch_answers_same, batch_marks_same}
 use Rattle.convert.proofs.Theorems.{fits_within, header_fit, Turnable, answered_turnable, turnable_answered, counts_kept, words_turned, turned_opens, turned_alike, turned_back, turnable_back}
@@ -146,15 +147,9 @@ up_answer b marks work out =
     (λ p. fits_within form1 form2 (omega arith) (omega arith) (counts_in b) (header_fit 1 b (header_pass (only 1) b marks work (pass_front early (contents_check b ∷ []) p))))
 
 -- Two results that the contract allows are equal.
-pub converted_one : (r r' : Converted) → converted_of r ≡ converted_of r' → r ≡ r'
-converted_one (Total t) (Total t') e = cc
-converted_one (Total t) (Refused number extra) e = let z : ◌≡◌ {A = ℕ} 0 1 = cc in absurd (omega arith)
-converted_one (Refused number extra) (Total t) e = let z : ◌≡◌ {A = ℕ} 0 1 = cc in absurd (omega arith)
-converted_one (Refused number extra) (Refused number' extra') e = cc
-
-pub converted_once : {from to : ℕ} {b marks work out : List ℕ} {r r' : Converted} {m m' w w' o o' : List ℕ}
+pub converted_once : {from to : ℕ} {b marks work out : List ℕ} {r r' : Result ℕ Refusal} {m m' w w' o o' : List ℕ}
     → Allowed from to b marks work out r m w o
     → Allowed from to b marks work out r' m' w' o'
     → (r ≡ r') × ((m ≡ m') × ((w ≡ w') × (o ≡ o')))
-converted_once {r = r} {r'} A B =
-    (converted_one r r' (A.answers ∙ sym B.answers), (A.leaves ∙ sym B.leaves, (A.clears ∙ sym B.clears, A.writes ∙ sym B.writes)))
+converted_once A B =
+    (outcome_once (λ total. total) (λ t t' e. e) _ _ (A.answers ∙ sym B.answers), (A.leaves ∙ sym B.leaves, (A.clears ∙ sym B.clears, A.writes ∙ sym B.writes)))

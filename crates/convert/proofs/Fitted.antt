@@ -7,6 +7,7 @@ use native.Mathlib.Omega.{arith}
 use lib.Dec.{ltb}
 use lib.ListN.{length, drop}
 use borrow.Author.Tests.{lt-ltb, le-ltb}
+use Rattle.std.specs.Prelude.{Result, Ok, Err}
 use Rattle.lineage.specs.Numbers.{Width}
 use Rattle.lineage.specs.Stored.{Form, counts_in, form_of, is_form}
 use Rattle.lineage.specs.Calls.{refused, answered}
@@ -19,8 +20,8 @@ use Rattle.stored_header.specs.declared.Layout.{Layout}
 use Rattle.stored_header.specs.Header.{Stride, row_of, counts, layout_by, Laid}
 use Rattle.stored_header.proofs.Forms.{form_within}
 use Rattle.sound_places.specs.Lent.{SoundBytes}
-use Rattle.convert.specs.declared.Converted.{Converted}
-use Rattle.convert.specs.declared.Converted.TheVariants.{Total, Refused}
+use Rattle.refusals.specs.declared.Refusal.{Refusal}
+use Rattle.refusals.specs.declared.Refusal.TheVariants.{BeyondForm, OutputShort}
 use Rattle.convert.specs.Convert.{converted, beyond, fit_checks}
 use Rattle.convert.specs.Converted.{converted_of, Turned}
 use Rattle.convert.specs.Fit.{Turns}
@@ -57,7 +58,7 @@ module _ {b : List ℕ} {l : Layout} {form : ℕ} {row : Row} (O : Other b l for
 
   module _ (out : List ℕ) where
     -- the checks stop at number i: 19, 9, none
-    turned_at : (i : ℕ) → Stops (fit_checks G b (length out)) i → {r : Converted} → converted_of r ≡ stopped (fit_checks G b (length out)) i (length (converted G b))
+    turned_at : (i : ℕ) → Stops (fit_checks G b (length out)) i → {r : Result ℕ Refusal} → converted_of r ≡ stopped (fit_checks G b (length out)) i (length (converted G b))
         → Turned G b out r (cond (ltb i 2) out (converted G b ++ drop (length (converted G b)) out))
     turned_at i s e = record {
       answers = e ∙ sym (stops_outcome (length (converted G b)) (fit_checks G b (length out)) i s);
@@ -68,14 +69,14 @@ module _ {b : List ℕ} {l : Layout} {form : ℕ} {row : Row} (O : Other b l for
       beyond_is : beyond G (counts_in b) ≡ t
       beyond_is = sym (told ∙ ap (λ (z : Layout). beyond G (counts z.n z.k z.c z.d)) L.is)
 
-      pub turned_beyond : t ≡ true → Turned G b out (Refused 19 0) out
+      pub turned_beyond : t ≡ true → Turned G b out (Err BeyondForm) out
       turned_beyond h = turned_at 0 (beyond_is ∙ h) refl
 
       module _ (within : t ≡ false) {to : Layout} (T : Turns b l form to) where
-        pub turned_short : length out < to.total → Turned G b out (Refused 9 to.total) out
+        pub turned_short : length out < to.total → Turned G b out (Err (OutputShort to.total)) out
         turned_short h = turned_at 1 (beyond_is ∙ within, lt-ltb (length out) (length (converted G b)) (omega (arith, converted_long T))) (ap (refused 9) (converted_long T))
 
-        pub turned_whole : to.total ≤ length out → {t : List ℕ} → t ≡ put out 0 (converted G b) → Turned G b out (Total to.total) t
+        pub turned_whole : to.total ≤ length out → {t : List ℕ} → t ≡ put out 0 (converted G b) → Turned G b out (Ok to.total) t
         turned_whole h e =
-            subst⁻¹ (Turned G b out (Total to.total)) (e ∙ put_start out (converted G b))
+            subst⁻¹ (Turned G b out (Ok to.total)) (e ∙ put_start out (converted G b))
             (turned_at 2 (beyond_is ∙ within, (le-ltb (length out) (length (converted G b)) (omega (arith, converted_long T)), tt)) (ap answered (converted_long T)))

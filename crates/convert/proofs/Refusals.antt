@@ -4,6 +4,7 @@ use mathlib.Core.Path.{◌≡◌, refl, sym, ◌∙◌}
 use mathlib.Core.List.{List, [], ◌∷◌, ◌++◌}
 use Prim.Native.Nat.{ℕ}
 use lib.ListN.{length, drop}
+use Rattle.std.specs.Prelude.{Result}
 use Rattle.lineage.specs.Lists.{cleared}
 use Rattle.lineage.specs.Sound.{contents_sound}
 use Rattle.lineage.specs.Stored.{Form, header_at, counts_in, form_of}
@@ -15,7 +16,7 @@ use Rattle.stored_header.specs.Header.{layout_in, words_of, Laid}
 use Rattle.stored_header.proofs.Laid.{cleared_in}
 use Rattle.stored_header.proofs.Admitted.{Admits, admitted, admitted_laid}
 use Rattle.open.proofs.Checks.{contents_applies, words_cleared}
-use Rattle.convert.specs.declared.Converted.{Converted}
+use Rattle.refusals.specs.declared.Refusal.{Refusal}
 use Rattle.convert.specs.Convert.{converted, only, fit_checks, convert_early, convert_answer, convert_marks, convert_work, convert_output}
 use Rattle.convert.specs.Converted.{converted_of, Turned}
 
@@ -107,5 +108,5 @@ module _ (from to : ℕ) (b marks work out : List ℕ) where
       pub converts_unsound : not t ≡ true → Converts (refused 15 0) m w out
       converts_unsound h = converts (leaves_unsound from b marks work out bytes own A told left need clears h)
 
-      pub converts_turned : not t ≡ false → {r : Converted} {f : List ℕ} → Turned G b out r f → Converts (converted_of r) m w f
+      pub converts_turned : not t ≡ false → {r : Result ℕ Refusal} {f : List ℕ} → Turned G b out r f → Converts (converted_of r) m w f
       converts_turned h W = converts (leaves_own from b marks work out bytes own A told left need clears h W.answers W.writes)

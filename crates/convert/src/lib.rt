@@ -13,16 +13,9 @@ ghost use Rattle.convert.specs.Fit.{Turns};
 
 use numbers::clear_words;
 use open::contents_sound;
-use refusals::{BEYOND_FORM, NOT_SOUND, OUTPUT_SHORT};
+use refusals::Refusal;
 use stored::parts;
-use stored_header::{Header, Layout, words_needed};
-
-// A finished conversion's length, or a refusal with its number and its extra number.
-#[derive(Clone, Copy)]
-pub enum Converted {
-    Total(u32),
-    Refused { number: u32, extra: u32 },
-}
+use stored_header::{Layout, words_needed};
 
 // Copies the numbers of section i to where the other layout has it, in its width.
 fn copy_section(index: &[u8], l: Layout, form: usize, to: Layout, out: &mut [u8], i: usize)
@@ -43,10 +36,8 @@ fn write_as(index: &[u8], l: Layout, form: usize, to: Layout, out: &mut [u8])
     ensures { out.new ≡ put out.old 0 (converted (form_of form) index.now) }
 {
     stored_header::write_header(out, form, to);
-    let mut i = 0;
-    while i < 6 {
+    for i in 0..6 {
         copy_section(index, l, form, to, out, i);
-        i += 1;
     }
 }
 
@@ -59,7 +50,7 @@ fn is_beyond(form: usize, l: Layout) -> bool
 }
 
 // Sound bytes turned into the form with this number, which has as many numbers by place: refusals 19 and 9, or what is written.
-fn convert_sound(index: &[u8], l: Layout, form: usize, out: &mut [u8]) -> Converted
+fn convert_sound(index: &[u8], l: Layout, form: usize, out: &mut [u8]) -> Result<u32, Refusal>
     requires sound_bytes { SoundBytes index.now l }
     requires form_value { (is_form form ≡ true) × ((form_of form).by_place ≡ l.stride) }
     ensures { Turned (form_of form) index.now out.old result out.new }
@@ -69,19 +60,13 @@ fn convert_sound(index: &[u8], l: Layout, form: usize, out: &mut [u8]) -> Conver
     let beyond = is_beyond(form, l);
     let short = out.len() < to.total;
     if beyond {
-        return Converted::Refused {
-            number: BEYOND_FORM,
-            extra: 0,
-        };
+        return Err(Refusal::BeyondForm);
     }
     if short {
-        return Converted::Refused {
-            number: OUTPUT_SHORT,
-            extra: to.total as u32,
-        };
+        return Err(Refusal::OutputShort(to.total as u32));
     }
     write_as(index, l, form, to, out);
-    Converted::Total(to.total as u32)
+    Ok(to.total as u32)
 }
 
 // Turns a stored index of form `from` into form `to`, none of pairs: the first of the refusals 10, 11, 12, 13, 6, 15, 19 and 9 that applies, or the length of what is written to the
@@ -94,29 +79,23 @@ fn convert_between(
     marks: &mut [u8],
     work: &mut [u32],
     out: &mut [u8],
-) -> Converted
+) -> Result<u32, Refusal>
     requires { (is_form to ≡ true) × ((from ≤ 3) × (to ≤ 3)) }
     ensures result_value { converted_of result ≡ convert_answer from to index.now (length marks.old) (length work.old) (length out.old) }
     ensures marks_after { marks.new ≡ convert_marks from index.now marks.old (length work.old) }
     ensures work_after { work.new ≡ convert_work from index.now (length marks.old) work.old }
     ensures out_after { out.new ≡ convert_output from to index.now (length marks.old) (length work.old) out.old }
 {
-    let l = match stored_header::admit(from, from, index, marks.len(), work.len()) {
-        Header::Refused { number, extra } => return Converted::Refused { number, extra },
-        Header::Passed(l) => l,
-    };
+    let l = stored_header::admit(from, from, index, marks.len(), work.len())?;
     clear_words(work, words_needed(l));
     if !contents_sound(index, l, marks) {
-        return Converted::Refused {
-            number: NOT_SOUND,
-            extra: 0,
-        };
+        return Err(Refusal::NotSound);
     }
     convert_sound(index, l, to, out)
 }
 
 // Turns an index of form 1 into form 2. Form 1 needs no words.
-pub fn convert_up(index: &[u8], marks: &mut [u8], out: &mut [u8]) -> Converted
+pub fn convert_up(index: &[u8], marks: &mut [u8], out: &mut [u8]) -> Result<u32, Refusal>
     ensures result_value { converted_of result ≡ convert_answer 1 2 index.now (length marks.old) 0 (length out.old) }
     ensures marks_after { marks.new ≡ convert_marks 1 index.now marks.old 0 }
     ensures out_after { out.new ≡ convert_output 1 2 index.now (length marks.old) 0 out.old }
@@ -126,7 +105,12 @@ pub fn convert_up(index: &[u8], marks: &mut [u8], out: &mut [u8]) -> Converted
 }
 
 // Turns an index of form 2 into form 1, where it fits.
-pub fn convert_down(index: &[u8], marks: &mut [u8], work: &mut [u32], out: &mut [u8]) -> Converted
+pub fn convert_down(
+    index: &[u8],
+    marks: &mut [u8],
+    work: &mut [u32],
+    out: &mut [u8],
+) -> Result<u32, Refusal>
     ensures result_value { converted_of result ≡ convert_answer 2 1 index.now (length marks.old) (length work.old) (length out.old) }
     ensures marks_after { marks.new ≡ convert_marks 2 index.now marks.old (length work.old) }
     ensures work_after { work.new ≡ convert_work 2 index.now (length marks.old) work.old }

@@ -105,13 +105,13 @@ demand_1 = record {
   ask_all = record {
     met = ask_all_call.Met.met;
     nothing_asked = λ κs a. tt;
-    allows = λ κs a r e (returns, (leaves, (clears, writes))). record { returns = returns; leaves = leaves; clears = clears; writes = writes };
+    allows = λ κs a r e (own, (returns, (leaves, (clears, writes)))). record { own = own; returns = returns; leaves = leaves; clears = clears; writes = writes };
     once = λ κs a r r' e e'. batch_once;
   };
   ask_all_form1 = record {
     met = ask_all_form1_call.Met.met;
     nothing_asked = λ κs a. tt;
-    allows = λ κs a r e (returns, (leaves, writes)). record { returns = returns; leaves = leaves; clears = sym (batch_no_words _ _ _); writes = writes };
+    allows = λ κs a r e (own, (returns, (leaves, writes))). record { own = own; returns = returns; leaves = leaves; clears = sym (batch_no_words _ _ _); writes = writes };
     once = λ κs a r r' e e' X Y. let (same, (marks, (work, answers))) = batch_once X Y in (same, (marks, answers));
   };
   list = record {
@@ -207,7 +207,7 @@ demand_1 = record {
   settle_lists = record {
     met = settle_lists_call.Met.met;
     nothing_asked = λ κs a. tt;
-    allows = λ κs a r e (answers, (leaves, (clears, turns))). record { answers = answers; leaves = leaves; clears = clears; turns = turns };
+    allows = λ κs a r e (own, (answers, (leaves, (clears, turns)))). record { own = own; answers = answers; leaves = leaves; clears = clears; turns = turns };
     once = λ κs a r r' e e'. settled_once;
   };
   build_exceptions = record {
@@ -231,7 +231,7 @@ demand_1 = record {
   ask_all_exceptions = record {
     met = ask_all_exceptions_call.Met.met;
     nothing_asked = λ κs a. tt;
-    allows = λ κs a r e (answers, (leaves, writes)). record { answers = answers; leaves = leaves; writes = writes };
+    allows = λ κs a r e (own, (answers, (leaves, writes))). record { own = own; answers = answers; leaves = leaves; writes = writes };
     once = λ κs a r r' e e'. exceptions_asked_all.all_once;
   };
   run = record {

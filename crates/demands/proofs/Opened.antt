@@ -14,6 +14,8 @@ use Rattle.lineage.specs.Stored.{Counts, counts_of, counts_fit, header_at, count
 use Rattle.lineage.specs.Question.{answer}
 use Rattle.lineage.specs.Calls.{Outcome, refused, answered, FormsTaken, host, hierarchy, takes, words_in, index_in, Said, said_of, ask_answer}
 use Rattle.numbers.proofs.Written.{Bytes}
+use Rattle.std.specs.Prelude.{Result}
+use Rattle.refusals.specs.declared.Refusal.{Refusal}
 use Rattle.open.specs.declared.Opened.{Opened}
 use Rattle.open.specs.Opened.{opened_of}
 use Rattle.open.specs.Yields.{Yields, HeaderRight}
@@ -33,7 +35,7 @@ use Rattle.demands.proofs.Asked.{opened_counts, opened_asks, opened_marks, asked
 use Rattle.demands.proofs.Stored.{stored}
 
 -- bytes open exactly when their form is taken and a graph and orders yield them
-pub opened_yields : {T : FormsTaken} {b marks work : List ℕ} {r : Opened} {m w : List ℕ} → Bytes b → (counts_in b).n ≤ length marks → words_in b ≤ length work
+pub opened_yields : {T : FormsTaken} {b marks work : List ℕ} {r : Result Opened Refusal} {m w : List ℕ} → Bytes b → (counts_in b).n ≤ length marks → words_in b ≤ length work
     → Allowed T b marks work r m w
     → ((a : Counts) × (opened_of r ≡ answered a))
     ↔ ((takes T (header_at b 0) ≡ true) × ((Y : Yields (form_in b) b) × (counts_fit (form_in b) (counts_of (index_of Y.graph Y.orders)) ≡ true)))
@@ -44,7 +46,7 @@ opened_yields {T} {b} {marks} {work} small room words X =
     )
 
 -- and as a plain hierarchy exactly when some accepted build of one writes them
-pub opened_written : {b marks work : List ℕ} {r : Opened} {m w : List ℕ} → Bytes b → (counts_in b).n ≤ length marks → words_in b ≤ length work
+pub opened_written : {b marks work : List ℕ} {r : Result Opened Refusal} {m w : List ℕ} → Bytes b → (counts_in b).n ≤ length marks → words_in b ≤ length work
     → Allowed hierarchy b marks work r m w
     → ((a : Counts) × (opened_of r ≡ answered a)) ↔ Written b
 opened_written {b} {marks} {work} small room words X =
@@ -54,7 +56,7 @@ opened_written {b} {marks} {work} small room words X =
     )
 
 -- of whatever graph and d orders yield them
-pub yielded_stored : {T : FormsTaken} {b marks work : List ℕ} {r : Opened} {m w : List ℕ} {a : Counts} → Allowed T b marks work r m w → opened_of r ≡ answered a
+pub yielded_stored : {T : FormsTaken} {b marks work : List ℕ} {r : Result Opened Refusal} {m w : List ℕ} {a : Counts} → Allowed T b marks work r m w → opened_of r ≡ answered a
     → (Y : Yields (form_in b) b)
     → length Y.orders ≡ a.d
     → Stored Y.graph Y.orders b
@@ -65,8 +67,8 @@ yielded_stored {T} {b} {marks} {work} X e Y d =
     (d ∙ ap (λ (a : Counts). a.d) (opened_counts T b (length marks) (length work) opens)))
 
 -- they answer every question between their vertices
-pub opened_answers : {T : FormsTaken} {b marks work : List ℕ} {r : Opened} {m w : List ℕ} {a : Counts} → Allowed T b marks work r m w → opened_of r ≡ answered a
-    → {u v : ℕ} {marks' work' : List ℕ} {r' : Asked} {m' w' : List ℕ} → u < a.n → v < a.n → a.n ≤ length marks'
+pub opened_answers : {T : FormsTaken} {b marks work : List ℕ} {r : Result Opened Refusal} {m w : List ℕ} {a : Counts} → Allowed T b marks work r m w → opened_of r ≡ answered a
+    → {u v : ℕ} {marks' work' : List ℕ} {r' : Result Asked Refusal} {m' w' : List ℕ} → u < a.n → v < a.n → a.n ≤ length marks'
     → words_in b ≤ length work'
     → ask.Allowed T b u v marks' work' r' m' w'
     → (asked_of r' ≡ answered (said_of (answer (index_in b) u v))) × (m' ≡ (answer (index_in b) u v).marks ++ drop a.n marks')
@@ -87,7 +89,7 @@ module _ (T : FormsTaken) (b : List ℕ) (u v m w : ℕ) {s : Said} (e : ask_ans
       let some : 0 < (counts_in b).n = omega (arith, (answered_only T b u v m w s e).source_low) in
       record { graph = Y.graph; ends = Y.ends; orders = Y.orders; permuted = Y.permuted; yields = (stored Y (bounds_are R Y (orders_are R Y some))).holds }
 
-pub asked_path : {T : FormsTaken} {b : List ℕ} {u v : ℕ} {marks work : List ℕ} {r : Asked} {m w : List ℕ} {s : Said} → ask.Allowed T b u v marks work r m w
+pub asked_path : {T : FormsTaken} {b : List ℕ} {u v : ℕ} {marks work : List ℕ} {r : Result Asked Refusal} {m w : List ℕ} {s : Said} → ask.Allowed T b u v marks work r m w
     → asked_of r ≡ answered s
     → (Y : Yields (form_in b) b)
     → (s.says ≡ true) ↔ Reaches Y.graph u v

@@ -6,6 +6,8 @@ use mathlib.Core.List.{List}
 use Prim.Native.Nat.{ℕ}
 use native.Mathlib.Omega.{arith}
 use lib.ListN.{length}
+use Rattle.std.specs.Prelude.{Result}
+use Rattle.refusals.specs.declared.Refusal.{Refusal}
 use Rattle.lineage.specs.Graph.{Graph}
 use Rattle.lineage.specs.Index.{index_of}
 use Rattle.lineage.specs.Question.{answer}
@@ -34,7 +36,7 @@ fewer G orders₁ orders₂ b₁ b₂ S₁ S₂ up T taken₁ taken₂ u v marks
     }
 
 pub on_a_no : {G : Graph} {orders : List (List ℕ)} {b : List ℕ} → Stored G orders b
-    → {T : FormsTaken} {u v : ℕ} {marks work : List ℕ} {r : Asked} {m w : List ℕ} {s : Said} → Allowed T b u v marks work r m w → asked_of r ≡ answered s
+    → {T : FormsTaken} {u v : ℕ} {marks work : List ℕ} {r : Result Asked Refusal} {m w : List ℕ} {s : Said} → Allowed T b u v marks work r m w → asked_of r ≡ answered s
     → s.says ≡ false
     → OpenedThrough (index_of G orders) u v m
 on_a_no {G} {orders} {b} S {T} {u} {v} {marks} {work} {s = s} X e says =

@@ -9,6 +9,8 @@ use native.Mathlib.Omega.{arith}
 use lib.Dec.{leb}
 use lib.ListN.{length, take, drop}
 use borrow.Author.Tests.{leb-true}
+use Rattle.std.specs.Prelude.{Result}
+use Rattle.refusals.specs.declared.Refusal.{Refusal}
 use Rattle.lineage.specs.Graph.{Graph, Reaches}
 use Rattle.lineage.specs.Index.{Index, index_of, Made}
 use Rattle.lineage.specs.Stored.{Form, Counts, counts_of, counts_fit, header_at, counts_in, form_of, is_form}
@@ -96,7 +98,7 @@ module _ {b : List ℕ} (Y : Yields (form_in b) b) (bounds : counts_fit (form_in
           (omega (arith, vertices)) words
           ∙ ap₂ (λ (J : Index) (n : ℕ). (answer J u v).marks ++ drop n marks) (sym holds) vertices
 
-      right : {r : Asked} {m : List ℕ} → asked_of r ≡ ask_answer T b u v (length marks) work → m ≡ ask_marks T b u v marks work → Right G I u v marks r m
+      right : {r : Result Asked Refusal} {m : List ℕ} → asked_of r ≡ ask_answer T b u v (length marks) work → m ≡ ask_marks T b u v marks work → Right G I u v marks r m
       right answers leaves = record {
         said = answers ∙ asks;
         marked = leaves ∙ marked;

@@ -1,7 +1,8 @@
 -- Demand 3: more orders never open more. Of two indexes of one edge list, each order of the first also an order of the second: the same yes or no for any two
 -- vertices, and every group that the second opens the first opens too. On a no the opened groups are exactly those reached from the source, child by child, where
 -- every group on the way, both ends included, passes that index's level and outer-interval tests. The two indexes may be of two forms that a call takes.
-use Rattle.std.specs.Prelude.{true, false, ◌||◌, ◌↔◌, ◌≡◌, List, [], ℕ, ◌<◌, ◌≤◌, length, get_or}
+use Rattle.refusals.specs.declared.Refusal.{Refusal}
+use Rattle.std.specs.Prelude.{Result, true, false, ◌||◌, ◌↔◌, ◌≡◌, List, [], ℕ, ◌<◌, ◌≤◌, length, get_or}
 use Rattle.lineage.specs.Lists.{Every}
 use Rattle.lineage.specs.Graph.{Graph}
 use Rattle.lineage.specs.Index.{Index, index_of}
@@ -16,7 +17,7 @@ use Rattle.ask.proofs.Theorems as ask
 use Rattle.demands.specs.Stored.{Builds, Stored}
 
 -- two answers with the marks left: the second says what the first says, opens no group that the first does not open, and counts no more
-pub record Fewer (n : ℕ) (r₁ : Asked) (m₁ : List ℕ) (r₂ : Asked) (m₂ : List ℕ) : Type 0 where
+pub record Fewer (n : ℕ) (r₁ : Result Asked Refusal) (m₁ : List ℕ) (r₂ : Result Asked Refusal) (m₂ : List ℕ) : Type 0 where
   pub first : Said
   pub second : Said
   pub first_answers : asked_of r₁ ≡ answered first
@@ -30,7 +31,7 @@ abbrev pub NeverMore : (Graph → List (List ℕ) → List ℕ → Type 0) → T
 NeverMore IndexOf = (G : Graph) (orders₁ orders₂ : List (List ℕ)) (b₁ b₂ : List ℕ) → IndexOf G orders₁ b₁ → IndexOf G orders₂ b₂
     → Every (λ o. Member o orders₂) orders₁
     → (T : FormsTaken) → takes T (header_at b₁ 0) ≡ true → takes T (header_at b₂ 0) ≡ true
-    → (u v : ℕ) (marks₁ marks₂ work₁ work₂ : List ℕ) (r₁ r₂ : Asked) (m₁ m₂ w₁ w₂ : List ℕ) → u < G.n → v < G.n
+    → (u v : ℕ) (marks₁ marks₂ work₁ work₂ : List ℕ) (r₁ r₂ : Result Asked Refusal) (m₁ m₂ w₁ w₂ : List ℕ) → u < G.n → v < G.n
     → G.n ≤ length marks₁
     → G.n ≤ length marks₂
     → words_in b₁ ≤ length work₁
@@ -51,6 +52,6 @@ pub record MoreOrders : Type 0 where
   pub built : NeverMore Builds
   -- on a no
   pub on_a_no : {G : Graph} {orders : List (List ℕ)} {b : List ℕ} → Stored G orders b
-      → {T : FormsTaken} {u v : ℕ} {marks work : List ℕ} {r : Asked} {m w : List ℕ} {s : Said} → ask.Allowed T b u v marks work r m w → asked_of r ≡ answered s
+      → {T : FormsTaken} {u v : ℕ} {marks work : List ℕ} {r : Result Asked Refusal} {m w : List ℕ} {s : Said} → ask.Allowed T b u v marks work r m w → asked_of r ≡ answered s
       → s.says ≡ false
       → OpenedThrough (index_of G orders) u v m

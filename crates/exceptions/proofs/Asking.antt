@@ -1,5 +1,6 @@
 -- Lists that do not belong to the index are told before the vertices are looked at. A question by exception lists, wherever it is answered, says what the walk says of the
 -- same index and vertices, so yes exactly where a path leads from source to target, in whatever graph yields the index. The contract allows one result.
+use Rattle.std.specs.Prelude.{Result}
 use mathlib.Core.Bool.{Bool, true, false, not}
 use mathlib.Core.Logic.{◌↔◌}
 use mathlib.Core.Path.{◌≡◌, sym, ap, ◌∙◌}
@@ -27,8 +28,8 @@ use Rattle.stored_header.proofs.Admitted.{header_pass}
 use Rattle.stored_header.proofs.Laid.{header_laid, d_is}
 use Rattle.stored.proofs.Contents.{names_many, labels_many, contents_sound_lem}
 use Rattle.exceptions.specs.Calls.{form_one_checks, belong_check, ask_late, exceptions_asked, exception_marks}
-use Rattle.exceptions.specs.declared.Said as declared
-use Rattle.exceptions.specs.declared.Said.TheVariants.{Answer, Refused}
+use Rattle.refusals.specs.declared.Refusal.{Refusal}
+use Rattle.refusals.proofs.Told.{outcome_once}
 use Rattle.exceptions.specs.Said as told
 
 -- beside an index that opens, lists that are not its exceptions get 20, whatever the vertices
@@ -93,17 +94,11 @@ module _ (b lists : List ℕ) (u v marks : ℕ) (s : Bool) (e : exceptions_asked
   exceptions_right M = rw said_is (says_right (index_in b) M u v source target)
 
 -- two results that the contract allows are equal
-pub record Allowed (b lists : List ℕ) (source target : ℕ) (marks : List ℕ) (r : declared.Said) (marks' : List ℕ) : Type 0 where
+pub record Allowed (b lists : List ℕ) (source target : ℕ) (marks : List ℕ) (r : Result Bool Refusal) (marks' : List ℕ) : Type 0 where
   pub answers : told.said_of r ≡ exceptions_asked b lists source target (length marks)
   pub leaves : marks' ≡ exception_marks b marks
 
-said_one : (r r' : declared.Said) → told.said_of r ≡ told.said_of r' → r ≡ r'
-said_one (Answer says) (Answer says') e = cc
-said_one (Answer says) (Refused number extra) e = let z : ◌≡◌ {A = ℕ} 0 1 = cc in absurd (omega arith)
-said_one (Refused number extra) (Answer says) e = let z : ◌≡◌ {A = ℕ} 0 1 = cc in absurd (omega arith)
-said_one (Refused number extra) (Refused number' extra') e = cc
-
 pub said_once :
-    {b lists : List ℕ} {u v : ℕ} {marks : List ℕ} {r r' : declared.Said} {m m' : List ℕ}
+    {b lists : List ℕ} {u v : ℕ} {marks : List ℕ} {r r' : Result Bool Refusal} {m m' : List ℕ}
     → Allowed b lists u v marks r m → Allowed b lists u v marks r' m' → (r ≡ r') × (m ≡ m')
-said_once A B = (said_one _ _ (A.answers ∙ sym B.answers), A.leaves ∙ sym B.leaves)
+said_once A B = (outcome_once _ (λ s s' e. e) _ _ (A.answers ∙ sym B.answers), A.leaves ∙ sym B.leaves)

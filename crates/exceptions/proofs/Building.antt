@@ -1,9 +1,9 @@
 -- What building wrote opens beside the same index, with whatever marks suffice; the output behind it is untouched. The contract allows one result.
+use Rattle.std.specs.Prelude.{Result}
 use mathlib.Core.Bool.{false}
 use mathlib.Core.Path.{◌≡◌, refl, sym, ap, ◌∙◌}
 use mathlib.Core.List.{List, [], ◌++◌}
 use Prim.Native.Nat.{ℕ, ◌≤◌}
-use native.Mathlib.Omega.{arith}
 use lib.ListN.{length, take, drop}
 use lib.Seq.{take_at, drop_at}
 use borrow.Author.Tests.{ltb-false}
@@ -14,8 +14,8 @@ use Rattle.laws.proofs.Checks.{stops_outcome, stops_early, pass_front, pass_behi
 use Rattle.laws_exceptions.specs.Exceptions.{encode_exceptions}
 use Rattle.stored_header.proofs.Admitted.{header_pass, lent_pass}
 use Rattle.exceptions.specs.Calls.{form_one_checks, build_late, open_late, list_counts, exceptions_built, exceptions_output, exceptions_opened, exception_marks}
-use Rattle.exceptions.specs.declared.Written.{Written}
-use Rattle.exceptions.specs.declared.Written.TheVariants.{Length, Refused}
+use Rattle.refusals.specs.declared.Refusal.{Refusal}
+use Rattle.refusals.proofs.Told.{outcome_once}
 use Rattle.exceptions.specs.Written.{written_of}
 use Rattle.exceptions.proofs.Opening.{passes}
 
@@ -58,16 +58,10 @@ module _ (b : List ℕ) (marks : ℕ) (out : List ℕ) (total : ℕ) (e : except
       (stops_outcome (list_counts (index_in b)) (form_one_checks b m ++ open_late b lists) 7 (passes b lists m again (pass_behind first late passed).0 refl))
 
 -- two results that the contract allows are equal
-pub record Allowed (b marks out : List ℕ) (r : Written) (marks' out' : List ℕ) : Type 0 where
+pub record Allowed (b marks out : List ℕ) (r : Result ℕ Refusal) (marks' out' : List ℕ) : Type 0 where
   pub answers : written_of r ≡ exceptions_built b (length marks) (length out)
   pub leaves : marks' ≡ exception_marks b marks
   pub writes : out' ≡ exceptions_output b (length marks) out
 
-written_one : (r r' : Written) → written_of r ≡ written_of r' → r ≡ r'
-written_one (Length size) (Length size') e = cc
-written_one (Length size) (Refused number extra) e = let z : ◌≡◌ {A = ℕ} 0 1 = cc in absurd (omega arith)
-written_one (Refused number extra) (Length size) e = let z : ◌≡◌ {A = ℕ} 0 1 = cc in absurd (omega arith)
-written_one (Refused number extra) (Refused number' extra') e = cc
-
-pub built_once : {b marks out : List ℕ} {r r' : Written} {m m' o o' : List ℕ} → Allowed b marks out r m o → Allowed b marks out r' m' o' → (r ≡ r') × ((m ≡ m') × (o ≡ o'))
-built_once A B = (written_one _ _ (A.answers ∙ sym B.answers), (A.leaves ∙ sym B.leaves, A.writes ∙ sym B.writes))
+pub built_once : {b marks out : List ℕ} {r r' : Result ℕ Refusal} {m m' o o' : List ℕ} → Allowed b marks out r m o → Allowed b marks out r' m' o' → (r ≡ r') × ((m ≡ m') × (o ≡ o'))
+built_once A B = (outcome_once _ (λ n n' e. e) _ _ (A.answers ∙ sym B.answers), (A.leaves ∙ sym B.leaves, A.writes ∙ sym B.writes))

@@ -1,4 +1,5 @@
 -- The lists of sound bytes, from what the code has at its end: their count, the room, and the written output.
+use Rattle.std.specs.Prelude.{Ok, Err}
 use mathlib.Core.Path.{◌≡◌, sym, ap, ap₂, ◌∙◌}
 use mathlib.Core.List.{List}
 use Prim.Native.Nat.{ℕ, ◌+◌, ◌*◌, ◌≤◌, ◌<◌}
@@ -17,7 +18,7 @@ use Rattle.numbers.proofs.Written.{written_long, written_at}
 use Rattle.exceptions_lists.proofs.Ends.{entries_long, entries_count}
 use Rattle.exceptions_lists.proofs.Matched.{numbers_count, number_1}
 use Rattle.exceptions.specs.Calls.{list_counts}
-use Rattle.exceptions.specs.declared.Written.TheVariants.{Length, Refused}
+use Rattle.refusals.specs.declared.Refusal.TheVariants.{OutputShort}
 use Rattle.exceptions.specs.Written.{Fills}
 
 module _ (I : Index) {k : ℕ} (many : length I.groups ≡ k) (few : k ≤ 4096) where
@@ -34,12 +35,12 @@ module _ (I : Index) {k : ℕ} (many : length I.groups ≡ k) (few : k ≤ 4096)
     needed_is = omega (arith, bytes_are_lem)
 
     -- too short an output, or room for all
-    pub build_short : {out : List ℕ} → length out < needed → Fills (encode_exceptions I) out (Refused 9 needed) out
+    pub build_short : {out : List ℕ} → length out < needed → Fills (encode_exceptions I) out (Err (OutputShort needed)) out
     build_short {out} h =
         let short = lt-ltb (length out) (length (encode_exceptions I)) (omega (arith, needed_is)) in
         record { answers = rw (needed_is, short); writes = rw short }
 
-    pub build_done : {out out' : List ℕ} → needed ≤ length out → out' ≡ put out 0 (encode_exceptions I) → Fills (encode_exceptions I) out (Length needed) out'
+    pub build_done : {out out' : List ℕ} → needed ≤ length out → out' ≡ put out 0 (encode_exceptions I) → Fills (encode_exceptions I) out (Ok needed) out'
     build_done {out} h e =
         let room = le-ltb (length out) (length (encode_exceptions I)) (omega (arith, needed_is)) in
         record { answers = rw (needed_is, room); writes = e ∙ put_start out (encode_exceptions I) ∙ rw room }

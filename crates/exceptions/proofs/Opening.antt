@@ -1,10 +1,10 @@
 -- Exception lists open exactly where the index opens and they are its exceptions, and what is answered then is how many they are. The contract allows one result.
+use Rattle.std.specs.Prelude.{Result}
 use mathlib.Core.Bool.{true, false, not}
 use mathlib.Core.Logic.{◌↔◌}
 use mathlib.Core.Path.{◌≡◌, refl, sym, ap, subst, ◌∙◌}
 use mathlib.Core.List.{List, [], ◌∷◌, ◌++◌}
 use Prim.Native.Nat.{ℕ}
-use native.Mathlib.Omega.{arith}
 use lib.ListN.{length}
 use borrow.Author.Tests.{not-false}
 use Rattle.lineage.specs.Lists.{same_list}
@@ -16,7 +16,8 @@ use Rattle.laws.proofs.Checks.{stops_outcome, pass_front, pass_behind, pass_both
 use Rattle.laws_exceptions.specs.Exceptions.{encode_exceptions}
 use Rattle.exceptions.specs.Calls.{form_one_checks, open_late, ListCounts, list_counts, exceptions_opened, exception_marks}
 use Rattle.exceptions.specs.declared.Opened.{Opened}
-use Rattle.exceptions.specs.declared.Opened.TheVariants.{Lists, Refused}
+use Rattle.refusals.specs.declared.Refusal.{Refusal}
+use Rattle.refusals.proofs.Told.{outcome_once}
 use Rattle.exceptions.specs.Opened.{opened_of}
 
 -- the marks after each call on exception lists are those of opening the index
@@ -62,20 +63,15 @@ module _ (b lists : List ℕ) (marks : ℕ) where
   opened_counts a e = answered_is (list_counts (index_in b)) (first ++ open_late b lists) a e
 
 -- two results that the contract allows are equal
-pub record Allowed (b lists marks : List ℕ) (r : Opened) (marks' : List ℕ) : Type 0 where
+pub record Allowed (b lists marks : List ℕ) (r : Result Opened Refusal) (marks' : List ℕ) : Type 0 where
   pub answers : opened_of r ≡ exceptions_opened b lists (length marks)
   pub leaves : marks' ≡ exception_marks b marks
 
-lists_one : {groups groups' entries entries' : ℕ} → groups ≡ groups' → entries ≡ entries' → Lists groups entries ≡ Lists groups' entries'
-lists_one a b = cc
+abbrev opened_like : ListCounts → Opened
+opened_like z = record { groups = z.groups; entries = z.entries }
 
-opened_one : (r r' : Opened) → opened_of r ≡ opened_of r' → r ≡ r'
-opened_one (Lists groups entries) (Lists groups' entries') e =
-    let same : ◌≡◌ {A = ListCounts} (record { groups = groups; entries = entries }) (record { groups = groups'; entries = entries' }) = cc in
-    lists_one (ap (λ (z : ListCounts). z.groups) same) (ap (λ (z : ListCounts). z.entries) same)
-opened_one (Lists groups entries) (Refused number extra) e = let z : ◌≡◌ {A = ℕ} 0 1 = cc in absurd (omega arith)
-opened_one (Refused number extra) (Lists groups entries) e = let z : ◌≡◌ {A = ℕ} 0 1 = cc in absurd (omega arith)
-opened_one (Refused number extra) (Refused number' extra') e = cc
+opened_one : (o o' : Opened) → ◌≡◌ {A = ListCounts} (record { groups = o.groups; entries = o.entries }) (record { groups = o'.groups; entries = o'.entries }) → o ≡ o'
+opened_one o o' e = ap (λ (z : ListCounts). opened_like z) e
 
-pub opened_once : {b lists marks : List ℕ} {r r' : Opened} {m m' : List ℕ} → Allowed b lists marks r m → Allowed b lists marks r' m' → (r ≡ r') × (m ≡ m')
-opened_once A B = (opened_one _ _ (A.answers ∙ sym B.answers), A.leaves ∙ sym B.leaves)
+pub opened_once : {b lists marks : List ℕ} {r r' : Result Opened Refusal} {m m' : List ℕ} → Allowed b lists marks r m → Allowed b lists marks r' m' → (r ≡ r') × (m ≡ m')
+opened_once A B = (outcome_once _ opened_one _ _ (A.answers ∙ sym B.answers), A.leaves ∙ sym B.leaves)

@@ -1,109 +1,124 @@
--- What a call on exception lists answers and leaves, by where its checks stop: at one of 10 to 13, or at one behind them, where the marks below n are 0. The same for every
--- call, whatever it checks behind 13 and whatever it answers.
+-- What a call on exception lists answers and leaves, by where its checks stop: at one of those that it shares with the other calls, or at one behind them. And what bytes and
+-- lists are that the shared checks let through.
+use Rattle.std.specs.Prelude.{Result}
 use mathlib.Core.Bool.{Bool, true, false, not, cond}
-use mathlib.Core.Path.{◌≡◌, sym, ap, ◌∙◌}
-use mathlib.Core.List.{List, [], ◌∷◌, ◌++◌}
+use mathlib.Core.Path.{◌≡◌, refl, sym, ap, ◌∙◌}
+use mathlib.Core.List.{List, [], ◌∷◌, ◌++◌, append-nil}
 use Prim.Native.Nat.{ℕ, ◌≤◌}
 use native.Mathlib.Omega.{arith}
-use lib.Dec.{leb, leb-suc-zero}
+use lib.Dec.{leb}
 use lib.ListN.{length, drop}
 use borrow.Author.Tests.{leb-true, not-false}
 use Rattle.lineage.specs.Lists.{same_list, cleared}
 use Rattle.lineage.specs.Stored.{Form, form_of, header_at, counts_in, counts_fit, offsets_fit}
-use Rattle.lineage.specs.Calls.{Check, Outcome, refused, outcome, host, takes, contents_check, index_in}
+use Rattle.lineage.specs.Calls.{Check, check, Outcome, refused, answered, outcome, any_applies, host, takes, contents_check, index_in}
 use Rattle.laws.specs.Checks.{Stops, Pass, stopped, Comes}
 use Rattle.laws.proofs.Tests.{both, neither}
 use Rattle.laws.proofs.Lists.{same_list_lem}
-use Rattle.laws.proofs.Checks.{pass_both, refused_comes, stops_comes, rest_comes}
+use Rattle.laws.proofs.Checks.{stops_outcome, stops_early, pass_front, pass_behind, answered_pass, answered_is, refused_comes, rest_comes}
 use Rattle.laws_exceptions.specs.Exceptions.{encode_exceptions, says_by_exceptions}
 use Rattle.stored_header.specs.declared.Layout.{Layout}
 use Rattle.stored_header.specs.Header.{layout_in}
 use Rattle.stored_header.proofs.Laid.{n_is, cleared_in}
 use Rattle.stored_header.proofs.Admitted.{Admits, admitted, admitted_laid}
-use Rattle.exceptions.specs.Calls.{form_one_checks, build_late, exceptions_built, exceptions_output, belong_check, open_late, ListCounts, list_counts, exceptions_opened, ask_late, exceptions_asked, exception_marks}
-use Rattle.exceptions.specs.declared.Written.{Written}
+use Rattle.exceptions.specs.Calls.{form_one_checks, sound_checks, exceptions_built, exceptions_output, belong_check, listed_checks, list_counts, exceptions_opened, exceptions_asked, exception_marks}
+use Rattle.refusals.specs.declared.Refusal.{Refusal}
+use Rattle.numbers.proofs.Cleared.{cleared_again}
+use Rattle.sound_places.specs.Lent.{SoundBytes}
 use Rattle.exceptions.specs.Written.{written_of, room_checks, Fills}
+
+-- behind checks that were made by another call: it refused, or these stop at number i
+module _ {A B : Type 0} (z : B) (a : A) (cs ds : List Check) where
+  pub behind_refused : {x y : ℕ} → refused x y ≡ outcome cs z → refused x y ≡ outcome (cs ++ ds) a
+  behind_refused {x} {y} e = sym (rw append-nil at (refused_comes a z cs [] ds x y (sym e)).says)
+
+  pub behind_stops : Pass cs → (i : ℕ) → Stops ds i → stopped ds i a ≡ outcome (cs ++ ds) a
+  behind_stops p i s = sym (rest_comes a [] cs ds p (stops_outcome a ds i s)).says
 
 module _ (b marks : List ℕ) where
   abbrev first : List Check
   first = form_one_checks b (length marks)
 
-  module _ {A : Type 0} (late : List Check) (a : A) where
-    -- what may be answered, and what the marks may hold afterwards
-    abbrev Ends : Outcome A → List ℕ → Type 0
-    Ends o m = (o ≡ outcome (first ++ late) a) × (m ≡ exception_marks b marks)
+  -- the marks after 10 to 13, and behind them
+  pub marks_kept : {x y : ℕ} → refused x y ≡ outcome first (layout_in b) → marks ≡ exception_marks b marks
+  unfolding exception_marks
+  marks_kept {x} {y} e = rw (refused_comes (layout_in b) (layout_in b) first [] [] x y (sym e)).before
 
-    ends_by : {o : Outcome A} {kept stops : Bool} → Comes first late a o kept stops → Ends o (cond kept marks (cleared (counts_in b).n marks))
+  module _ {l : Layout} (A : Admits host b (length marks) 0 l) where
+    behind : exception_marks b marks ≡ cleared (counts_in b).n marks
     unfolding exception_marks
-    ends_by C = (sym C.says, rw C.before)
+    behind = let none : any_applies first ≡ false = stops_early first [] 5 (admitted A) in rw none refl
 
-    ends_refused : {x y : ℕ} → refused x y ≡ outcome first (layout_in b) → Ends (refused x y) marks
-    ends_refused e = ends_by (refused_comes a (layout_in b) first [] late _ _ (sym e))
+    pub marks_cleared : {m : List ℕ} → m ≡ cleared l.n marks → m ≡ exception_marks b marks
+    marks_cleared e = cleared_in (admitted_laid A) marks e ∙ sym behind
 
-    -- behind 13 they stop at number i, and the marks are cleared
-    ends_at : {l : Layout} → Admits host b (length marks) 0 l → (i : ℕ) → Stops late i → {m : List ℕ} → m ≡ cleared l.n marks → Ends (stopped late i a) m
-    ends_at A i s e =
-        let E = ends_by (stops_comes a first [] late i (admitted A) s) in
-        (E.0, cleared_in (admitted_laid A) marks e ∙ (rw (leb-suc-zero i) at E.1))
+    pub marks_clear : {m : List ℕ} → m ≡ exception_marks b marks → m ≡ cleared l.n m
+    marks_clear e = cleared_again _ _ (e ∙ behind ∙ sym (cleared_in (admitted_laid A) marks refl))
 
-  -- opening lists, and a question
+  -- 15, and behind it 20
+  pub sound_refused : {x y : ℕ} → refused x y ≡ outcome first (layout_in b) → refused x y ≡ outcome (sound_checks b (length marks)) (layout_in b)
+  sound_refused e = behind_refused (layout_in b) (layout_in b) first (contents_check b ∷ []) e
+
+  pub sound_at : {l : Layout} → Admits host b (length marks) 0 l → (i : ℕ) → Stops (contents_check b ∷ []) i
+      → stopped (contents_check b ∷ []) i (layout_in b) ≡ outcome (sound_checks b (length marks)) (layout_in b)
+  sound_at A i s = behind_stops (layout_in b) (layout_in b) first (contents_check b ∷ []) (admitted A) i s
+
   module _ (lists : List ℕ) where
-    abbrev pub Opens : Outcome ListCounts → List ℕ → Type 0
-    Opens o m = (o ≡ exceptions_opened b lists (length marks)) × (m ≡ exception_marks b marks)
+    pub lists_refused :
+        {x y : ℕ} → refused x y ≡ outcome (sound_checks b (length marks)) (layout_in b) → refused x y ≡ outcome (listed_checks b lists (length marks)) (layout_in b)
+    lists_refused e = behind_refused (layout_in b) (layout_in b) (sound_checks b (length marks)) (belong_check b lists ∷ []) e
 
-    pub opens_refused : {x y : ℕ} → refused x y ≡ outcome first (layout_in b) → Opens (refused x y) marks
+    pub lists_at : Pass (sound_checks b (length marks)) → (i : ℕ) → Stops (belong_check b lists ∷ []) i
+        → stopped (belong_check b lists ∷ []) i (layout_in b) ≡ outcome (listed_checks b lists (length marks)) (layout_in b)
+    lists_at p i s = behind_stops (layout_in b) (layout_in b) (sound_checks b (length marks)) (belong_check b lists ∷ []) p i s
+
+    -- what is opened
+    pub opens_refused : {x y : ℕ} → refused x y ≡ outcome (listed_checks b lists (length marks)) (layout_in b) → refused x y ≡ exceptions_opened b lists (length marks)
     unfolding exceptions_opened
-    opens_refused e = ends_refused (open_late b lists) (list_counts (index_in b)) e
+    opens_refused e = behind_refused (layout_in b) (list_counts (index_in b)) (listed_checks b lists (length marks)) [] e
 
-    pub opens_at : {l : Layout} → Admits host b (length marks) 0 l → (i : ℕ) → Stops (open_late b lists) i → {m : List ℕ} → m ≡ cleared l.n marks
-        → Opens (stopped (open_late b lists) i (list_counts (index_in b))) m
+    pub opens_done : Pass (listed_checks b lists (length marks)) → answered (list_counts (index_in b)) ≡ exceptions_opened b lists (length marks)
     unfolding exceptions_opened
-    opens_at A i s e = ends_at (open_late b lists) (list_counts (index_in b)) A i s e
+    opens_done p = sym (stops_outcome (list_counts (index_in b)) (listed_checks b lists (length marks)) 7 p)
 
-    module _ (u v : ℕ) where
-      abbrev pub Asks : Outcome Bool → List ℕ → Type 0
-      Asks o m = (o ≡ exceptions_asked b lists u v (length marks)) × (m ≡ exception_marks b marks)
+  -- a question by lists that belong
+  module _ (lists : List ℕ) (u v : ℕ) where
+    abbrev vertices : List Check
+    vertices = check (leb (counts_in b).n u) 14 0 ∷ check (leb (counts_in b).n v) 14 1 ∷ []
 
-      pub asks_refused : {x y : ℕ} → refused x y ≡ outcome first (layout_in b) → Asks (refused x y) marks
-      unfolding exceptions_asked
-      asks_refused e = ends_refused (ask_late b lists u v) (says_by_exceptions (index_in b) u v) e
+    abbrev pub Asks : Outcome Bool → Type 0
+    Asks o = o ≡ exceptions_asked b lists u v (length marks)
 
-      pub asks_at : {l : Layout} → Admits host b (length marks) 0 l → (i : ℕ) → Stops (ask_late b lists u v) i → {m : List ℕ} → m ≡ cleared l.n marks
-          → Asks (stopped (ask_late b lists u v) i (says_by_exceptions (index_in b) u v)) m
-      unfolding exceptions_asked
-      asks_at A i s e = ends_at (ask_late b lists u v) (says_by_exceptions (index_in b) u v) A i s e
+    pub asks_refused : {x y : ℕ} → refused x y ≡ outcome (listed_checks b lists (length marks)) (layout_in b) → Asks (refused x y)
+    unfolding exceptions_asked
+    asks_refused e = behind_refused (layout_in b) (says_by_exceptions (index_in b) u v) (listed_checks b lists (length marks)) vertices e
+
+    pub asks_at : Pass (listed_checks b lists (length marks)) → (i : ℕ) → Stops vertices i → Asks (stopped vertices i (says_by_exceptions (index_in b) u v))
+    unfolding exceptions_asked
+    asks_at p i s = behind_stops (layout_in b) (says_by_exceptions (index_in b) u v) (listed_checks b lists (length marks)) vertices p i s
 
   -- building: the output too
   module _ (out : List ℕ) where
     abbrev lists : List ℕ
     lists = encode_exceptions (index_in b)
 
-    abbrev late : List Check
-    late = build_late b (length out)
+    abbrev shared : List Check
+    shared = sound_checks b (length marks)
 
-    abbrev pub Builds : Outcome ℕ → (m f : List ℕ) → Type 0
-    Builds o m f =
-        (o ≡ exceptions_built b (length marks) (length out)) × ((m ≡ exception_marks b marks) × (f ≡ exceptions_output b (length marks) out))
+    abbrev pub Builds : Outcome ℕ → List ℕ → Type 0
+    Builds o f = (o ≡ exceptions_built b (length marks) (length out)) × (f ≡ exceptions_output b (length marks) out)
 
-    builds_by : {o : Outcome ℕ} {kept stops : Bool} → Comes first late (length lists) o kept stops
-        → Builds o (cond kept marks (cleared (counts_in b).n marks)) (cond stops out (lists ++ drop (length lists) out))
-    unfolding exceptions_built exception_marks exceptions_output
-    builds_by C = (sym C.says, (rw C.before, rw C.all))
+    builds_by : {o : Outcome ℕ} {kept stops : Bool} → Comes shared (room_checks lists (length out)) (length lists) o kept stops
+        → Builds o (cond stops out (lists ++ drop (length lists) out))
+    unfolding exceptions_built exceptions_output
+    builds_by C = (sym C.says, rw C.all)
 
-    pub builds_refused : {x y : ℕ} → refused x y ≡ outcome first (layout_in b) → Builds (refused x y) marks out
-    builds_refused e = builds_by (refused_comes (length lists) (layout_in b) first [] late _ _ (sym e))
+    pub builds_refused : {x y : ℕ} → refused x y ≡ outcome shared (layout_in b) → Builds (refused x y) out
+    builds_refused e = builds_by (refused_comes (length lists) (layout_in b) shared [] (room_checks lists (length out)) _ _ (sym e))
 
-    module _ {l : Layout} (A : Admits host b (length marks) 0 l) {m : List ℕ} (left : m ≡ cleared l.n marks) where
-      pub builds_unsound : (contents_check b).applies ≡ true → Builds (refused 15 0) m out
-      builds_unsound t =
-          let (o, (w, f)) = builds_by (stops_comes (length lists) first [] late 0 (admitted A) t) in
-          (o, (cleared_in (admitted_laid A) marks left ∙ w, f))
-
-      pub builds_filled : (contents_check b).applies ≡ false → {r : Written} {f : List ℕ} → Fills lists out r f → Builds (written_of r) m f
-      builds_filled p W =
-          let (o, (w, f)) =
-          builds_by (rest_comes (length lists) first (contents_check b ∷ []) (room_checks lists (length out)) (pass_both first (contents_check b ∷ []) (admitted A) (p, tt)) (sym W.answers)) in
-          (o, (cleared_in (admitted_laid A) marks left ∙ w, W.writes ∙ f))
+    pub builds_filled : Pass shared → {r : Result ℕ Refusal} {f : List ℕ} → Fills lists out r f → Builds (written_of r) f
+    builds_filled p W =
+        let (o, f) = builds_by (rest_comes (length lists) shared [] (room_checks lists (length out)) p (sym W.answers)) in (o, W.writes ∙ f)
 
 -- whether lists belong, as it was told
 module _ (b lists : List ℕ) {r : Bool} (told : r ≡ same_list lists (encode_exceptions (index_in b))) where
@@ -134,3 +149,47 @@ module _ (b : List ℕ) (marks : ℕ) (passes : Pass (form_one_checks b marks)) 
 
 pub vertices_few : {b : List ℕ} {marks : ℕ} {l : Layout} → Admits host b marks 0 l → l.n ≤ 4096
 vertices_few {b} {marks} A = omega (arith, n_is (admitted_laid A), counts_few b marks (admitted A))
+
+-- `admit_sound` let bytes through, with this layout
+pub record AdmitsSound (b : List ℕ) (marks : ℕ) (l : Layout) : Type 0 where
+  pub passes : answered l ≡ outcome (sound_checks b marks) (layout_in b)
+
+module _ {b : List ℕ} {marks : ℕ} {l : Layout} (A : AdmitsSound b marks l) where
+  pub sound_passed : Pass (sound_checks b marks)
+  sound_passed = answered_pass (layout_in b) (sound_checks b marks) l (sym A.passes)
+
+  pub sound_admits : Admits host b marks 0 l
+  sound_admits = record {
+    passes =
+        ap answered (answered_is (layout_in b) (sound_checks b marks) l (sym A.passes))
+        ∙ sym (stops_outcome (layout_in b) (form_one_checks b marks) 5 (pass_front (form_one_checks b marks) (contents_check b ∷ []) sound_passed));
+  }
+
+  pub sound_given : SoundBytes b l
+  sound_given = record {
+    laid = admitted_laid sound_admits;
+    contents = not-false _ (pass_behind (form_one_checks b marks) (contents_check b ∷ []) sound_passed).0;
+  }
+
+  pub groups_few : l.k ≤ 4096
+  groups_few = omega (arith, vertices_few sound_admits, sound_given.laid.groups)
+
+-- and `admit_lists` lists beside them
+pub record AdmitsLists (b lists : List ℕ) (marks : ℕ) (l : Layout) : Type 0 where
+  pub passes : answered l ≡ outcome (listed_checks b lists marks) (layout_in b)
+
+module _ {b lists : List ℕ} {marks : ℕ} {l : Layout} (A : AdmitsLists b lists marks l) where
+  pub listed_passed : Pass (listed_checks b lists marks)
+  listed_passed = answered_pass (layout_in b) (listed_checks b lists marks) l (sym A.passes)
+
+  pub listed_sound : AdmitsSound b marks l
+  listed_sound = record {
+    passes =
+        ap answered (answered_is (layout_in b) (listed_checks b lists marks) l (sym A.passes))
+        ∙ sym (stops_outcome (layout_in b) (sound_checks b marks) 6 (pass_front (sound_checks b marks) (belong_check b lists ∷ []) listed_passed));
+  }
+
+  pub listed_belong : lists ≡ encode_exceptions (index_in b)
+  listed_belong =
+      let own : List ℕ = encode_exceptions (index_in b) in
+      same_list_lem lists own (not-false (same_list lists own) (pass_behind (sound_checks b marks) (belong_check b lists ∷ []) listed_passed).0)

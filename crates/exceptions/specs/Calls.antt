@@ -12,6 +12,10 @@ use Rattle.laws_exceptions.specs.Exceptions.{exception_rows, encode_exceptions, 
 abbrev pub form_one_checks : List ℕ → ℕ → List Check
 form_one_checks b marks = form_checks host b marks 0
 
+-- and behind them 15: what every call here checks first
+abbrev pub sound_checks : List ℕ → ℕ → List Check
+sound_checks b marks = form_one_checks b marks ++ (contents_check b ∷ [])
+
 -- building: those of opening the index, then 9
 abbrev pub build_late : List ℕ → ℕ → List Check
 build_late b out =
@@ -36,6 +40,10 @@ belong_check b lists = check (not (same_list lists (encode_exceptions (index_in 
 
 abbrev pub open_late : List ℕ → List ℕ → List Check
 open_late b lists = contents_check b ∷ belong_check b lists ∷ []
+
+-- all checks of opening
+abbrev pub listed_checks : List ℕ → List ℕ → ℕ → List Check
+listed_checks b lists marks = form_one_checks b marks ++ open_late b lists
 
 -- opened lists: of how many groups, and how many entries
 pub record ListCounts : Type 0 where

@@ -3,10 +3,11 @@
 
 ghost use Rattle.std.specs.Prelude.{◌≡◌, ◌≤◌, length};
 ghost use Rattle.lineage.specs.Lists.{cleared};
-ghost use Rattle.lineage.specs.Calls.{index_in};
+ghost use Rattle.lineage.specs.Calls.{outcome, index_in};
 ghost use Rattle.laws_exceptions.specs.Exceptions.{encode_exceptions};
+ghost use Rattle.stored_header.specs.Header.{header_outcome, layout_in};
 ghost use Rattle.sound_places.specs.Lent.{SoundBytes};
-ghost use Rattle.exceptions.specs.Calls.{exceptions_built, exceptions_output, exceptions_opened, exceptions_asked, exception_marks};
+ghost use Rattle.exceptions.specs.Calls.{sound_checks, listed_checks, exceptions_built, exceptions_output, exceptions_opened, exceptions_asked, exception_marks};
 ghost use Rattle.exceptions.specs.Written.{written_of, Fills};
 ghost use Rattle.exceptions.specs.Opened.{opened_of};
 ghost use Rattle.exceptions.specs.Said.{said_of};
@@ -14,32 +15,43 @@ ghost use Rattle.exceptions.specs.Said.{said_of};
 use exceptions_lists::{count_exceptions, exceptions_match, write_exceptions};
 use numbers::num;
 use open::contents_sound;
-use refusals::{BAD_VERTEX, NOT_SOUND, OTHER_LISTS, OUTPUT_SHORT};
-use stored_header::{Header, Layout};
+use refusals::Refusal;
+use stored_header::Layout;
 
-// The length of the lists that were written, or a refusal with its number and its extra number.
-#[derive(Clone, Copy)]
-pub enum Written {
-    Length(u32),
-    Refused { number: u32, extra: u32 },
+// Lists that belong to the index: of how many groups, and how many entries they have.
+#[derive(Clone, Copy, Debug, PartialEq, Eq)]
+pub struct Opened {
+    pub groups: u32,
+    pub entries: u32,
 }
 
-// Lists that belong to the index: of how many groups, and how many entries they have; or a refusal.
-#[derive(Clone, Copy)]
-pub enum Opened {
-    Lists { groups: u32, entries: u32 },
-    Refused { number: u32, extra: u32 },
+// What every call here checks first of a stored index of form 1: refusals 10 to 13 and 15 in order, or its layout. Marks below n are 0 after 15 and success; 10 to 13 leave
+// them as they were.
+pub fn admit_sound(index: &[u8], marks: &mut [u8]) -> Result<Layout, Refusal>
+    ensures result_value { header_outcome result ≡ outcome (sound_checks index.now (length marks.old)) (layout_in index.now) }
+    ensures marks_after { marks.new ≡ exception_marks index.now marks.old }
+{
+    let l = stored_header::admit(1, 1, index, marks.len(), 0)?;
+    if !contents_sound(index, l, marks) {
+        return Err(Refusal::NotSound);
+    }
+    Ok(l)
 }
 
-// Yes or no, or a refusal.
-#[derive(Clone, Copy)]
-pub enum Said {
-    Answer(bool),
-    Refused { number: u32, extra: u32 },
+// And of exception lists beside it, which must be exactly the exceptions of the index: 20 behind them.
+fn admit_lists(index: &[u8], lists: &[u8], marks: &mut [u8]) -> Result<Layout, Refusal>
+    ensures result_value { header_outcome result ≡ outcome (listed_checks index.now lists.now (length marks.old)) (layout_in index.now) }
+    ensures marks_after { marks.new ≡ exception_marks index.now marks.old }
+{
+    let l = admit_sound(index, marks)?;
+    if !exceptions_match(index, l, marks, lists) {
+        return Err(Refusal::OtherLists);
+    }
+    Ok(l)
 }
 
 // The lists of bytes whose contents are sound, on marks that are 0 below n, and are so afterwards: refusal 9, or the lists in front of the output.
-fn build_sound(index: &[u8], l: Layout, marks: &mut [u8], out: &mut [u8]) -> Written
+fn build_sound(index: &[u8], l: Layout, marks: &mut [u8], out: &mut [u8]) -> Result<u32, Refusal>
     requires sound_bytes { SoundBytes index.now l }
     requires n_in_bounds { (l.n ≤ length marks.old) × (marks.old ≡ cleared l.n marks.old) }
     requires n_bound { l.n ≤ 4096 }
@@ -50,61 +62,34 @@ fn build_sound(index: &[u8], l: Layout, marks: &mut [u8], out: &mut [u8]) -> Wri
     let needed = 4 * (l.k + 3 + entries);
     let total = needed as u32;
     if out.len() < needed {
-        return Written::Refused {
-            number: OUTPUT_SHORT,
-            extra: total,
-        };
+        return Err(Refusal::OutputShort(total));
     }
     write_exceptions(index, l, marks, out, entries);
-    Written::Length(total)
+    Ok(total)
 }
 
 // Builds the exception lists of a stored index of form 1: refusals 10 to 13, 15 and 9 in order, or their length. The output past them is untouched, and all of it by
 // every refusal. Marks below n are 0 after 15, 9 and success; 10 to 13 leave them as they were.
-pub fn build_exceptions(index: &[u8], marks: &mut [u8], out: &mut [u8]) -> Written
+pub fn build_exceptions(index: &[u8], marks: &mut [u8], out: &mut [u8]) -> Result<u32, Refusal>
     ensures result_value { written_of result ≡ exceptions_built index.now (length marks.old) (length out.old) }
     ensures marks_after { marks.new ≡ exception_marks index.now marks.old }
     ensures out_after { out.new ≡ exceptions_output index.now (length marks.old) out.old }
 {
-    let l = match stored_header::admit(1, 1, index, marks.len(), 0) {
-        Header::Refused { number, extra } => return Written::Refused { number, extra },
-        Header::Passed(l) => l,
-    };
-    if !contents_sound(index, l, marks) {
-        return Written::Refused {
-            number: NOT_SOUND,
-            extra: 0,
-        };
-    }
+    let l = admit_sound(index, marks)?;
     build_sound(index, l, marks, out)
 }
 
 // Opens exception lists beside a stored index of form 1: refusals 10 to 13, 15 and 20 in order, or the number of groups and of entries. They open only if they are
 // exactly the exceptions of the index. Marks below n are 0 after 15, 20 and success; 10 to 13 leave them as they were.
-pub fn open_exceptions(index: &[u8], lists: &[u8], marks: &mut [u8]) -> Opened
+pub fn open_exceptions(index: &[u8], lists: &[u8], marks: &mut [u8]) -> Result<Opened, Refusal>
     ensures result_value { opened_of result ≡ exceptions_opened index.now lists.now (length marks.old) }
     ensures marks_after { marks.new ≡ exception_marks index.now marks.old }
 {
-    let l = match stored_header::admit(1, 1, index, marks.len(), 0) {
-        Header::Refused { number, extra } => return Opened::Refused { number, extra },
-        Header::Passed(l) => l,
-    };
-    if !contents_sound(index, l, marks) {
-        return Opened::Refused {
-            number: NOT_SOUND,
-            extra: 0,
-        };
-    }
-    if !exceptions_match(index, l, marks, lists) {
-        return Opened::Refused {
-            number: OTHER_LISTS,
-            extra: 0,
-        };
-    }
-    Opened::Lists {
+    let l = admit_lists(index, lists, marks)?;
+    Ok(Opened {
         groups: l.k as u32,
         entries: num(lists, 4, 1) as u32,
-    }
+    })
 }
 
 // Whether the source reaches the target, by exception lists beside a stored index of form 1: refusals 10 to 13, 15, 20 and 14 in order, or yes or no. No group is
@@ -115,39 +100,18 @@ pub fn ask_exceptions(
     source: u32,
     target: u32,
     marks: &mut [u8],
-) -> Said
+) -> Result<bool, Refusal>
     ensures result_value { said_of result ≡ exceptions_asked index.now lists.now source target (length marks.old) }
     ensures marks_after { marks.new ≡ exception_marks index.now marks.old }
 {
-    let l = match stored_header::admit(1, 1, index, marks.len(), 0) {
-        Header::Refused { number, extra } => return Said::Refused { number, extra },
-        Header::Passed(l) => l,
-    };
-    if !contents_sound(index, l, marks) {
-        return Said::Refused {
-            number: NOT_SOUND,
-            extra: 0,
-        };
-    }
-    if !exceptions_match(index, l, marks, lists) {
-        return Said::Refused {
-            number: OTHER_LISTS,
-            extra: 0,
-        };
-    }
+    let l = admit_lists(index, lists, marks)?;
     let u = source as usize;
     let v = target as usize;
     if l.n <= u {
-        return Said::Refused {
-            number: BAD_VERTEX,
-            extra: 0,
-        };
+        return Err(Refusal::BadVertex(0));
     }
     if l.n <= v {
-        return Said::Refused {
-            number: BAD_VERTEX,
-            extra: 1,
-        };
+        return Err(Refusal::BadVertex(1));
     }
-    Said::Answer(exceptions_ask::says(index, l, lists, u, v))
+    Ok(exceptions_ask::says(index, l, lists, u, v))
 }

@@ -1,32 +1,30 @@
--- What `ask_all_exceptions` answers and leaves, by where its checks stop: at one of 10 to 13, at 15, 20, 2 or 16, or behind them. A pair inside a call that is not refused
+-- What `ask_all_exceptions` answers and leaves, by where its checks stop: at one of those up to 15, at 20, 2 or 16, or behind them. A pair inside a call that is not refused
 -- gets what a single question gets: 10 to 13, 15 and 20 do not apply to it, and 14 is left.
-use mathlib.Core.Bool.{Bool, true, false, cond}
-use mathlib.Core.Path.{◌≡◌, refl, sym, ap, ◌∙◌}
+use mathlib.Core.Bool.{Bool, true, false, not, cond}
+use mathlib.Core.Path.{◌≡◌, refl, sym, ap, subst, ◌∙◌}
 use mathlib.Core.List.{List, [], ◌∷◌, ◌++◌, map}
 use Prim.Native.Nat.{ℕ, ◌*◌, ◌/◌, ◌≤◌, ◌<◌}
 use native.Mathlib.Omega.{arith}
 use native.Mathlib.Nat.{div-lt_iff_lt-mul, mul-div-le}
-use lib.Dec.{leb}
+use lib.Dec.{eqb, leb, ltb}
 use lib.ListN.{length, get_or, drop}
 use borrow.Author.Tests.{lt-ltb}
-use Rattle.lineage.specs.Lists.{upto, joined, cleared}
+use Rattle.lineage.specs.Lists.{upto, joined}
 use Rattle.lineage.specs.Stored.{counts_in}
-use Rattle.lineage.specs.Calls.{Check, check, Outcome, refused, answered, outcome, any_applies, host, contents_check, index_in}
-use Rattle.laws.specs.Checks.{Stops, Pass, stopped, Comes}
-use Rattle.laws.proofs.Tests.{or_false_left, or_false_right}
+use Rattle.lineage.specs.Calls.{Check, check, Outcome, refused, answered, outcome, contents_check, index_in}
+use Rattle.laws.specs.Checks.{Stops, Pass, stopped, Told, Comes}
 use Rattle.laws.proofs.Lists.{table_same}
-use Rattle.laws.proofs.Checks.{stops_outcome, stops_early, refused_comes, rest_comes}
+use Rattle.laws.proofs.Checks.{outcome_told, pass_front, pass_behind, refused_comes, stops_comes}
 use Rattle.laws_exceptions.specs.Exceptions.{says_by_exceptions}
 use Rattle.numbers.specs.Put.{put}
 use Rattle.numbers.proofs.Put.{put_start}
 use Rattle.stored_header.specs.declared.Layout.{Layout}
-use Rattle.stored_header.specs.Header.{layout_in, Laid}
-use Rattle.stored_header.proofs.Laid.{n_is, cleared_in}
-use Rattle.stored_header.proofs.Admitted.{Admits, admitted, admitted_laid}
-use Rattle.exceptions.specs.Calls.{form_one_checks, belong_check, exceptions_asked, exception_marks}
+use Rattle.stored_header.specs.Header.{layout_in}
+use Rattle.stored_header.proofs.Laid.{n_is}
+use Rattle.exceptions.specs.Calls.{form_one_checks, sound_checks, belong_check, exceptions_asked}
+use Rattle.exceptions.proofs.Refusals.{AdmitsSound, sound_passed, sound_given}
 use Rattle.exceptions_all.specs.Pairs.{pair_three, threes}
-use Rattle.exceptions_all.specs.Batch.{three_of, asked_at, all_late, all_exceptions, exceptions_answers}
-use Rattle.exceptions_all.specs.Batched.{answers_laid}
+use Rattle.exceptions_all.specs.Batch.{three_of, asked_at, all_exceptions, exceptions_answers}
 use Rattle.exceptions_all.proofs.Pairs.{threes_long}
 
 -- room for three numbers a pair
@@ -65,57 +63,57 @@ module _ (b lists : List ℕ) (marks : ℕ) (passes : Pass (form_one_checks b ma
       put_start answers _
       ∙ rw (threes_long (counts_in b).n (says_by_exceptions (index_in b)) sources targets (length sources)) (ap (λ (z : List ℕ). z ++ drop (3 * length sources) answers) same)
 
-module _ (b lists sources targets answers : List ℕ) where
+-- none of the checks up to 15 is 16
+abbrev Other : ℕ → ℕ → Type 0
+Other number extra = number ≡ 16 → ⊥
+
+abbrev Any : Layout → Type 0
+Any l = Unit {0}
+
+pub sound_own : (b : List ℕ) (m : ℕ) {x y : ℕ} → refused x y ≡ outcome (sound_checks b m) (layout_in b) → x ≡ 16 → ⊥
+sound_own b m e =
+    subst (Told Other Any) (sym e)
+    (outcome_told (layout_in b) Other Any (sound_checks b m)
+    ((λ z. omega (arith, z)), ((λ z. omega (arith, z)), ((λ z. omega (arith, z)), ((λ z. omega (arith, z)), ((λ z. omega (arith, z)), ((λ z. omega (arith, z)), tt))))))
+    tt)
+
+module _ (b lists sources targets answers marks : List ℕ) where
+  abbrev shared : List Check
+  shared = sound_checks b (length marks)
+
   abbrev late : List Check
-  late = all_late b lists sources targets (length answers)
+  late = belong_check b lists ∷ check (not (eqb (length sources) (length targets))) 2 0 ∷ check (ltb (length answers) (3 * length sources)) 16 (length sources) ∷ []
 
-  -- behind 13: what may be answered, and what the answers may hold afterwards
-  abbrev pub Replies : Outcome ℕ → List ℕ → Type 0
-  Replies o a = (o ≡ outcome late (length sources)) × (a ≡ answers_laid b lists sources targets answers)
+  -- what may be answered, and what the answers may hold afterwards
+  abbrev pub Asks : Outcome ℕ → List ℕ → Type 0
+  Asks o a =
+      (o ≡ all_exceptions b lists sources targets (length marks) (length answers)) × (a ≡ exceptions_answers b lists sources targets (length marks) answers)
 
-  -- they stop at number i: 15, 20, 2, 16
-  pub replies_at : (i : ℕ) → i < 4 → Stops late i → Replies (stopped late i (length sources)) answers
-  replies_at i h s =
-      let stops : any_applies late ≡ true = stops_early late [] i s ∙ lt-ltb i 4 h in
-      (sym (stops_outcome (length sources) late i s), rw stops refl)
+  abbrev written : Bool → List ℕ
+  written stops =
+      cond stops answers (joined (map (λ i. three_of (asked_at b lists sources targets (length marks) i)) (upto (length sources))) ++ drop (3 * length sources) answers)
 
-  -- none applies, and the pairs are answered
-  pub replies_answered : {l : Layout} → Laid b l → Stops late 4 → {a : List ℕ} → a ≡ put answers 0 (threes l.n (says_by_exceptions (index_in b)) sources targets (length sources))
-      → Replies (answered (length sources)) a
-  replies_answered L s e =
-      let passes : any_applies late ≡ false = stops_early late [] 4 s in
-      (sym (stops_outcome (length sources) late 4 s), e ∙ rw (passes, n_is L) refl)
+  all_by : {o : Outcome ℕ} {kept stops : Bool} → Comes shared late (length sources) o kept stops → Asks o (written stops)
+  unfolding all_exceptions exceptions_answers
+  all_by C = (sym C.says, rw C.all refl)
 
-  module _ (marks : List ℕ) where
-    abbrev first : List Check
-    first = form_one_checks b (length marks)
+  -- the checks up to 15 stop it
+  pub all_refused : {x y : ℕ} → refused x y ≡ outcome shared (layout_in b) → Asks (refused x y) answers
+  all_refused e = all_by (refused_comes (length sources) (layout_in b) shared [] late _ _ (sym e))
 
-    -- what may be answered, and what marks and answers may hold afterwards
-    abbrev pub Asks : Outcome ℕ → (m a : List ℕ) → Type 0
-    Asks o m a =
-        (o ≡ all_exceptions b lists sources targets (length marks) (length answers))
-        × ((m ≡ exception_marks b marks) × (a ≡ exceptions_answers b lists sources targets (length marks) answers))
+  module _ {l : Layout} (A : AdmitsSound b (length marks) l) where
+    all_behind : (i : ℕ) → Stops late i → Asks (stopped late i (length sources)) (written (ltb i 3))
+    all_behind i s = all_by (stops_comes (length sources) shared [] late i (sound_passed A) s)
 
-    abbrev written : Bool → List ℕ
-    written stops =
-        cond stops answers (joined (map (λ i. three_of (asked_at b lists sources targets (length marks) i)) (upto (length sources))) ++ drop (3 * length sources) answers)
+    -- 20, 2 or 16
+    pub all_stopped : (i : ℕ) → i < 3 → Stops late i → Asks (stopped late i (length sources)) answers
+    all_stopped i h s = rw (lt-ltb i 3 h) at (all_behind i s)
 
-    all_by : {o : Outcome ℕ} {kept stops : Bool} → Comes first late (length sources) o kept stops → Asks o (cond kept marks (cleared (counts_in b).n marks)) (written stops)
-    unfolding all_exceptions exception_marks exceptions_answers
-    all_by C = (sym C.says, (rw C.before refl, rw C.all refl))
-
-    pub all_refused : {x y : ℕ} → refused x y ≡ outcome first (layout_in b) → Asks (refused x y) marks answers
-    all_refused e = all_by (refused_comes (length sources) (layout_in b) first [] late _ _ (sym e))
-
-    module _ {l : Layout} (A : Admits host b (length marks) 0 l) where
-      three_written : (stops : Bool) → any_applies late ≡ stops
-          → cond stops answers (put answers 0 (threes (counts_in b).n (says_by_exceptions (index_in b)) sources targets (length sources))) ≡ written stops
-      three_written true e = refl
-      three_written false e =
-          let rest = or_false_right (contents_check b).applies _ e in
-          answers_are b lists (length marks) (admitted A) (or_false_left (contents_check b).applies _ e) (or_false_left (belong_check b lists).applies _ rest) sources targets answers
-
-      pub all_rest : {o : Outcome ℕ} {m a : List ℕ} → Replies o a → m ≡ cleared l.n marks → Asks o m a
-      all_rest (says, writes) left =
-          let (o, (m, a)) = all_by (rest_comes (length sources) first [] late (admitted A) (sym says)) in
-          (o, (cleared_in (admitted_laid A) marks left ∙ m, writes ∙ three_written (any_applies late) refl ∙ a))
+    -- none, and the pairs are answered
+    pub all_answered :
+        Stops late 3 → {a : List ℕ} → a ≡ put answers 0 (threes l.n (says_by_exceptions (index_in b)) sources targets (length sources)) → Asks (answered (length sources)) a
+    all_answered s e =
+        let (o, a) = all_behind 3 s in
+        let first = pass_front (form_one_checks b (length marks)) (contents_check b ∷ []) (sound_passed A) in
+        let sound = (pass_behind (form_one_checks b (length marks)) (contents_check b ∷ []) (sound_passed A)).0 in
+        (o, e ∙ rw (n_is (sound_given A).laid) (answers_are b lists (length marks) first sound s.0 sources targets answers) ∙ a)

@@ -1,5 +1,6 @@
 -- What the answers of a call for all pairs by exception lists say, wherever none of its refusals applies: read back, pair i has the answer of a single question by the
 -- lists, so yes exactly where a path leads; and two results that the contract allows are equal.
+use Rattle.std.specs.Prelude.{Result}
 use mathlib.Core.Bool.{Bool, true, false, cond}
 use mathlib.Core.Logic.{◌↔◌}
 use mathlib.Core.Path.{◌≡◌, refl, sym, ap, ◌∙◌}
@@ -24,26 +25,21 @@ use Rattle.laws_exceptions.specs.Exceptions.{says_by_exceptions}
 use Rattle.exceptions.specs.Calls.{form_one_checks, ask_late, exceptions_asked, exception_marks}
 use Rattle.exceptions.proofs.Asking.{exceptions_right}
 use Rattle.exceptions_all.specs.Batch.{three_of, pair_in, asked_at, all_late, all_exceptions, exceptions_answers}
-use Rattle.exceptions_all.specs.declared.Batched.{Batched}
-use Rattle.exceptions_all.specs.declared.Batched.TheVariants.{Count, Refused}
-use Rattle.exceptions_all.specs.Batched.{batched_of}
+use Rattle.ask_all.specs.declared.BatchRefusal.{BatchRefusal}
+use Rattle.ask_all.specs.Batched.{batched_of, Own}
+use Rattle.ask_all.proofs.Own.{batched_one}
 
 -- what a call is allowed to return, and to leave
-pub record Allowed (b lists sources targets marks list : List ℕ) (r : Batched) (m a : List ℕ) : Type 0 where
+pub record Allowed (b lists sources targets marks list : List ℕ) (r : Result ℕ BatchRefusal) (m a : List ℕ) : Type 0 where
+  pub own : Own r
   pub answers : batched_of r ≡ all_exceptions b lists sources targets (length marks) (length list)
   pub leaves : m ≡ exception_marks b marks
   pub writes : a ≡ exceptions_answers b lists sources targets (length marks) list
 
-batched_one : (r r' : Batched) → batched_of r ≡ batched_of r' → r ≡ r'
-batched_one (Count c) (Count c') e = cc
-batched_one (Count c) (Refused number extra) e = let z : ◌≡◌ {A = ℕ} 0 1 = cc in absurd (omega arith)
-batched_one (Refused number extra) (Count c) e = let z : ◌≡◌ {A = ℕ} 0 1 = cc in absurd (omega arith)
-batched_one (Refused number extra) (Refused number' extra') e = cc
-
 pub all_once :
-    {b lists sources targets marks answers : List ℕ} {r r' : Batched} {m m' a a' : List ℕ}
+    {b lists sources targets marks answers : List ℕ} {r r' : Result ℕ BatchRefusal} {m m' a a' : List ℕ}
     → Allowed b lists sources targets marks answers r m a → Allowed b lists sources targets marks answers r' m' a' → (r ≡ r') × ((m ≡ m') × (a ≡ a'))
-all_once {r = r} {r'} A B = (batched_one r r' (A.answers ∙ sym B.answers), (A.leaves ∙ sym B.leaves, A.writes ∙ sym B.writes))
+all_once {r = r} {r'} A B = (batched_one r r' A.own B.own (A.answers ∙ sym B.answers), (A.leaves ∙ sym B.leaves, A.writes ∙ sym B.writes))
 
 -- The three numbers of a pair determine its outcome, since no refusal has the number 0.
 abbrev Some : ℕ → ℕ → Type 0

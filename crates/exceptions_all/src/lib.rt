@@ -2,34 +2,27 @@
 #![tactic(auto)]
 
 ghost use Rattle.std.specs.Prelude.{◌≡◌, [], ◌∷◌, ◌+◌, ◌*◌, ◌≤◌, length};
-ghost use Rattle.lineage.specs.Lists.{cleared};
-ghost use Rattle.lineage.specs.Calls.{outcome, index_in};
+ghost use Rattle.lineage.specs.Calls.{index_in};
 ghost use Rattle.laws_exceptions.specs.Exceptions.{encode_exceptions, says_by_exceptions};
+ghost use Rattle.refusals.specs.Refusals.{number_of, extra_of};
 ghost use Rattle.numbers.specs.Put.{put};
-ghost use Rattle.stored_header.specs.Header.{Laid};
 ghost use Rattle.sound_places.specs.Lent.{SoundBytes};
 ghost use Rattle.exceptions.specs.Calls.{exception_marks};
 ghost use Rattle.exceptions_all.specs.Pairs.{pair_three, threes, by_place, Ready};
-ghost use Rattle.exceptions_all.specs.Batch.{all_late, all_exceptions, exceptions_answers};
-ghost use Rattle.exceptions_all.specs.Batched.{batched_of, answers_laid};
+ghost use Rattle.exceptions_all.specs.Batch.{all_exceptions, exceptions_answers};
+ghost use Rattle.ask_all.specs.Batched.{batched_of, Own};
 
+use ask_all::BatchRefusal;
 use ask_pairs::places::lay_out;
+use exceptions::admit_sound;
 use exceptions_ask::reaches;
 use exceptions_lists::exceptions_match;
-use open::contents_sound;
-use refusals::{BAD_VERTEX, LIST_SHORT, LISTS_DIFFER, NOT_SOUND, OTHER_LISTS};
+use refusals::Refusal;
 use stored::parts;
-use stored_header::{Header, Layout};
+use stored_header::Layout;
 
 // The vertices that form 1 has at most, each with a word for the place of its group.
 const MOST_VERTICES: usize = 4096;
-
-// The number of pairs, or a refusal with its number and its extra number.
-#[derive(Clone, Copy)]
-pub enum Batched {
-    Count(usize),
-    Refused { number: u32, extra: usize },
-}
 
 // Writes three numbers from position at on.
 fn put_three(answers: &mut [u32], at: usize, refusal: u32, extra: u32, yes: u32)
@@ -39,6 +32,14 @@ fn put_three(answers: &mut [u32], at: usize, refusal: u32, extra: u32, yes: u32)
     answers[at] = refusal;
     answers[at + 1] = extra;
     answers[at + 2] = yes;
+}
+
+// Writes those of a refusal.
+fn put_refused(answers: &mut [u32], at: usize, r: Refusal)
+    requires { at + 3 ≤ length answers.old }
+    ensures { answers.new ≡ put answers.old at (number_of r ∷ extra_of r ∷ 0 ∷ []) }
+{
+    put_three(answers, at, r.number(), r.extra(), 0)
 }
 
 // Answers one pair, with the place of every vertex's group in a table: 14, source first, or yes or no.
@@ -61,11 +62,11 @@ fn put_pair(
     ensures { answers.new ≡ put answers.old at (pair_three n (by_place w z k d labels.now lists.now places.now) u v) }
 {
     if n <= u {
-        put_three(answers, at, BAD_VERTEX, 0, 0);
+        put_refused(answers, at, Refusal::BadVertex(0));
         return;
     }
     if n <= v {
-        put_three(answers, at, BAD_VERTEX, 1, 0);
+        put_refused(answers, at, Refusal::BadVertex(1));
         return;
     }
     let x = places[u] as usize;
@@ -92,12 +93,10 @@ fn ask_each(
     requires sources_len { (length sources.now ≡ length targets.now) × (3 * length sources.now ≤ length answers.old) }
     ensures { answers.new ≡ put answers.old 0 (threes n (by_place w z k d labels.now lists.now places.now) sources.now targets.now (length sources.now)) }
 {
-    let mut i = 0;
-    while i < sources.len() {
+    for i in 0..sources.len() {
         let u = sources[i] as usize;
         let v = targets[i] as usize;
         put_pair(labels, lists, places, w, z, n, k, d, u, v, answers, 3 * i);
-        i += 1;
     }
 }
 
@@ -146,51 +145,6 @@ fn ask_sound(
     ask_placed(index, l, lists, &mut places, sources, targets, answers)
 }
 
-// Answers all pairs over bytes of a layout: 15, 20, 2 and 16 in order, or the number of pairs. Marks below n are 0 afterwards.
-fn ask_laid(
-    index: &[u8],
-    l: Layout,
-    lists: &[u8],
-    sources: &[u32],
-    targets: &[u32],
-    marks: &mut [u8],
-    answers: &mut [u32],
-) -> Batched
-    requires laid { Laid index.now l }
-    requires n_in_bounds { (l.n ≤ length marks.old) × (l.n ≤ 4096) }
-    ensures result_value { batched_of result ≡ outcome (all_late index.now lists.now sources.now targets.now (length answers.old)) (length sources.now) }
-    ensures marks_after { marks.new ≡ cleared l.n marks.old }
-    ensures answers_after { answers.new ≡ answers_laid index.now lists.now sources.now targets.now answers.old }
-{
-    if !contents_sound(index, l, marks) {
-        return Batched::Refused {
-            number: NOT_SOUND,
-            extra: 0,
-        };
-    }
-    if !exceptions_match(index, l, marks, lists) {
-        return Batched::Refused {
-            number: OTHER_LISTS,
-            extra: 0,
-        };
-    }
-    let pairs = sources.len();
-    if pairs != targets.len() {
-        return Batched::Refused {
-            number: LISTS_DIFFER,
-            extra: 0,
-        };
-    }
-    if answers.len() / 3 < pairs {
-        return Batched::Refused {
-            number: LIST_SHORT,
-            extra: pairs,
-        };
-    }
-    ask_sound(index, l, lists, sources, targets, answers);
-    Batched::Count(pairs)
-}
-
 // Answers all pairs by three numbers each, over a stored index of form 1 and its exception lists: refusals 10 to 13, 15, 20, 2 and 16 in order, or the number of
 // pairs. A refusal leaves the answer list as it was. Marks below n are 0 after 15, 20, 2, 16 and an answer; 10 to 13 leave them as they were.
 pub fn ask_all_exceptions(
@@ -200,19 +154,23 @@ pub fn ask_all_exceptions(
     targets: &[u32],
     marks: &mut [u8],
     answers: &mut [u32],
-) -> Batched
+) -> Result<usize, BatchRefusal>
+    ensures own { Own result }
     ensures result_value { batched_of result ≡ all_exceptions index.now lists.now sources.now targets.now (length marks.old) (length answers.old) }
     ensures marks_after { marks.new ≡ exception_marks index.now marks.old }
     ensures answers_after { answers.new ≡ exceptions_answers index.now lists.now sources.now targets.now (length marks.old) answers.old }
 {
-    let l = match stored_header::admit(1, 1, index, marks.len(), 0) {
-        Header::Refused { number, extra } => {
-            return Batched::Refused {
-                number,
-                extra: extra as usize,
-            };
-        }
-        Header::Passed(l) => l,
-    };
-    ask_laid(index, l, lists, sources, targets, marks, answers)
+    let l = admit_sound(index, marks)?;
+    if !exceptions_match(index, l, marks, lists) {
+        return Err(BatchRefusal::Refused(Refusal::OtherLists));
+    }
+    let pairs = sources.len();
+    if pairs != targets.len() {
+        return Err(BatchRefusal::Refused(Refusal::ListsDiffer));
+    }
+    if answers.len() / 3 < pairs {
+        return Err(BatchRefusal::AnswersShort(pairs));
+    }
+    ask_sound(index, l, lists, sources, targets, answers);
+    Ok(pairs)
 }

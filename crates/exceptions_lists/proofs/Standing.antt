@@ -1,7 +1,9 @@
 -- The lists of the first x groups stand in stored numbers as they should, and the next one begins at number `at`. It stands as well, and ends where the stored starts
 -- say, or the whole does not stand.
-use mathlib.Core.Bool.{Bool, true, false, true≢false, false≢true, ◌&&◌, cond}
-use mathlib.Core.Path.{◌≡◌, refl, sym, ap, ◌∙◌}
+use Rattle.std.specs.Prelude.{Option, Some}
+use Rattle.std.proofs.lemmas.Option.{cond_some}
+use mathlib.Core.Bool.{Bool, true, false, ◌&&◌}
+use mathlib.Core.Path.{◌≡◌, sym, ap, ◌∙◌}
 use mathlib.Core.List.{List}
 use Prim.Native.Nat.{ℕ, ◌+◌, ◌-◌, ◌≤◌, ◌<◌}
 use native.Mathlib.Nat.{add-zero}
@@ -14,32 +16,12 @@ use Rattle.lineage.specs.Index.{Index}
 use Rattle.lineage.specs.Numbers.{num_at}
 use Rattle.laws.proofs.Tests.{and_both, and_left}
 use Rattle.laws.proofs.Lists.{all_broken}
-use Rattle.laws.proofs.Passed.{Passed, passed_none, passed_next, passed_all}
+use Rattle.laws.proofs.Passed.{Passed, passed_none, passed_next}
 use Rattle.laws_exceptions.specs.Exceptions.{entries_of}
 use Rattle.exceptions_rows.specs.Rows.{agrees, stands, compared}
-use Rattle.exceptions_rows.specs.declared.Compared.{Compared}
-use Rattle.exceptions_rows.specs.declared.Compared.TheVariants.{Ends, Differs}
+use Rattle.exceptions_rows.proofs.Given.{cond_none}
 use Rattle.exceptions_lists.specs.Lists.{entries_to, list_stands}
 use Rattle.exceptions_lists.proofs.Ends.{entries_none, entries_more}
-
--- what was told of one list: it stands and ends there, or it differs
-is_end : Compared → Bool
-is_end (Ends v) = true
-is_end Differs = false
-
-end_of : Compared → ℕ
-end_of (Ends v) = v
-end_of Differs = 0
-
-differs_not : (b : Bool) (end : ℕ) → Differs ≡ cond b (Ends end) Differs → b ≡ false
-unfolding is_end
-differs_not true end h = absurd (false≢true (ap is_end h))
-differs_not false end h = refl
-
-ends_so : (b : Bool) (v end : ℕ) → Ends v ≡ cond b (Ends end) Differs → (b ≡ true) × (v ≡ end)
-unfolding is_end end_of
-ends_so true v end h = (refl, ap end_of h)
-ends_so false v end h = absurd (true≢false (ap is_end h))
 
 pub record Standing (I : Index) (lists : List ℕ) (k most x at : ℕ) : Type 0 where
   pub passed : Passed (list_stands I lists (k + 3) most) k x
@@ -67,22 +49,19 @@ module _ {I : Index} {lists : List ℕ} {k most x at : ℕ} (K : Standing I list
   broken h f = rw (all_broken (list_stands I lists (k + 3) most) k x h f)
 
   -- the next list, as it was compared
-  module _ (h : x < k) {r : Compared} (told : r ≡ compared lists at most (entries_of I x)) where
+  module _ (h : x < k) {r : Option ℕ} (told : r ≡ compared lists at most (entries_of I x)) where
     at_here : stands lists at most (entries_of I x) ≡ here?
     at_here = ap (λ (z : ℕ). stands lists z most (entries_of I x)) K.here
 
-    pub standing_differs : r ≡ Differs → false ≡ (all && last)
-    standing_differs e = broken h (rw (sym at_here ∙ differs_not (stands lists at most (entries_of I x)) (at + length (entries_of I x)) (sym e ∙ told)))
+    pub standing_differs : ((v : ℕ) → r ≡ Some v → ⊥) → false ≡ (all && last)
+    standing_differs n = broken h (rw (sym at_here ∙ cond_none (stands lists at most (entries_of I x)) (at + length (entries_of I x)) told n))
 
-    module _ {next : ℕ} (e : r ≡ Ends next) where
-      so : (stands lists at most (entries_of I x) ≡ true) × (next ≡ at + length (entries_of I x))
-      so = ends_so (stands lists at most (entries_of I x)) next (at + length (entries_of I x)) (sym e ∙ told)
+    module _ {next : ℕ} (e : r ≡ Some next) where
+      so : (stands lists at most (entries_of I x) ≡ true) × (at + length (entries_of I x) ≡ next)
+      so = cond_some (stands lists at most (entries_of I x)) (at + length (entries_of I x)) next (sym told ∙ e)
 
       next_here : next ≡ k + 3 + entries_to I (x + 1)
       next_here = omega (arith, so.1, K.here, entries_more I x)
-
-      pub standing_behind : k + 3 ≤ next
-      standing_behind = omega (arith, next_here)
 
       -- where it ends, as it is stored
       module _ {v : ℕ} (read : v ≡ num_at 4 lists (x + 3)) where
@@ -103,9 +82,3 @@ module _ {I : Index} {lists : List ℕ} {k most x at : ℕ} (K : Standing I list
                 leb-true (at + length (entries_of I x)) most (and_left (leb (at + length (entries_of I x)) most) (agrees lists at (entries_of I x)) so.0),
               );
         }
-
-  -- all lists stand; do they end with the last number?
-  pub standing_all : k ≤ x → eqb at most ≡ (all && last)
-  standing_all h =
-      let end : x ≡ k = omega (arith, K.passed.within) in
-      rw (← passed_all K.passed h, K.here, end) refl

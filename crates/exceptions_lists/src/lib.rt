@@ -10,7 +10,7 @@ ghost use Rattle.numbers.specs.Put.{put};
 ghost use Rattle.sound_places.specs.Lent.{SoundBytes};
 ghost use Rattle.exceptions_lists.specs.Lists.{entries_to, ends_to, list_stands};
 
-use exceptions_rows::{Compared, count_row, match_row, write_row};
+use exceptions_rows::{count_row, match_row, write_row};
 use numbers::{num, put_at};
 use stored_header::Layout;
 
@@ -21,12 +21,9 @@ pub fn count_exceptions(index: &[u8], l: Layout, marks: &mut [u8]) -> usize
     ensures value { result ≡ length (joined (exception_rows (index_in index.now))) }
     ensures marks_unchanged { marks.new ≡ marks.old }
 {
-    let k = l.k;
     let mut count = 0;
-    let mut x = 0;
-    while x < k {
+    for x in 0..l.k {
         count += count_row(index, l, marks, x);
-        x += 1;
     }
     count
 }
@@ -49,14 +46,11 @@ fn write_lists(index: &[u8], l: Layout, marks: &mut [u8], out: &mut [u8])
     ensures out_after { out.new ≡ put out.old 12 (written 4 (ends_to (index_in index.now) l.k ++ joined (exception_rows (index_in index.now)))) }
     ensures marks_unchanged { marks.new ≡ marks.old }
 {
-    let k = l.k;
-    let first = k + 3;
+    let first = l.k + 3;
     let mut at = first;
-    let mut x = 0;
-    while x < k {
+    for x in 0..l.k {
         at = write_row(index, l, marks, x, out, at);
         put_at(out, 4 * (x + 3), 4, at - first);
-        x += 1;
     }
 }
 
@@ -80,21 +74,16 @@ fn lists_stand(index: &[u8], l: Layout, marks: &mut [u8], lists: &[u8], most: us
     ensures value { result ≡ (all_below l.k (list_stands (index_in index.now) lists.now (l.k + 3) most) && eqb (l.k + 3 + entries_to (index_in index.now) l.k) most) }
     ensures marks_unchanged { marks.new ≡ marks.old }
 {
-    let k = l.k;
-    let first = k + 3;
+    let first = l.k + 3;
     let mut at = first;
-    let mut x = 0;
-    while x < k {
-        match match_row(index, l, marks, x, lists, at, most) {
-            Compared::Differs => return false,
-            Compared::Ends(next) => {
-                if num(lists, 4, x + 3) != next - first {
-                    return false;
-                }
-                at = next;
-            }
+    for x in 0..l.k {
+        let Some(next) = match_row(index, l, marks, x, lists, at, most) else {
+            return false;
+        };
+        if num(lists, 4, x + 3) != next - first {
+            return false;
         }
-        x += 1;
+        at = next;
     }
     at == most
 }

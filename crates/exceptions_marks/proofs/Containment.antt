@@ -2,13 +2,10 @@
 use mathlib.Core.Bool.{Bool, true, false, not, not-not, ◌&&◌, ◌||◌}
 use mathlib.Core.Path.{◌≡◌, refl, sym, ap, ◌∙◌}
 use mathlib.Core.List.{List, [], ◌∷◌, ◌++◌, map, map-append}
-use Prim.Native.Nat.{ℕ, zero, suc, ◌+◌, ◌-◌, ◌*◌, ◌≤◌, ◌<◌}
+use Prim.Native.Nat.{ℕ, zero, suc, ◌+◌, ◌*◌, ◌<◌}
 use native.Mathlib.Omega.{arith}
-use lib.Dec.{leb}
-use borrow.Author.Tests.{le-leb, lt-leb}
 use Rattle.lineage.specs.Lists.{upto, all_below}
 use Rattle.lineage.specs.Labels.{Labelling}
-use Rattle.lineage.specs.Numbers.{num_at}
 use Rattle.lineage.specs.Question.{outside, some_labelling}
 use Rattle.numbers.specs.Regions.{Part}
 use Rattle.stored.specs.Sections.{Labellings, labelling_in, tuples_of, places_of, labels_in}
@@ -42,14 +39,6 @@ module _ (p : Labelling → Bool) where
 -- the numbers by place of labelling j can be read
 pub tuples_held : {w z k d : ℕ} {labels tuples : List ℕ} → Labellings w z labels k d → (j : ℕ) → Part labels (w * (j * ((z + 1) * k))) (w * (z * k)) tuples → Tuples w z tuples k
 tuples_held D j P = record { stride = D.stride; held = record { width = D.width; long = omega (arith, P.long); few = omega (arith, tuples_few D) } }
-
--- y's outer interval lies in x's by both bounds, as they were read
-module _ (w z : ℕ) (tuples : List ℕ) (x y : ℕ) {a b : ℕ} (s-x : a ≡ num_at w tuples (z * x)) (s_y : b ≡ num_at w tuples (z * y)) where
-  pub lies_not : b < a → false ≡ lies_in w z tuples x y
-  lies_not h = rw (← s-x, ← s_y, lt-leb a b h) refl
-
-  pub lies_by : a ≤ b → {c e : ℕ} → c ≡ num_at w tuples (z * y + (z - 1)) → e ≡ num_at w tuples (z * x + (z - 1)) → leb c e ≡ lies_in w z tuples x y
-  lies_by h e-y e-x = rw (← s-x, ← s_y, le-leb a b h, e-y, e-x) refl
 
 module _ (w z k : ℕ) (labels : List ℕ) (x y : ℕ) where
   -- labelling j of the labels, and whether y's outer interval lies in x's there

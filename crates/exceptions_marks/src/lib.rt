@@ -28,10 +28,8 @@ fn lies_in(tuples: &[u8], w: usize, z: usize, k: usize, x: usize, y: usize) -> b
     requires x_lt_k { (x < k) × (y < k) }
     ensures { result ≡ lies_in w z tuples.now x y }
 {
-    if s_of(tuples, w, z, k, x) > s_of(tuples, w, z, k, y) {
-        return false;
-    }
-    e_of(tuples, w, z, k, y) <= e_of(tuples, w, z, k, x)
+    s_of(tuples, w, z, k, x) <= s_of(tuples, w, z, k, y)
+        && e_of(tuples, w, z, k, y) <= e_of(tuples, w, z, k, x)
 }
 
 // Whether group x contains group y: y's outer interval lies in x's in every labelling.
@@ -40,13 +38,11 @@ pub fn contains(labels: &[u8], w: usize, z: usize, k: usize, d: usize, x: usize,
     requires x_lt_k { (x < k) × (y < k) }
     ensures { result ≡ not (some_labelling (outside x y) (labels_in w z labels.now k d)) }
 {
-    let mut l = 0;
-    while l < d {
+    for l in 0..d {
         let tuples = parts::tuples(labels, w, z, k, d, l);
         if !lies_in(tuples, w, z, k, x, y) {
             return false;
         }
-        l += 1;
     }
     true
 }
@@ -66,10 +62,7 @@ fn is_exception(
     requires x_lt_k { (x < k) × (y < k) }
     ensures { result ≡ cond (eqb mark 1) false (not (some_labelling (outside x y) (labels_in w z labels.now k d))) }
 {
-    if mark == REACHED {
-        return false;
-    }
-    contains(labels, w, z, k, d, x, y)
+    mark != REACHED && contains(labels, w, z, k, d, x, y)
 }
 
 // Marks the exceptions of x, where what it reaches is marked; how many they are. It goes through the ranks of x's outer interval in the first labelling: all that x
@@ -92,15 +85,13 @@ fn mark_contained(index: &[u8], l: Layout, marks: &mut [u8], x: usize) -> usize
     let from = s_of(tuples, w, z, k, x) - 1;
     let ranks = e_of(tuples, w, z, k, x) - from;
     let mut count = 0;
-    let mut i = 0;
-    while i < ranks {
+    for i in 0..ranks {
         let y = num(places, w, from + i);
         let name = num(groups, w, y);
         if is_exception(labels, w, z, k, d, x, y, marks[name]) {
             marks[name] = EXCEPTED;
             count += 1;
         }
-        i += 1;
     }
     count
 }

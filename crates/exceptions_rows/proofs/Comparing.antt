@@ -1,22 +1,20 @@
 -- The entries of x compared one by one with stored numbers from number `from` on: those of the places passed agree. The next one agrees too, or the list differs.
 use mathlib.Core.Bool.{Bool, true, false}
-use mathlib.Core.Path.{◌≡◌, refl, sym, ap, ◌∙◌}
+use mathlib.Core.Path.{◌≡◌, sym, ap, ◌∙◌}
 use mathlib.Core.List.{List, [], ◌∷◌}
-use Prim.Native.Nat.{ℕ, ◌+◌, ◌-◌, ◌*◌, ◌≤◌, ◌<◌}
+use Prim.Native.Nat.{ℕ, ◌+◌, ◌*◌, ◌≤◌, ◌<◌}
 use native.Mathlib.Omega.{arith}
 use native.Mathlib.Nat.{add-zero}
-use lib.Dec.{eqb, leb}
+use lib.Dec.{eqb}
 use lib.ListN.{length, get_or, length-append}
-use borrow.Author.Tests.{eq-eqb, ne_eqb, leb-true, le-leb, lt-leb}
+use borrow.Author.Tests.{eq-eqb, ne_eqb}
 use Rattle.lineage.specs.Index.{Index}
 use Rattle.lineage.specs.Numbers.{num_at}
-use Rattle.laws.proofs.Tests.{and_left}
 use Rattle.laws.proofs.Lists.{all_broken}
 use Rattle.laws.proofs.Passed.{Passed, passed_none, passed_next, passed_all}
 use Rattle.laws_exceptions.specs.Exceptions.{is_exception, entry, entries_of}
 use Rattle.laws_exceptions.proofs.Through.{row_to, row_none, row_all, row_over, row_more, row_room, row_next}
-use Rattle.exceptions_rows.specs.Rows.{agrees, stands, compared}
-use Rattle.exceptions_rows.specs.declared.Compared.TheVariants.{Ends, Differs}
+use Rattle.exceptions_rows.specs.Rows.{agrees}
 
 -- entry j agrees
 abbrev agrees_at : Index → ℕ → List ℕ → ℕ → ℕ → Bool
@@ -59,25 +57,3 @@ module _ {I : Index} {x : ℕ} {lists : List ℕ} {from y at : ℕ} (K : Compari
 
   pub comparing_all : y ≡ length I.groups → true ≡ agrees lists from (entries_of I x)
   comparing_all e = passed_all K.passed (omega (arith, ap length (row_all I x y e)))
-
--- the whole list, of which `count` is the length
-module _ (lists row : List ℕ) {at most count : ℕ} (counted : count ≡ length row) (low : at ≤ most) where
-  pub stands_short : most - at < count → false ≡ stands lists at most row
-  stands_short h = rw (lt-leb (at + length row) most (omega arith))
-
-  pub stands_empty : count ≡ 0 → true ≡ stands lists at most row
-  stands_empty e = let none : length row ≡ 0 = omega arith in rw (none, le-leb (at + 0) most (omega arith)) refl
-
-  pub stands_by : count ≤ most - at → {r : Bool} → r ≡ agrees lists at row → r ≡ stands lists at most row
-  stands_by h e = rw (le-leb (at + length row) most (omega arith)) e
-
-  -- and how it ends
-  module _ {r : Bool} (told : r ≡ stands lists at most row) where
-    pub row_differs : r ≡ false → Differs ≡ compared lists at most row
-    row_differs f = rw (← told, f)
-
-    pub row_within : r ≡ true → at + count ≤ most
-    row_within t = omega (arith, leb-true (at + length row) most (and_left (leb (at + length row) most) (agrees lists at row) (sym told ∙ t)))
-
-    pub row_ends : r ≡ true → Ends (at + count) ≡ compared lists at most row
-    row_ends t = rw (← told, t, counted)

@@ -1,6 +1,8 @@
 -- What the sections of sound bytes give the list of one group: its entries are told from them, and a group's mark tells whether it is an exception.
-use mathlib.Core.Bool.{true, false}
-use mathlib.Core.Path.{◌≡◌, sym, ap, ◌∙◌}
+use Rattle.std.specs.Prelude.{Option, None, Some}
+use Rattle.std.proofs.lemmas.Option.{cond_some}
+use mathlib.Core.Bool.{Bool, true, false, cond}
+use mathlib.Core.Path.{◌≡◌, refl, sym, ap, ◌∙◌}
 use mathlib.Core.List.{List}
 use Prim.Native.Nat.{ℕ, ◌<◌}
 use native.Mathlib.Omega.{arith}
@@ -17,7 +19,7 @@ use Rattle.sound_places.specs.Lent.{SoundBytes}
 use Rattle.reach.proofs.Fitted.{spots}
 use Rattle.exceptions_marks.specs.Marks.{Excepted}
 use Rattle.exceptions_marks.proofs.Fitted.{children_are, labels_are_lem, places_many, labelled, name_was}
-use Rattle.exceptions_rows.specs.Rows.{Telling, kinds_alone}
+use Rattle.exceptions_rows.specs.Rows.{Telling, kinds_alone, entry_told}
 
 module _
     {b : List ℕ} {l : Layout} {names groups levels starts children labels : List ℕ}
@@ -26,23 +28,34 @@ module _
     pub telling : Telling l.width l.stride l.k l.c l.d starts children labels
     telling = record { below = (spots O P l.n (omega arith)).below; labelled = labelled O P }
 
-    -- an entry of the children and labels is one of the index
-    pub entry_here :
-        (x y : ℕ) {v : ℕ} → v ≡ entry (kinds_alone (children_in l.width starts children l.k l.c) (labels_in l.width l.stride labels l.k l.d)) x y
-        → v ≡ entry (index_in b) x y
-    entry_here x y e = rw (children_are O P, labels_are_lem O P) at e
-
     -- the group at place y, whose name was read
     module _ {y name : ℕ} (h : y < l.k) (named : name ≡ num_at l.width groups y) where
       module _ {x : ℕ} {marks : List ℕ} (X : Excepted (index_in b) x marks) where
         mark_told : eqb (get_or marks name 0) 2 ≡ is_exception (index_in b) x y
         mark_told = ap (λ (z : ℕ). eqb (get_or marks z 0) 2) (name_was O P h named) ∙ X.told y (omega (arith, places_many O))
 
-        pub is_excepted : get_or marks name 0 ≡ 2 → is_exception (index_in b) x y ≡ true
-        is_excepted e = sym mark_told ∙ eq-eqb (get_or marks name 0) 2 e
+        pub told_over : (get_or marks name 0 ≡ 2 → ⊥) → None ≡ entry_told (index_in b) x y
+        told_over n = rw (sym mark_told ∙ ne_eqb (get_or marks name 0) 2 n)
 
-        pub not_excepted : (get_or marks name 0 ≡ 2 → ⊥) → is_exception (index_in b) x y ≡ false
-        not_excepted n = sym mark_told ∙ ne_eqb (get_or marks name 0) 2 n
+        pub told_here :
+            get_or marks name 0 ≡ 2 → {v : ℕ}
+            → v ≡ entry (kinds_alone (children_in l.width starts children l.k l.c) (labels_in l.width l.stride labels l.k l.d)) x y → Some v ≡ entry_told (index_in b) x y
+        told_here e {v} is =
+            let here : v ≡ entry (index_in b) x y = rw (children_are O P, labels_are_lem O P) at is in
+            rw (sym mark_told ∙ eq-eqb (get_or marks name 0) 2 e) (ap Some here)
+
+-- what is told where a test passes, and nothing elsewhere
+pub cond_none : (b : Bool) (x : ℕ) {r : Option ℕ} → r ≡ cond b (Some x) None → ((v : ℕ) → r ≡ Some v → ⊥) → b ≡ false
+cond_none true x is n = absurd (n x is)
+cond_none false x is n = refl
+
+-- what was told of place y
+module _ (I : Index) (x y : ℕ) {r : Option ℕ} (told : r ≡ entry_told I x y) where
+  pub told_entry : {v : ℕ} → r ≡ Some v → (is_exception I x y ≡ true) × (v ≡ entry I x y)
+  told_entry {v} e = let (t, is) = cond_some (is_exception I x y) (entry I x y) v (sym told ∙ e) in (t, sym is)
+
+  pub told_none : ((v : ℕ) → r ≡ Some v → ⊥) → is_exception I x y ≡ false
+  told_none n = cond_none (is_exception I x y) (entry I x y) told n
 
 -- as many entries as exceptions
 pub entries_many : (I : Index) (x : ℕ) {r : ℕ} → r ≡ length (exceptions_of I x) → r ≡ length (entries_of I x)

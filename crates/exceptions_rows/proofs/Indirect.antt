@@ -2,8 +2,7 @@
 use mathlib.Core.Bool.{Bool, true, false}
 use mathlib.Core.Path.{◌≡◌, sym, ◌∙◌}
 use mathlib.Core.List.{List, []}
-use Prim.Native.Nat.{ℕ, ◌+◌, ◌*◌, ◌≤◌, ◌<◌}
-use native.Mathlib.Nat.{add-zero}
+use Prim.Native.Nat.{ℕ, ◌+◌, ◌≤◌, ◌<◌}
 use native.Mathlib.Omega.{arith}
 use borrow.Author.Count.{below_more}
 use borrow.Author.Tests.{eq-eqb, ne_eqb}
@@ -13,7 +12,7 @@ use Rattle.lineage.specs.Numbers.{num_at}
 use Rattle.lineage.specs.Index.{Index}
 use Rattle.laws.proofs.Tests.{is_false, clash}
 use Rattle.laws.proofs.Lists.{any_in, in_any, in_get_d, position_low, at_position}
-use Rattle.laws_exceptions.specs.Exceptions.{contains, is_indirect, entry}
+use Rattle.laws_exceptions.specs.Exceptions.{contains, is_indirect}
 use Rattle.stored.specs.Rows.{Row}
 use Rattle.stored.specs.Sections.{children_in, labels_in}
 use Rattle.stored.proofs.Row.{row_has, child_was}
@@ -38,9 +37,6 @@ told w z k c d starts children labels = kinds_alone (children_in w starts childr
 pub record Trying (I : Index) (row : List ℕ) (y i : ℕ) : Type 0 where
   pub within : i ≤ length row
   pub none : (j : ℕ) → j < i → contains I (get_or row j 0) y ≡ false
-
-pub trying_none : (I : Index) (row : List ℕ) (y : ℕ) → Trying I row y 0
-trying_none I row y = record { within = omega arith; none = λ j h. absurd (omega arith) }
 
 module _ (w z k c d : ℕ) (starts children labels : List ℕ) (x y : ℕ) where
   abbrev I : Index
@@ -77,11 +73,3 @@ module _ (w z k c d : ℕ) (starts children labels : List ℕ) (x y : ℕ) where
     -- all children
     pub trying_all : len ≤ i → false ≡ is_indirect I x y
     trying_all m = kind_by_lem one (sym (any_fails (λ q. contains I q y) row (λ j l. K.none j (omega (arith, row_has T.below.entries R)))))
-
--- the entry, by what was told of its kind
-module _ (I : Index) (x y : ℕ) {r : Bool} (kind : r ≡ is_indirect I x y) where
-  pub entry_odd : r ≡ true → 2 * y + 1 ≡ entry I x y
-  entry_odd t = rw (← kind, t)
-
-  pub entry_even : r ≡ false → 2 * y ≡ entry I x y
-  entry_even f = rw (← kind, f) (sym (add-zero (2 * y)))

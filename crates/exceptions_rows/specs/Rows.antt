@@ -1,13 +1,12 @@
 -- One group's list: what its entries are told from, and when stored numbers are the list.
-use Rattle.std.specs.Prelude.{Bool, ◌&&◌, cond, List, [], ℕ, ◌+◌, eqb, leb, length, get_or}
+use Rattle.std.specs.Prelude.{Bool, ◌&&◌, cond, List, [], ℕ, ◌+◌, eqb, leb, length, get_or, Option, None, Some}
 use Rattle.lineage.specs.Lists.{all_below}
 use Rattle.lineage.specs.Labels.{Labelling}
 use Rattle.lineage.specs.Index.{Index}
 use Rattle.lineage.specs.Numbers.{num_at}
+use Rattle.laws_exceptions.specs.Exceptions.{is_exception, entry}
 use Rattle.stored.specs.Rows.{Places}
 use Rattle.stored.specs.Sections.{Labellings}
-use Rattle.exceptions_rows.specs.declared.Compared.{Compared}
-use Rattle.exceptions_rows.specs.declared.Compared.TheVariants.{Ends, Differs}
 
 -- children that are places, and labels
 pub record Telling (w z k c d : ℕ) (starts children labels : List ℕ) : Type 0 where
@@ -18,6 +17,10 @@ pub record Telling (w z k c d : ℕ) (starts children labels : List ℕ) : Type 
 abbrev pub kinds_alone : List (List ℕ) → List Labelling → Index
 kinds_alone children labels = record { names = []; groups = []; levels = []; children = children; labels = labels }
 
+-- what stands of place y in the list of x: its entry, or nothing
+abbrev pub entry_told : Index → (x y : ℕ) → Option ℕ
+entry_told I x y = cond (is_exception I x y) (Some (entry I x y)) None
+
 -- the 32-bit numbers from number `at` on are the list
 abbrev pub agrees : List ℕ → ℕ → List ℕ → Bool
 agrees lists at row = all_below (length row) (λ j. eqb (num_at 4 lists (at + j)) (get_or row j 0))
@@ -27,5 +30,5 @@ abbrev pub stands : List ℕ → (at most : ℕ) → List ℕ → Bool
 stands lists at most row = leb (at + length row) most && agrees lists at row
 
 -- where the next list begins, or that this one differs
-abbrev pub compared : List ℕ → (at most : ℕ) → List ℕ → Compared
-compared lists at most row = cond (stands lists at most row) (Ends (at + length row)) Differs
+abbrev pub compared : List ℕ → (at most : ℕ) → List ℕ → Option ℕ
+compared lists at most row = cond (stands lists at most row) (Some (at + length row)) None

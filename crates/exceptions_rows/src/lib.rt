@@ -7,23 +7,16 @@ ghost use Rattle.lineage.specs.Numbers.{written};
 ghost use Rattle.lineage.specs.Calls.{index_in};
 ghost use Rattle.laws_exceptions.specs.Exceptions.{is_indirect, entry, exceptions_of, entries_of};
 ghost use Rattle.numbers.specs.Put.{put};
-ghost use Rattle.stored.specs.Sections.{children_in, labels_in};
+ghost use Rattle.stored.specs.Sections.{Section, children_in, labels_in};
 ghost use Rattle.sound_places.specs.Lent.{SoundBytes};
 ghost use Rattle.exceptions_marks.specs.Marks.{Excepted};
-ghost use Rattle.exceptions_rows.specs.Rows.{Telling, kinds_alone, agrees, stands, compared};
+ghost use Rattle.exceptions_rows.specs.Rows.{Telling, kinds_alone, entry_told, agrees, stands, compared};
 
 use exceptions_marks::{EXCEPTED, contains, mark_exceptions};
 use numbers::{clear_marks, num, put_at};
 use stored::parts;
 use stored::rows::row_span;
 use stored_header::Layout;
-
-// How a list that was compared ends: where the next one begins, or it is not the stored one.
-#[derive(Clone, Copy)]
-pub enum Compared {
-    Ends(usize),
-    Differs,
-}
 
 // Whether exception y of x is indirect: under one labelling, where some child of x contains it.
 fn is_indirect(
@@ -48,13 +41,11 @@ fn is_indirect(
     let row = row_span(starts, w, k, c, x);
     let from = row.from;
     let len = row.len;
-    let mut i = 0;
-    while i < len {
+    for i in 0..len {
         let h = num(children, w, from + i);
         if contains(labels, w, z, k, d, h, y) {
             return true;
         }
-        i += 1;
     }
     false
 }
@@ -82,6 +73,33 @@ fn entry_of(
     2 * y
 }
 
+// The entry of place y in the list of x, whose exceptions are marked; none where it is no exception.
+fn entry_at(
+    index: &[u8],
+    l: Layout,
+    groups: &[u8],
+    marks: &[u8],
+    x: usize,
+    y: usize,
+) -> Option<usize>
+    requires sound_bytes { SoundBytes index.now l }
+    requires groups_in { Section index.now l 1 groups.now }
+    requires n_in_bounds { (l.n ≤ length marks.now) × ((x < l.k) × Excepted (index_in index.now) x marks.now) }
+    requires y_lt_k { y < l.k }
+    ensures { result ≡ entry_told (index_in index.now) x y }
+{
+    let name = num(groups, l.width, y);
+    if marks[name] != EXCEPTED {
+        return None;
+    }
+    let starts = parts::starts(index, l);
+    let children = parts::children(index, l);
+    let labels = parts::labels(index, l);
+    Some(entry_of(
+        starts, children, labels, l.width, l.stride, l.k, l.c, l.d, x, y,
+    ))
+}
+
 // Writes the entries of x, whose exceptions are marked, from number `from` on.
 fn write_marked(index: &[u8], l: Layout, marks: &[u8], x: usize, out: &mut [u8], from: usize)
     requires sound_bytes { SoundBytes index.now l }
@@ -89,25 +107,13 @@ fn write_marked(index: &[u8], l: Layout, marks: &[u8], x: usize, out: &mut [u8],
     requires x_in_bounds { 4 * (from + length (entries_of (index_in index.now) x)) ≤ length out.old }
     ensures { out.new ≡ put out.old (4 * from) (written 4 (entries_of (index_in index.now) x)) }
 {
-    let w = l.width;
-    let z = l.stride;
-    let k = l.k;
-    let c = l.c;
-    let d = l.d;
     let groups = parts::groups(index, l);
-    let starts = parts::starts(index, l);
-    let children = parts::children(index, l);
-    let labels = parts::labels(index, l);
     let mut at = from;
-    let mut y = 0;
-    while y < k {
-        let name = num(groups, w, y);
-        if marks[name] == EXCEPTED {
-            let v = entry_of(starts, children, labels, w, z, k, c, d, x, y);
+    for y in 0..l.k {
+        if let Some(v) = entry_at(index, l, groups, marks, x, y) {
             put_at(out, 4 * at, 4, v);
             at += 1;
         }
-        y += 1;
     }
 }
 
@@ -118,26 +124,15 @@ fn match_marked(index: &[u8], l: Layout, marks: &[u8], x: usize, lists: &[u8], f
     requires x_in_bounds { 4 * (from + length (entries_of (index_in index.now) x)) ≤ length lists.now }
     ensures { result ≡ agrees lists.now from (entries_of (index_in index.now) x) }
 {
-    let w = l.width;
-    let z = l.stride;
-    let k = l.k;
-    let c = l.c;
-    let d = l.d;
     let groups = parts::groups(index, l);
-    let starts = parts::starts(index, l);
-    let children = parts::children(index, l);
-    let labels = parts::labels(index, l);
     let mut at = from;
-    let mut y = 0;
-    while y < k {
-        let name = num(groups, w, y);
-        if marks[name] == EXCEPTED {
-            if num(lists, 4, at) != entry_of(starts, children, labels, w, z, k, c, d, x, y) {
+    for y in 0..l.k {
+        if let Some(v) = entry_at(index, l, groups, marks, x, y) {
+            if num(lists, 4, at) != v {
                 return false;
             }
             at += 1;
         }
-        y += 1;
     }
     true
 }
@@ -215,7 +210,7 @@ pub fn match_row(
     lists: &[u8],
     at: usize,
     most: usize,
-) -> Compared
+) -> Option<usize>
     requires sound_bytes { SoundBytes index.now l }
     requires n_in_bounds { (l.n ≤ length marks.old) × (x < l.k) }
     requires marks_value { marks.old ≡ cleared l.n marks.old }
@@ -227,7 +222,7 @@ pub fn match_row(
     let same = marked_matches(index, l, marks, x, lists, at, most, count);
     clear_marks(marks, l.n);
     if !same {
-        return Compared::Differs;
+        return None;
     }
-    Compared::Ends(at + count)
+    Some(at + count)
 }

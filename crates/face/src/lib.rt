@@ -4,20 +4,18 @@
 #![tactic(auto)]
 
 ghost use Rattle.std.specs.Prelude.{◌≡◌, length};
-ghost use Rattle.lineage.specs.Calls.{refused, answered, host, open_answer, open_marks, ask_answer, ask_marks};
-ghost use Rattle.open.specs.Opened.{opened_of};
-ghost use Rattle.ask.specs.Asked.{asked_of};
+ghost use Rattle.lineage.specs.Calls.{host, open_answer, open_marks, ask_answer, ask_marks};
 ghost use Rattle.ask_all.specs.Batch.{batch_answer, batch_answers, batch_marks};
-ghost use Rattle.ask_all.specs.Batched.{batched_of};
-ghost use Rattle.face.specs.Host.{host_opened, host_asked, host_asked_all, host_counted};
+ghost use Rattle.face.specs.Host.{host_opened, host_asked, host_asked_all};
 
 use ask::Asked;
-use ask_all::Batched;
+use ask_all::BatchRefusal;
 use open::Opened;
+use refusals::Refusal;
 
 // What opening gives: a refusal with its extra number, or refusal 0 and the counts.
 #[repr(C)]
-#[derive(Clone, Copy)]
+#[derive(Clone, Copy, Debug, PartialEq, Eq)]
 pub struct DrobistenOpened {
     pub refusal: u32,
     pub extra: u32,
@@ -27,32 +25,37 @@ pub struct DrobistenOpened {
     pub d: u32,
 }
 
-pub fn opened(r: Opened) -> DrobistenOpened
-    ensures { result ≡ host_opened (opened_of r) }
-{
-    match r {
-        Opened::Index { n, k, c, d } => DrobistenOpened {
-            refusal: 0,
-            extra: 0,
-            n,
-            k,
-            c,
-            d,
-        },
-        Opened::Refused { number, extra } => DrobistenOpened {
-            refusal: number,
-            extra,
-            n: 0,
-            k: 0,
-            c: 0,
-            d: 0,
-        },
+impl From<Result<Opened, Refusal>> for DrobistenOpened {
+    ghost use Rattle.open.specs.Opened.{opened_of};
+    ghost use Rattle.face.specs.Host.{host_opened};
+
+    ghost from_gives = { λ r host. host ≡ host_opened (opened_of r) };
+
+    fn from(r: Result<Opened, Refusal>) -> DrobistenOpened {
+        match r {
+            Ok(Opened { n, k, c, d }) => DrobistenOpened {
+                refusal: 0,
+                extra: 0,
+                n,
+                k,
+                c,
+                d,
+            },
+            Err(refusal) => DrobistenOpened {
+                refusal: refusal.number(),
+                extra: refusal.extra(),
+                n: 0,
+                k: 0,
+                c: 0,
+                d: 0,
+            },
+        }
     }
 }
 
 // What asking gives: a refusal with its extra number, or refusal 0 and the answer.
 #[repr(C)]
-#[derive(Clone, Copy)]
+#[derive(Clone, Copy, Debug, PartialEq, Eq)]
 pub struct DrobistenAsked {
     pub refusal: u32,
     pub extra: u32,
@@ -62,98 +65,116 @@ pub struct DrobistenAsked {
     pub labelling: u32,
 }
 
-pub fn asked(r: Asked) -> DrobistenAsked
-    ensures { result ≡ host_asked (asked_of r) }
-{
-    match r {
-        Asked::Answer {
-            says,
-            reason,
-            opened,
-            deciding,
-        } => DrobistenAsked {
-            refusal: 0,
-            extra: 0,
-            yes: says as u32,
-            reason,
-            opened,
-            labelling: deciding,
-        },
-        Asked::Refused { number, extra } => DrobistenAsked {
-            refusal: number,
-            extra,
-            yes: 0,
-            reason: 0,
-            opened: 0,
-            labelling: 0,
-        },
+impl From<Result<Asked, Refusal>> for DrobistenAsked {
+    ghost use Rattle.ask.specs.Asked.{asked_of};
+    ghost use Rattle.face.specs.Host.{host_asked};
+
+    ghost from_gives = { λ r host. host ≡ host_asked (asked_of r) };
+
+    fn from(r: Result<Asked, Refusal>) -> DrobistenAsked {
+        match r {
+            Ok(answer) => DrobistenAsked {
+                refusal: 0,
+                extra: 0,
+                yes: answer.says as u32,
+                reason: answer.reason,
+                opened: answer.opened,
+                labelling: answer.deciding,
+            },
+            Err(refusal) => DrobistenAsked {
+                refusal: refusal.number(),
+                extra: refusal.extra(),
+                yes: 0,
+                reason: 0,
+                opened: 0,
+                labelling: 0,
+            },
+        }
     }
 }
 
 // What asking all pairs gives: a refusal with its extra number, or refusal 0 and the number of pairs.
 #[repr(C)]
-#[derive(Clone, Copy)]
+#[derive(Clone, Copy, Debug, PartialEq, Eq)]
 pub struct DrobistenAskedAll {
     pub refusal: u32,
     pub extra: usize,
     pub count: usize,
 }
 
-pub fn asked_all(r: Batched) -> DrobistenAskedAll
-    ensures { result ≡ host_asked_all (batched_of r) }
-{
-    match r {
-        Batched::Count(count) => DrobistenAskedAll {
-            refusal: 0,
-            extra: 0,
-            count,
-        },
-        Batched::Refused { number, extra } => DrobistenAskedAll {
-            refusal: number,
+impl From<Result<usize, BatchRefusal>> for DrobistenAskedAll {
+    ghost use Rattle.ask_all.specs.Batched.{batched_of};
+    ghost use Rattle.face.specs.Host.{host_asked_all};
+
+    ghost from_gives = { λ r host. host ≡ host_asked_all (batched_of r) };
+
+    fn from(r: Result<usize, BatchRefusal>) -> DrobistenAskedAll {
+        let (refusal, extra, count) = match r {
+            Ok(count) => (0, 0, count),
+            Err(refusal) => (refusal.number(), refusal.extra(), 0),
+        };
+        DrobistenAskedAll {
+            refusal,
             extra,
-            count: 0,
-        },
+            count,
+        }
     }
 }
 
 // What a call gives that answers one number: a refusal with its extra number, or refusal 0 and the number.
 #[repr(C)]
-#[derive(Clone, Copy)]
+#[derive(Clone, Copy, Debug, PartialEq, Eq)]
 pub struct DrobistenCounted {
     pub refusal: u32,
     pub extra: u32,
     pub count: u32,
 }
 
-// A number that was answered.
-pub fn counted(count: u32) -> DrobistenCounted
-    ensures { result ≡ host_counted (answered count) }
-{
-    DrobistenCounted {
-        refusal: 0,
-        extra: 0,
-        count,
-    }
-}
+impl From<Result<u32, Refusal>> for DrobistenCounted {
+    ghost use Rattle.refusals.specs.Refusals.{outcome_by};
+    ghost use Rattle.face.specs.Host.{host_counted};
 
-// A refusal.
-pub fn not_counted(number: u32, extra: u32) -> DrobistenCounted
-    ensures { result ≡ host_counted (refused number extra) }
-{
-    DrobistenCounted {
-        refusal: number,
-        extra,
-        count: 0,
+    ghost from_gives = { λ r host. host ≡ host_counted (outcome_by (λ count. count) r) };
+
+    fn from(r: Result<u32, Refusal>) -> DrobistenCounted {
+        let (refusal, extra, count) = match r {
+            Ok(count) => (0, 0, count),
+            Err(refusal) => (refusal.number(), refusal.extra(), 0),
+        };
+        DrobistenCounted {
+            refusal,
+            extra,
+            count,
+        }
     }
 }
 
 // What a question without a reason gives: a refusal with its extra number, or refusal 0 and yes or no.
 #[repr(C)]
-#[derive(Clone, Copy)]
+#[derive(Clone, Copy, Debug, PartialEq, Eq)]
 pub struct DrobistenSaid {
     pub refusal: u32,
     pub extra: u32,
     pub yes: u32,
+}
+
+impl From<Result<bool, Refusal>> for DrobistenSaid {
+    ghost use Rattle.refusals.specs.Refusals.{outcome_by};
+    ghost use Rattle.face.specs.Host.{host_said};
+
+    ghost from_gives = { λ r host. host ≡ host_said (outcome_by (λ says. says) r) };
+
+    fn from(r: Result<bool, Refusal>) -> DrobistenSaid {
+        let (refusal, extra, yes) = match r {
+            Ok(says) => (0, 0, says as u32),
+            Err(refusal) => (refusal.number(), refusal.extra(), 0),
+        };
+        DrobistenSaid {
+            refusal,
+            extra,
+            yes,
+        }
+    }
 }
 
 // `open_form1` for the host.
@@ -162,7 +183,7 @@ pub extern "C" fn drobisten_open(index: &[u8], marks: &mut [u8]) -> DrobistenOpe
     ensures value { result ≡ host_opened (open_answer host index.now (length marks.old) 0) }
     ensures marks_after { marks.new ≡ open_marks host index.now marks.old 0 }
 {
-    opened(open::open_form1(index, marks))
+    open::open_form1(index, marks).into()
 }
 
 // `ask_form1` for the host.
@@ -176,7 +197,7 @@ pub extern "C" fn drobisten_ask(
     ensures value { result ≡ host_asked (ask_answer host index.now source target (length marks.old) 0) }
     ensures marks_after { marks.new ≡ ask_marks host index.now source target marks.old 0 }
 {
-    asked(ask::ask_form1(index, source, target, marks))
+    ask::ask_form1(index, source, target, marks).into()
 }
 
 // `ask_all_form1` for the host: six numbers a pair, in the order of `DrobistenAsked`.
@@ -192,5 +213,5 @@ pub extern "C" fn drobisten_ask_all(
     ensures marks_after { marks.new ≡ batch_marks host index.now sources.now targets.now marks.old 0 (length answers.old) }
     ensures answers_after { answers.new ≡ batch_answers host index.now sources.now targets.now (length marks.old) 0 answers.old }
 {
-    asked_all(ask_all::ask_all_form1(index, sources, targets, marks, answers))
+    ask_all::ask_all_form1(index, sources, targets, marks, answers).into()
 }

@@ -5,13 +5,9 @@ ghost use Rattle.std.specs.Prelude.{◌≡◌, length};
 ghost use Rattle.lineage.specs.Calls.{ordinary, turned, open_answer, open_marks, open_work, ask_answer, ask_marks, ask_work};
 ghost use Rattle.ask_all.specs.Batch.{batch_answer, batch_answers, batch_marks, batch_work};
 ghost use Rattle.convert.specs.Convert.{convert_answer, convert_marks, convert_work, convert_output};
-ghost use Rattle.convert.specs.Converted.{converted_of};
 ghost use Rattle.face.specs.Host.{host_opened, host_asked, host_asked_all, host_counted};
 
-use convert::Converted;
-use face::{
-    DrobistenAsked, DrobistenAskedAll, DrobistenCounted, DrobistenOpened, counted, not_counted,
-};
+use face::{DrobistenAsked, DrobistenAskedAll, DrobistenCounted, DrobistenOpened};
 
 // `open::open`.
 #[unsafe(no_mangle)]
@@ -24,7 +20,7 @@ pub extern "C" fn drobisten_inspect(
     ensures marks_after { marks.new ≡ open_marks ordinary index.now marks.old (length work.old) }
     ensures work_after { work.new ≡ open_work ordinary index.now (length marks.old) work.old }
 {
-    face::opened(open::open(index, marks, work))
+    open::open(index, marks, work).into()
 }
 
 // `turned::open_turned`.
@@ -38,7 +34,7 @@ pub extern "C" fn drobisten_inspect_turned(
     ensures marks_after { marks.new ≡ open_marks turned index.now marks.old (length work.old) }
     ensures work_after { work.new ≡ open_work turned index.now (length marks.old) work.old }
 {
-    face::opened(turned::open_turned(index, marks, work))
+    turned::open_turned(index, marks, work).into()
 }
 
 // `ask::ask`.
@@ -54,7 +50,7 @@ pub extern "C" fn drobisten_question(
     ensures marks_after { marks.new ≡ ask_marks ordinary index.now source target marks.old (length work.old) }
     ensures work_after { work.new ≡ ask_work ordinary index.now source target (length marks.old) work.old }
 {
-    face::asked(ask::ask(index, source, target, marks, work))
+    ask::ask(index, source, target, marks, work).into()
 }
 
 // `turned::ask_turned`.
@@ -70,7 +66,7 @@ pub extern "C" fn drobisten_question_turned(
     ensures marks_after { marks.new ≡ ask_marks turned index.now source target marks.old (length work.old) }
     ensures work_after { work.new ≡ ask_work turned index.now source target (length marks.old) work.old }
 {
-    face::asked(turned::ask_turned(index, source, target, marks, work))
+    turned::ask_turned(index, source, target, marks, work).into()
 }
 
 // `ask_all::ask_all`: six numbers a pair, in the order of `DrobistenAsked`.
@@ -88,16 +84,7 @@ pub extern "C" fn drobisten_batch(
     ensures work_after { work.new ≡ batch_work ordinary index.now (length marks.old) work.old }
     ensures answers_after { answers.new ≡ batch_answers ordinary index.now sources.now targets.now (length marks.old) (length work.old) answers.old }
 {
-    face::asked_all(ask_all::ask_all(index, sources, targets, marks, work, answers))
-}
-
-pub fn converted(r: Converted) -> DrobistenCounted
-    ensures { result ≡ host_counted (converted_of r) }
-{
-    match r {
-        Converted::Total(count) => counted(count),
-        Converted::Refused { number, extra } => not_counted(number, extra),
-    }
+    ask_all::ask_all(index, sources, targets, marks, work, answers).into()
 }
 
 // `convert::convert_up`: form 1 as form 2.
@@ -111,7 +98,7 @@ pub extern "C" fn drobisten_convert_up(
     ensures marks_after { marks.new ≡ convert_marks 1 index.now marks.old 0 }
     ensures out_after { out.new ≡ convert_output 1 2 index.now (length marks.old) 0 out.old }
 {
-    converted(convert::convert_up(index, marks, out))
+    convert::convert_up(index, marks, out).into()
 }
 
 // `convert::convert_down`: form 2 as form 1.
@@ -127,5 +114,5 @@ pub extern "C" fn drobisten_convert_down(
     ensures work_after { work.new ≡ convert_work 2 index.now (length marks.old) work.old }
     ensures out_after { out.new ≡ convert_output 2 1 index.now (length marks.old) (length work.old) out.old }
 {
-    converted(convert::convert_down(index, marks, work, out))
+    convert::convert_down(index, marks, work, out).into()
 }

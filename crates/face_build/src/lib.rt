@@ -5,22 +5,11 @@ ghost use Rattle.std.specs.Prelude.{◌≡◌, ◌++◌, length, drop};
 ghost use Rattle.lineage.specs.Stored.{form3};
 ghost use Rattle.lineage.specs.Calls.{turned_input, build_answer, build_work, build_output, build_call, build_call_work, build_call_output};
 ghost use Rattle.build.specs.Input.{input_of};
-ghost use Rattle.build.specs.Answers.{built_of};
 ghost use Rattle.text.specs.Output.{output};
 ghost use Rattle.face.specs.Host.{host_counted};
 
-use build::Built;
-use face::{DrobistenCounted, counted, not_counted};
+use face::DrobistenCounted;
 use text_run::MOST_OUTPUT;
-
-pub fn built(r: Built) -> DrobistenCounted
-    ensures { result ≡ host_counted (built_of r) }
-{
-    match r {
-        Built::Total(count) => counted(count),
-        Built::Refused { number, extra } => not_counted(number, extra),
-    }
-}
 
 // `build::build`.
 #[unsafe(no_mangle)]
@@ -38,7 +27,7 @@ pub extern "C" fn drobisten_build(
     ensures work_after { work.new ≡ build_call_work form (input_of n sources.now targets.now d orders.now) work.old }
     ensures out_after { out.new ≡ build_call_output form (input_of n sources.now targets.now d orders.now) (length work.old) out.old }
 {
-    built(build::build(form, n, sources, targets, orders, d, work, out))
+    build::build(form, n, sources, targets, orders, d, work, out).into()
 }
 
 // `turned::build_turned`.
@@ -56,7 +45,7 @@ pub extern "C" fn drobisten_build_turned(
     ensures work_after { work.new ≡ build_work form3 (turned_input (input_of n sources.now targets.now d orders.now)) work.old }
     ensures out_after { out.new ≡ build_output form3 (turned_input (input_of n sources.now targets.now d orders.now)) (length work.old) out.old }
 {
-    built(turned::build_turned(n, sources, targets, orders, d, work, out))
+    turned::build_turned(n, sources, targets, orders, d, work, out).into()
 }
 
 // `text_run::run`.

@@ -3,26 +3,13 @@
 
 ghost use Rattle.std.specs.Prelude.{◌≡◌, length};
 ghost use Rattle.exceptions.specs.Calls.{exceptions_built, exceptions_output, exceptions_opened, exceptions_asked, exception_marks};
-ghost use Rattle.exceptions.specs.Written.{written_of};
-ghost use Rattle.exceptions.specs.Opened.{opened_of};
-ghost use Rattle.exceptions.specs.Said.{said_of};
 ghost use Rattle.exceptions_all.specs.Batch.{all_exceptions, exceptions_answers};
-ghost use Rattle.exceptions_all.specs.Batched.{batched_of};
 ghost use Rattle.face.specs.Host.{host_asked_all, host_counted, host_said};
 ghost use Rattle.face_exceptions.specs.Lists.{host_lists};
 
-use exceptions::{Opened, Said, Written};
-use exceptions_all::Batched;
-use face::{DrobistenAskedAll, DrobistenCounted, DrobistenSaid, counted, not_counted};
-
-fn written(r: Written) -> DrobistenCounted
-    ensures { result ≡ host_counted (written_of r) }
-{
-    match r {
-        Written::Length(count) => counted(count),
-        Written::Refused { number, extra } => not_counted(number, extra),
-    }
-}
+use exceptions::Opened;
+use face::{DrobistenAskedAll, DrobistenCounted, DrobistenSaid};
+use refusals::Refusal;
 
 // `exceptions::build_exceptions`.
 #[unsafe(no_mangle)]
@@ -35,12 +22,12 @@ pub extern "C" fn drobisten_build_exceptions(
     ensures marks_after { marks.new ≡ exception_marks index.now marks.old }
     ensures out_after { out.new ≡ exceptions_output index.now (length marks.old) out.old }
 {
-    written(exceptions::build_exceptions(index, marks, out))
+    exceptions::build_exceptions(index, marks, out).into()
 }
 
 // What opening lists gives: a refusal with its extra number, or refusal 0 and of how many groups they are and how many entries they have.
 #[repr(C)]
-#[derive(Clone, Copy)]
+#[derive(Clone, Copy, Debug, PartialEq, Eq)]
 pub struct DrobistenLists {
     pub refusal: u32,
     pub extra: u32,
@@ -48,22 +35,27 @@ pub struct DrobistenLists {
     pub entries: u32,
 }
 
-fn lists_opened(r: Opened) -> DrobistenLists
-    ensures { result ≡ host_lists (opened_of r) }
-{
-    match r {
-        Opened::Lists { groups, entries } => DrobistenLists {
-            refusal: 0,
-            extra: 0,
-            groups,
-            entries,
-        },
-        Opened::Refused { number, extra } => DrobistenLists {
-            refusal: number,
-            extra,
-            groups: 0,
-            entries: 0,
-        },
+impl From<Result<Opened, Refusal>> for DrobistenLists {
+    ghost use Rattle.exceptions.specs.Opened.{opened_of};
+    ghost use Rattle.face_exceptions.specs.Lists.{host_lists};
+
+    ghost from_gives = { λ r host. host ≡ host_lists (opened_of r) };
+
+    fn from(r: Result<Opened, Refusal>) -> DrobistenLists {
+        match r {
+            Ok(Opened { groups, entries }) => DrobistenLists {
+                refusal: 0,
+                extra: 0,
+                groups,
+                entries,
+            },
+            Err(refusal) => DrobistenLists {
+                refusal: refusal.number(),
+                extra: refusal.extra(),
+                groups: 0,
+                entries: 0,
+            },
+        }
     }
 }
 
@@ -77,24 +69,7 @@ pub extern "C" fn drobisten_open_exceptions(
     ensures value { result ≡ host_lists (exceptions_opened index.now lists.now (length marks.old)) }
     ensures marks_after { marks.new ≡ exception_marks index.now marks.old }
 {
-    lists_opened(exceptions::open_exceptions(index, lists, marks))
-}
-
-fn said(r: Said) -> DrobistenSaid
-    ensures { result ≡ host_said (said_of r) }
-{
-    match r {
-        Said::Answer(says) => DrobistenSaid {
-            refusal: 0,
-            extra: 0,
-            yes: says as u32,
-        },
-        Said::Refused { number, extra } => DrobistenSaid {
-            refusal: number,
-            extra,
-            yes: 0,
-        },
-    }
+    exceptions::open_exceptions(index, lists, marks).into()
 }
 
 // `exceptions::ask_exceptions`.
@@ -109,24 +84,7 @@ pub extern "C" fn drobisten_ask_exceptions(
     ensures value { result ≡ host_said (exceptions_asked index.now lists.now source target (length marks.old)) }
     ensures marks_after { marks.new ≡ exception_marks index.now marks.old }
 {
-    said(exceptions::ask_exceptions(index, lists, source, target, marks))
-}
-
-fn batched(r: Batched) -> DrobistenAskedAll
-    ensures { result ≡ host_asked_all (batched_of r) }
-{
-    match r {
-        Batched::Count(count) => DrobistenAskedAll {
-            refusal: 0,
-            extra: 0,
-            count,
-        },
-        Batched::Refused { number, extra } => DrobistenAskedAll {
-            refusal: number,
-            extra,
-            count: 0,
-        },
-    }
+    exceptions::ask_exceptions(index, lists, source, target, marks).into()
 }
 
 // `exceptions_all::ask_all_exceptions`: three numbers a pair, in the order of `DrobistenSaid`.
@@ -143,5 +101,5 @@ pub extern "C" fn drobisten_ask_all_exceptions(
     ensures marks_after { marks.new ≡ exception_marks index.now marks.old }
     ensures answers_after { answers.new ≡ exceptions_answers index.now lists.now sources.now targets.now (length marks.old) answers.old }
 {
-    batched(exceptions_all::ask_all_exceptions(index, lists, sources, targets, marks, answers))
+    exceptions_all::ask_all_exceptions(index, lists, sources, targets, marks, answers).into()
 }

@@ -9,9 +9,7 @@ ghost use Rattle.convert.specs.Convert.{convert_marks, convert_work};
 ghost use Rattle.hierarchy.specs.Turn.{turn_answer, turn_output};
 ghost use Rattle.face.specs.Host.{host_opened, host_asked, host_counted};
 
-use face::{DrobistenAsked, DrobistenCounted, DrobistenOpened, asked, opened};
-use face_ask::converted;
-use face_build::built;
+use face::{DrobistenAsked, DrobistenCounted, DrobistenOpened};
 
 // `build::build_hierarchy`.
 #[unsafe(no_mangle)]
@@ -28,7 +26,7 @@ pub extern "C" fn drobisten_build_hierarchy(
     ensures work_after { work.new ≡ build_work form4 (input_of n sources.now targets.now d orders.now) work.old }
     ensures out_after { out.new ≡ build_output form4 (input_of n sources.now targets.now d orders.now) (length work.old) out.old }
 {
-    built(build::build_hierarchy(n, sources, targets, orders, d, work, out))
+    build::build_hierarchy(n, sources, targets, orders, d, work, out).into()
 }
 
 // `hierarchy::open_hierarchy`.
@@ -42,7 +40,7 @@ pub extern "C" fn drobisten_inspect_hierarchy(
     ensures marks_after { marks.new ≡ open_marks hierarchy index.now marks.old (length work.old) }
     ensures work_after { work.new ≡ open_work hierarchy index.now (length marks.old) work.old }
 {
-    opened(hierarchy::open_hierarchy(index, marks, work))
+    hierarchy::open_hierarchy(index, marks, work).into()
 }
 
 // `hierarchy::ask_hierarchy`.
@@ -58,7 +56,7 @@ pub extern "C" fn drobisten_question_hierarchy(
     ensures marks_after { marks.new ≡ ask_marks hierarchy index.now source target marks.old (length work.old) }
     ensures work_after { work.new ≡ ask_work hierarchy index.now source target (length marks.old) work.old }
 {
-    asked(hierarchy::ask_hierarchy(index, source, target, marks, work))
+    hierarchy::ask_hierarchy(index, source, target, marks, work).into()
 }
 
 // `hierarchy::to_hierarchy`: form 2 as form 4.
@@ -74,7 +72,7 @@ pub extern "C" fn drobisten_to_hierarchy(
     ensures work_after { work.new ≡ convert_work 2 index.now (length marks.old) work.old }
     ensures out_after { out.new ≡ turn_output 2 4 index.now (length marks.old) (length work.old) out.old }
 {
-    converted(hierarchy::to_hierarchy(index, marks, work, out))
+    hierarchy::to_hierarchy(index, marks, work, out).into()
 }
 
 // `hierarchy::from_hierarchy`: form 4 as form 2.
@@ -90,5 +88,5 @@ pub extern "C" fn drobisten_from_hierarchy(
     ensures work_after { work.new ≡ convert_work 4 index.now (length marks.old) work.old }
     ensures out_after { out.new ≡ turn_output 4 2 index.now (length marks.old) (length work.old) out.old }
 {
-    converted(hierarchy::from_hierarchy(index, marks, work, out))
+    hierarchy::from_hierarchy(index, marks, work, out).into()
 }

@@ -3,24 +3,12 @@
 
 ghost use Rattle.std.specs.Prelude.{◌≡◌, length};
 ghost use Rattle.lineage.specs.Calls.{ordinary, turned, list_answer, list_marks, list_work, list_output};
-ghost use Rattle.list.specs.Listed.{listed_of};
 ghost use Rattle.chain.specs.Traced.{chain_answer, chain_marks, chain_work, chain_output};
-ghost use Rattle.chain.specs.Chained.{chained_of};
 ghost use Rattle.face.specs.Host.{host_counted};
 ghost use Rattle.face_list.specs.Chained.{host_chained};
 
-use chain::Chained;
-use face::{DrobistenCounted, counted, not_counted};
-use list::Listed;
-
-fn listed(r: Listed) -> DrobistenCounted
-    ensures { result ≡ host_counted (listed_of r) }
-{
-    match r {
-        Listed::Count(count) => counted(count),
-        Listed::Refused { number, extra } => not_counted(number, extra),
-    }
-}
+use face::DrobistenCounted;
+use refusals::Refusal;
 
 // `list::list`.
 #[unsafe(no_mangle)]
@@ -36,7 +24,7 @@ pub extern "C" fn drobisten_list(
     ensures work_after { work.new ≡ list_work ordinary index.now vertex (length marks.old) work.old }
     ensures out_after { out.new ≡ list_output ordinary index.now vertex (length marks.old) (length work.old) out.old }
 {
-    listed(list::list(index, vertex, marks, work, out))
+    list::list(index, vertex, marks, work, out).into()
 }
 
 // `turned::list_turned`.
@@ -53,12 +41,12 @@ pub extern "C" fn drobisten_list_turned(
     ensures work_after { work.new ≡ list_work turned index.now vertex (length marks.old) work.old }
     ensures out_after { out.new ≡ list_output turned index.now vertex (length marks.old) (length work.old) out.old }
 {
-    listed(turned::list_turned(index, vertex, marks, work, out))
+    turned::list_turned(index, vertex, marks, work, out).into()
 }
 
 // What a chain gives: a refusal with its extra number, or refusal 0, whether there is a chain, and its steps.
 #[repr(C)]
-#[derive(Clone, Copy)]
+#[derive(Clone, Copy, Debug, PartialEq, Eq)]
 pub struct DrobistenChained {
     pub refusal: u32,
     pub extra: u32,
@@ -66,28 +54,33 @@ pub struct DrobistenChained {
     pub steps: u32,
 }
 
-fn chained(r: Chained) -> DrobistenChained
-    ensures { result ≡ host_chained (chained_of r) }
-{
-    match r {
-        Chained::Steps(count) => DrobistenChained {
-            refusal: 0,
-            extra: 0,
-            yes: 1,
-            steps: count,
-        },
-        Chained::No => DrobistenChained {
-            refusal: 0,
-            extra: 0,
-            yes: 0,
-            steps: 0,
-        },
-        Chained::Refused { number, extra } => DrobistenChained {
-            refusal: number,
-            extra,
-            yes: 0,
-            steps: 0,
-        },
+impl From<Result<Option<u32>, Refusal>> for DrobistenChained {
+    ghost use Rattle.chain.specs.Chained.{chained_of};
+    ghost use Rattle.face_list.specs.Chained.{host_chained};
+
+    ghost from_gives = { λ r host. host ≡ host_chained (chained_of r) };
+
+    fn from(r: Result<Option<u32>, Refusal>) -> DrobistenChained {
+        match r {
+            Ok(Some(count)) => DrobistenChained {
+                refusal: 0,
+                extra: 0,
+                yes: 1,
+                steps: count,
+            },
+            Ok(None) => DrobistenChained {
+                refusal: 0,
+                extra: 0,
+                yes: 0,
+                steps: 0,
+            },
+            Err(refusal) => DrobistenChained {
+                refusal: refusal.number(),
+                extra: refusal.extra(),
+                yes: 0,
+                steps: 0,
+            },
+        }
     }
 }
 
@@ -106,5 +99,5 @@ pub extern "C" fn drobisten_chain(
     ensures work_after { work.new ≡ chain_work ordinary index.now source target (length marks.old) work.old }
     ensures steps_after { steps.new ≡ chain_output ordinary index.now source target (length marks.old) (length work.old) steps.old }
 {
-    chained(chain::chain(index, source, target, marks, work, steps))
+    chain::chain(index, source, target, marks, work, steps).into()
 }

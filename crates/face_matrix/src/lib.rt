@@ -5,18 +5,15 @@ ghost use Rattle.std.specs.Prelude.{◌≡◌, length};
 ghost use Rattle.lineage.specs.Stored.{form2};
 ghost use Rattle.build_orders.specs.Input.{graph_of};
 ghost use Rattle.matrix_lines.specs.Calls.{matrix_read_answer, matrix_read_sources, matrix_read_targets, matrix_write_answer, matrix_write_output};
-ghost use Rattle.matrix_read.specs.Answer.{read_of};
-ghost use Rattle.matrix_write.specs.Written.{written_of};
 ghost use Rattle.face.specs.Host.{host_counted};
 ghost use Rattle.face_matrix.specs.Matrix.{host_matrix};
 
-use face::{DrobistenCounted, counted, not_counted};
-use matrix_read::MatrixRead;
-use matrix_write::Written;
+use face::DrobistenCounted;
+use matrix_read::{MatrixRead, MatrixRefusal};
 
 // What reading a text gives: a refusal with its extra number, or refusal 0, n and the number of edges.
 #[repr(C)]
-#[derive(Clone, Copy)]
+#[derive(Clone, Copy, Debug, PartialEq, Eq)]
 pub struct DrobistenMatrix {
     pub refusal: u32,
     pub extra: usize,
@@ -24,22 +21,27 @@ pub struct DrobistenMatrix {
     pub edges: usize,
 }
 
-fn matrix(r: MatrixRead) -> DrobistenMatrix
-    ensures { result ≡ host_matrix (read_of r) }
-{
-    match r {
-        MatrixRead::Says { n, edges } => DrobistenMatrix {
-            refusal: 0,
-            extra: 0,
-            n,
-            edges,
-        },
-        MatrixRead::Refused { number, extra } => DrobistenMatrix {
-            refusal: number,
-            extra,
-            n: 0,
-            edges: 0,
-        },
+impl From<Result<MatrixRead, MatrixRefusal>> for DrobistenMatrix {
+    ghost use Rattle.matrix_read.specs.Answer.{read_of};
+    ghost use Rattle.face_matrix.specs.Matrix.{host_matrix};
+
+    ghost from_gives = { λ r host. host ≡ host_matrix (read_of r) };
+
+    fn from(r: Result<MatrixRead, MatrixRefusal>) -> DrobistenMatrix {
+        match r {
+            Ok(MatrixRead { n, edges }) => DrobistenMatrix {
+                refusal: 0,
+                extra: 0,
+                n,
+                edges,
+            },
+            Err(refusal) => DrobistenMatrix {
+                refusal: refusal.number(),
+                extra: refusal.extra(),
+                n: 0,
+                edges: 0,
+            },
+        }
     }
 }
 
@@ -54,16 +56,7 @@ pub extern "C" fn drobisten_read_matrix(
     ensures sources_after { sources.new ≡ matrix_read_sources form2 text.now sources.old targets.old }
     ensures targets_after { targets.new ≡ matrix_read_targets form2 text.now sources.old targets.old }
 {
-    matrix(matrix_read::read_matrix(text, sources, targets))
-}
-
-fn written(r: Written) -> DrobistenCounted
-    ensures { result ≡ host_counted (written_of r) }
-{
-    match r {
-        Written::Total(count) => counted(count),
-        Written::Refused { number, extra } => not_counted(number, extra),
-    }
+    matrix_read::read_matrix(text, sources, targets).into()
 }
 
 // `matrix_write::write_matrix`.
@@ -77,5 +70,5 @@ pub extern "C" fn drobisten_write_matrix(
     ensures value { result ≡ host_counted (matrix_write_answer form2 (graph_of n sources.now targets.now) (length out.old)) }
     ensures out_after { out.new ≡ matrix_write_output form2 (graph_of n sources.now targets.now) out.old }
 {
-    written(matrix_write::write_matrix(n, sources, targets, out))
+    matrix_write::write_matrix(n, sources, targets, out).into()
 }

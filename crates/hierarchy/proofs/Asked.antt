@@ -24,7 +24,7 @@ use Rattle.stored.proofs.Sections.{s_at, e_at, children_long}
 use Rattle.stored.proofs.Contents.{index_at_lem, stretch_of, with_names}
 use Rattle.sound_places.specs.Lent.{SoundBytes, Lent}
 use Rattle.sound_places.proofs.Lent.{lent}
-use Rattle.ask.specs.declared.question.Reply.{Reply}
+use Rattle.ask.specs.declared.Asked.{Asked}
 use Rattle.ask.specs.Replies.{answer_by}
 use Rattle.ask.proofs.Refusals.{Replies, replies_answered}
 use Rattle.hierarchy_labels.specs.Pairs.{by_reason, Pairs, Decides}
@@ -127,7 +127,7 @@ module _ (b : List ℕ) (u v : ℕ) (marks : List ℕ) {l : Layout} (M : Laid b 
       → deciding ≡ cond (eqb reason 2 || eqb reason 4) 1 0 → Replies b u v marks (answered (record { says = says; reason = reason; opened = 0; deciding = deciding })) m
   unfolding cleared
   replies_by reason {says} {deciding} told says_is deciding_is =
-      let q : Reply = record { says = says; reason = reason; deciding = deciding; opened = 0 } in
+      let q : Asked = record { says = says; reason = reason; deciding = deciding; opened = 0 } in
       let same : answer_by q (replicate l.n 0) ≡ answer (index_in b) u v = rw (says_is, deciding_is) (sym told) in
       let (o, k) = replies_answered b u v marks M left passed q (replicate l.n 0) same in
       let kept : m ≡ replicate l.n 0 ++ drop l.n m = left ∙ ap (λ (x : List ℕ). replicate l.n 0 ++ x) (sym (ap (drop l.n) left ∙ cleared_past l.n marks)) in

@@ -22,11 +22,12 @@ use Rattle.numbers.proofs.Written.{Bytes}
 use Rattle.stored_header.specs.Header.{header_checks}
 use Rattle.stored_header.proofs.Forms.{form_each}
 use Rattle.stored_header.proofs.Admitted.{header_pass, lent_pass}
-use Rattle.convert.specs.declared.Converted.{Converted}
+use Rattle.std.specs.Prelude.{Result}
+use Rattle.refusals.specs.declared.Refusal.{Refusal}
+use Rattle.refusals.proofs.Told.{outcome_once}
 use Rattle.convert.specs.Convert.{converted, only, convert_early}
 use Rattle.convert.proofs.Same.{Alike as SameIndex, Fewer, none, keep, pass, fewer_outcome, asked_same, ask_marks_same}
 use Rattle.convert.proofs.Theorems.{header_fit, Turnable, counts_kept, index_kept, words_turned, turned_opens, turned_alike, turned_back, turnable_back}
-use Rattle.convert.proofs.Finished.{converted_one}
 use Rattle.hierarchy.specs.Turn.{turn_late, turn_answer, turn_output}
 use Rattle.hierarchy.specs.Turned.{Allowed}
 use Rattle.hierarchy.proofs.Admitted.{number_is, form_is}
@@ -256,9 +257,9 @@ from_alike b marks work out e =
     (subst⁻¹ Alike (index_kept C) (pairs_alike (form_of (header_at b 0)) b (ap (λ (G : Form). G.by_place) (form_is 4 b C.header))))
 
 -- Two results that the contract allows are equal.
-pub turned_once : {from to : ℕ} {b marks work out : List ℕ} {r r' : Converted} {m m' w w' o o' : List ℕ}
+pub turned_once : {from to : ℕ} {b marks work out : List ℕ} {r r' : Result ℕ Refusal} {m m' w w' o o' : List ℕ}
     → Allowed from to b marks work out r m w o
     → Allowed from to b marks work out r' m' w' o'
     → (r ≡ r') × ((m ≡ m') × ((w ≡ w') × (o ≡ o')))
 turned_once {r = r} {r'} A B =
-    (converted_one r r' (A.answers ∙ sym B.answers), (A.leaves ∙ sym B.leaves, (A.clears ∙ sym B.clears, A.writes ∙ sym B.writes)))
+    (outcome_once (λ (total : ℕ). total) (λ n n' e. e) r r' (A.answers ∙ sym B.answers), (A.leaves ∙ sym B.leaves, (A.clears ∙ sym B.clears, A.writes ∙ sym B.writes)))

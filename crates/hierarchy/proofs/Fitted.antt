@@ -28,8 +28,9 @@ use Rattle.stored_header.proofs.Laid.{k_is, d_is}
 use Rattle.stored.specs.Sections.{Section}
 use Rattle.stored.proofs.Contents.{children_many}
 use Rattle.sound_parents.proofs.First.{first_tells}
-use Rattle.convert.specs.declared.Converted.{Converted}
-use Rattle.convert.specs.declared.Converted.TheVariants.{Total, Refused}
+use Rattle.std.specs.Prelude.{Result, Ok, Err}
+use Rattle.refusals.specs.declared.Refusal.{Refusal}
+use Rattle.refusals.specs.declared.Refusal.TheVariants.{SharedChild, OutputShort}
 use Rattle.convert.specs.Convert.{converted}
 use Rattle.convert.specs.Converted.{converted_of}
 use Rattle.hierarchy.specs.Turn.{plain_checks}
@@ -139,7 +140,7 @@ module _ {b : List ℕ} {l : Layout} {form : ℕ} {row : Row} (O : Other b l for
 
   module _ (out : List ℕ) where
     -- the checks stop at number i: 4, 22, 9, none
-    turned_at : (i : ℕ) → Stops (plain_checks G b (length out)) i → {r : Converted} → converted_of r ≡ stopped (plain_checks G b (length out)) i needed
+    turned_at : (i : ℕ) → Stops (plain_checks G b (length out)) i → {r : Result ℕ Refusal} → converted_of r ≡ stopped (plain_checks G b (length out)) i needed
         → Turned G b out r (cond (ltb i 3) out (converted G b ++ drop needed out))
     turned_at i s e = record {
       answers = e ∙ sym (stops_outcome needed (plain_checks G b (length out)) i s);
@@ -148,9 +149,6 @@ module _ {b : List ℕ} {l : Layout} {form : ℕ} {row : Row} (O : Other b l for
 
     several_is : {t : Bool} → (row.tree && not (eqb l.d 1)) ≡ t → (G.tree && not (eqb (counts_in b).d 1)) ≡ t
     several_is e = ap₂ (λ (t : Bool) (d : ℕ). t && not (eqb d 1)) (sym tree_is) (sym (d_is L)) ∙ e
-
-    pub turned_several : (row.tree && not (eqb l.d 1)) ≡ true → Turned G b out (Refused 4 0) out
-    turned_several h = turned_at 0 (several_is h) refl
 
     module _ (single : (row.tree && not (eqb l.d 1)) ≡ false) where
       one : l.d ≡ 1
@@ -169,15 +167,15 @@ module _ {b : List ℕ} {l : Layout} {form : ℕ} {row : Row} (O : Other b l for
       }
 
       module _ {first : ℕ} (found : first ≡ cond row.tree (first_of (shared children) (upto k) k) k) where
-        pub turned_shared : first < k → {groups : List ℕ} → Section b l 1 groups → {name : ℕ} → name ≡ num_at l.width groups first → Turned G b out (Refused 22 name) out
+        pub turned_shared : first < k → {groups : List ℕ} → Section b l 1 groups → {name : ℕ} → name ≡ num_at l.width groups first → Turned G b out (Err (SharedChild name)) out
         turned_shared low R e = turned_at 1 (several_is single, shared_some found low) (ap (refused 22) (name_is found low R e))
 
         module _ (none : k ≤ first) {to : Layout} (T : Between b l form to) where
-          pub turned_short : length out < to.total → Turned G b out (Refused 9 to.total) out
+          pub turned_short : length out < to.total → Turned G b out (Err (OutputShort to.total)) out
           turned_short h =
               turned_at 2 (several_is single, (plain_none found none, lt-ltb (length out) needed (omega (arith, converted_long T)))) (ap (refused 9) (converted_long T))
 
-          pub turned_whole : to.total ≤ length out → {t : List ℕ} → t ≡ put out 0 (converted G b) → Turned G b out (Total to.total) t
+          pub turned_whole : to.total ≤ length out → {t : List ℕ} → t ≡ put out 0 (converted G b) → Turned G b out (Ok to.total) t
           turned_whole h e =
-              subst⁻¹ (Turned G b out (Total to.total)) (e ∙ put_start out (converted G b))
+              subst⁻¹ (Turned G b out (Ok to.total)) (e ∙ put_start out (converted G b))
               (turned_at 3 (several_is single, (plain_none found none, (le-ltb (length out) needed (omega (arith, converted_long T)), tt))) (ap answered (converted_long T)))

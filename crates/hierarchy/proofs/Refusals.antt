@@ -11,7 +11,8 @@ use Rattle.lineage.specs.Calls.{Check, Outcome, refused, outcome}
 use Rattle.stored_header.specs.declared.Layout.{Layout}
 use Rattle.stored_header.specs.Header.{layout_in, words_of}
 use Rattle.stored_header.proofs.Admitted.{Admits}
-use Rattle.convert.specs.declared.Converted.{Converted}
+use Rattle.std.specs.Prelude.{Result}
+use Rattle.refusals.specs.declared.Refusal.{Refusal}
 use Rattle.convert.specs.Convert.{converted, only, convert_early, convert_marks, convert_work}
 use Rattle.convert.specs.Converted.{converted_of}
 use Rattle.convert.proofs.Refusals.{Leaves, leaves_refused, leaves_unsound, leaves_own}
@@ -49,5 +50,5 @@ module _ (from to : ℕ) (b marks work out : List ℕ) where
       pub turns_unsound : not t ≡ true → Turns (refused 15 0) m w out
       turns_unsound h = turns (leaves_unsound from b marks work out bytes own A told left need clears h)
 
-      pub turns_turned : not t ≡ false → {r : Converted} {f : List ℕ} → Turned G b out r f → Turns (converted_of r) m w f
+      pub turns_turned : not t ≡ false → {r : Result ℕ Refusal} {f : List ℕ} → Turned G b out r f → Turns (converted_of r) m w f
       turns_turned h W = turns (leaves_own from b marks work out bytes own A told left need clears h W.answers W.writes)

@@ -1,19 +1,19 @@
 -- What the conversions answer and leave, as the definitions have it.
-use Rattle.std.specs.Prelude.{cond, ◌≡◌, List, ◌++◌, ℕ, length, drop}
+use Rattle.std.specs.Prelude.{cond, ◌≡◌, List, ◌++◌, ℕ, length, drop, Result}
 use Rattle.lineage.specs.Stored.{Form}
 use Rattle.lineage.specs.Calls.{outcome, any_applies}
-use Rattle.convert.specs.declared.Converted.{Converted}
+use Rattle.refusals.specs.declared.Refusal.{Refusal}
 use Rattle.convert.specs.Convert.{converted, convert_marks, convert_work}
 use Rattle.convert.specs.Converted.{converted_of}
 use Rattle.hierarchy.specs.Turn.{plain_checks, turn_answer, turn_output}
 
 -- behind 15: what may be answered, and what the output may hold afterwards
-pub record Turned (G : Form) (b out : List ℕ) (r : Converted) (out' : List ℕ) : Type 0 where
+pub record Turned (G : Form) (b out : List ℕ) (r : Result ℕ Refusal) (out' : List ℕ) : Type 0 where
   pub answers : converted_of r ≡ outcome (plain_checks G b (length out)) (length (converted G b))
   pub writes : out' ≡ cond (any_applies (plain_checks G b (length out))) out (converted G b ++ drop (length (converted G b)) out)
 
 -- of bytes, marks, words and an output: what may be answered, and what each may hold afterwards
-pub record Allowed (from to : ℕ) (b marks work out : List ℕ) (r : Converted) (marks' work' out' : List ℕ) : Type 0 where
+pub record Allowed (from to : ℕ) (b marks work out : List ℕ) (r : Result ℕ Refusal) (marks' work' out' : List ℕ) : Type 0 where
   pub answers : converted_of r ≡ turn_answer from to b (length marks) (length work) (length out)
   pub leaves : marks' ≡ convert_marks from b marks (length work)
   pub clears : work' ≡ convert_work from b (length marks) work

@@ -21,19 +21,18 @@ ghost use Rattle.hierarchy.specs.Turned.{Turned};
 ghost use Rattle.hierarchy.specs.Fit.{Plain, Partners, Wide, Between};
 
 use ask::Asked;
-use convert::Converted;
 use hierarchy_labels::decide;
 use numbers::{clear_words, num};
 use open::{Opened, contents_sound};
-use refusals::{BAD_LABELLINGS, BAD_VERTEX, NOT_SOUND, OUTPUT_SHORT, SHARED_CHILD};
+use refusals::Refusal;
 use sound_parents::first_shared;
 use sound_places::place_of;
 use stored::parts;
-use stored_header::{Header, Layout, admit, form_row, lay_out, words_needed};
+use stored_header::{Layout, admit, form_row, lay_out, words_needed};
 
 // Opens a stored index of form 4: refusals 10 to 13, 6 and 15 in order, or its counts. Marks below n and the needed words are 0 after 15 and after success; the refusals
 // before leave them as they were.
-pub fn open_hierarchy(index: &[u8], marks: &mut [u8], work: &mut [u32]) -> Opened
+pub fn open_hierarchy(index: &[u8], marks: &mut [u8], work: &mut [u32]) -> Result<Opened, Refusal>
     ensures result_value { opened_of result ≡ open_answer hierarchy index.now (length marks.old) (length work.old) }
     ensures marks_after { marks.new ≡ open_marks hierarchy index.now marks.old (length work.old) }
     ensures work_after { work.new ≡ open_work hierarchy index.now (length marks.old) work.old }
@@ -68,7 +67,7 @@ fn deciding_for(reason: u32) -> u32
 }
 
 // The question on bytes of a layout, for vertices below n: 15, or the answer. The marks below n are 0 after either.
-fn ask_laid(index: &[u8], l: Layout, u: usize, v: usize, marks: &mut [u8]) -> Asked
+fn ask_laid(index: &[u8], l: Layout, u: usize, v: usize, marks: &mut [u8]) -> Result<Asked, Refusal>
     requires laid { Laid index.now l }
     requires plain { Plain l }
     requires u_lt_n { (u < l.n) × ((v < l.n) × (l.n ≤ length marks.old)) }
@@ -76,18 +75,15 @@ fn ask_laid(index: &[u8], l: Layout, u: usize, v: usize, marks: &mut [u8]) -> As
     ensures marks_after { marks.new ≡ marks_laid index.now u v marks.old }
 {
     if !contents_sound(index, l, marks) {
-        return Asked::Refused {
-            number: NOT_SOUND,
-            extra: 0,
-        };
+        return Err(Refusal::NotSound);
     }
     let reason = reason_between(index, l, u, v);
-    Asked::Answer {
+    Ok(Asked {
         says: reason <= 2,
         reason,
         opened: 0,
         deciding: deciding_for(reason),
-    }
+    })
 }
 
 // Whether the source reaches the target, by the index of form 4 that the bytes hold: refusals 10 to 13, 6, 14 and 15 in order, or the answer under one of the reasons 1
@@ -98,28 +94,19 @@ pub fn ask_hierarchy(
     target: u32,
     marks: &mut [u8],
     work: &mut [u32],
-) -> Asked
+) -> Result<Asked, Refusal>
     ensures result_value { asked_of result ≡ ask_answer hierarchy index.now source target (length marks.old) (length work.old) }
     ensures marks_after { marks.new ≡ ask_marks hierarchy index.now source target marks.old (length work.old) }
     ensures work_after { work.new ≡ ask_work hierarchy index.now source target (length marks.old) work.old }
 {
-    let l = match admit(4, 4, index, marks.len(), work.len()) {
-        Header::Refused { number, extra } => return Asked::Refused { number, extra },
-        Header::Passed(l) => l,
-    };
+    let l = admit(4, 4, index, marks.len(), work.len())?;
     let u = source as usize;
     let v = target as usize;
     if l.n <= u {
-        return Asked::Refused {
-            number: BAD_VERTEX,
-            extra: 0,
-        };
+        return Err(Refusal::BadVertex(0));
     }
     if l.n <= v {
-        return Asked::Refused {
-            number: BAD_VERTEX,
-            extra: 1,
-        };
+        return Err(Refusal::BadVertex(1));
     }
     clear_words(work, words_needed(l));
     ask_laid(index, l, u, v, marks)
@@ -160,7 +147,13 @@ fn first_child_of_two(index: &[u8], l: Layout, tree: bool, marks: &mut [u8]) -> 
 }
 
 // Sound bytes turned into the form with this number: refusals 4, 22 and 9, or what is written.
-fn turn_sound(index: &[u8], l: Layout, form: usize, marks: &mut [u8], out: &mut [u8]) -> Converted
+fn turn_sound(
+    index: &[u8],
+    l: Layout,
+    form: usize,
+    marks: &mut [u8],
+    out: &mut [u8],
+) -> Result<u32, Refusal>
     requires wide { Wide index.now l form }
     requires d_value { (form_of form).tree ≡ false → l.d ≡ 1 }
     requires n_in_bounds { (l.n ≤ length marks.old) × (marks.old ≡ cleared l.n marks.old) }
@@ -171,27 +164,18 @@ fn turn_sound(index: &[u8], l: Layout, form: usize, marks: &mut [u8], out: &mut 
     let to = lay_out(4, row.stride, l.n, l.k, l.c, l.d);
     let short = out.len() < to.total;
     if row.tree & (l.d != 1) {
-        return Converted::Refused {
-            number: BAD_LABELLINGS,
-            extra: 0,
-        };
+        return Err(Refusal::BadLabellings);
     }
     let first = first_child_of_two(index, l, row.tree, marks);
     if first < l.k {
         let name = num(parts::groups(index, l), l.width, first);
-        return Converted::Refused {
-            number: SHARED_CHILD,
-            extra: name as u32,
-        };
+        return Err(Refusal::SharedChild(name as u32));
     }
     if short {
-        return Converted::Refused {
-            number: OUTPUT_SHORT,
-            extra: to.total as u32,
-        };
+        return Err(Refusal::OutputShort(to.total as u32));
     }
     write_plain(index, l, form, to, out);
-    Converted::Total(to.total as u32)
+    Ok(to.total as u32)
 }
 
 // Turns a stored index of form `from` into form `to`, of the forms 2 and 4: the first of the refusals 10 to 13, 6, 15, 4, 22 and 9 that applies, or the length of what is
@@ -204,29 +188,28 @@ fn turn_between(
     marks: &mut [u8],
     work: &mut [u32],
     out: &mut [u8],
-) -> Converted
+) -> Result<u32, Refusal>
     requires { Partners from to }
     ensures result_value { converted_of result ≡ turn_answer from to index.now (length marks.old) (length work.old) (length out.old) }
     ensures marks_after { marks.new ≡ convert_marks from index.now marks.old (length work.old) }
     ensures work_after { work.new ≡ convert_work from index.now (length marks.old) work.old }
     ensures out_after { out.new ≡ turn_output from to index.now (length marks.old) (length work.old) out.old }
 {
-    let l = match admit(from, from, index, marks.len(), work.len()) {
-        Header::Refused { number, extra } => return Converted::Refused { number, extra },
-        Header::Passed(l) => l,
-    };
+    let l = admit(from, from, index, marks.len(), work.len())?;
     clear_words(work, words_needed(l));
     if !contents_sound(index, l, marks) {
-        return Converted::Refused {
-            number: NOT_SOUND,
-            extra: 0,
-        };
+        return Err(Refusal::NotSound);
     }
     turn_sound(index, l, to, marks, out)
 }
 
 // Turns an index of form 2 into form 4, where it has one labelling and is a plain hierarchy.
-pub fn to_hierarchy(index: &[u8], marks: &mut [u8], work: &mut [u32], out: &mut [u8]) -> Converted
+pub fn to_hierarchy(
+    index: &[u8],
+    marks: &mut [u8],
+    work: &mut [u32],
+    out: &mut [u8],
+) -> Result<u32, Refusal>
     ensures result_value { converted_of result ≡ turn_answer 2 4 index.now (length marks.old) (length work.old) (length out.old) }
     ensures marks_after { marks.new ≡ convert_marks 2 index.now marks.old (length work.old) }
     ensures work_after { work.new ≡ convert_work 2 index.now (length marks.old) work.old }
@@ -236,7 +219,12 @@ pub fn to_hierarchy(index: &[u8], marks: &mut [u8], work: &mut [u32], out: &mut 
 }
 
 // Turns an index of form 4 into form 2, with m = s.
-pub fn from_hierarchy(index: &[u8], marks: &mut [u8], work: &mut [u32], out: &mut [u8]) -> Converted
+pub fn from_hierarchy(
+    index: &[u8],
+    marks: &mut [u8],
+    work: &mut [u32],
+    out: &mut [u8],
+) -> Result<u32, Refusal>
     ensures result_value { converted_of result ≡ turn_answer 4 2 index.now (length marks.old) (length work.old) (length out.old) }
     ensures marks_after { marks.new ≡ convert_marks 4 index.now marks.old (length work.old) }
     ensures work_after { work.new ≡ convert_work 4 index.now (length marks.old) work.old }

@@ -21,13 +21,9 @@ use Rattle.build_writing.specs.Words.{label_by}
 use Rattle.build_writing.proofs.Labellings.{label_long}
 use Rattle.hierarchy_labels.specs.Turned.{label_from, labelling_of, ByPlace}
 
--- of k groups those of group p lie where those before it end
-module _ {out : List ℕ} {at : ℕ} {tuples : List ℕ} {w z y k : ℕ} (B : ByPlace out at tuples w z y k) (p q : ℕ) (here : q ≡ at + w * (y * p)) where
-  pub next_at : q + w * y ≡ at + w * (y * (p + 1))
-  next_at = omega arith
-
-  pub next_room : p < k → q + w * y ≤ length out
-  next_room h = omega (arith, next_at, mul-le-mul_left w (mul-le-mul_left y (let next : p + 1 ≤ k = omega arith in next)), B.room)
+-- the labels of each group lie within what is lent
+pub next_room : {out : List ℕ} {at : ℕ} {tuples : List ℕ} {w z y k : ℕ} → ByPlace out at tuples w z y k → (p : ℕ) → p < k → at + w * (y * p) + w * y ≤ length out
+next_room {w = w} {y = y} {k = k} B p h = omega (arith, mul-le-mul_left w (mul-le-mul_left y (let next : p + 1 ≤ k = omega arith in next)), B.room)
 
 -- what was read of group p
 pub label_was : (w z y : ℕ) (tuples : List ℕ) (p : ℕ) {s m e : ℕ}

@@ -40,16 +40,11 @@ fn write_by_place(out: &mut [u8], at: usize, tuples: &[u8], w: usize, z: usize, 
     requires { ByPlace out.old at tuples.now w z y k }
     ensures { out.new ≡ put out.old at (written w (joined (map (label_from w z y tuples.now) (upto k)))) }
 {
-    let step = bytes_of(w, y);
-    let mut q = at;
-    let mut p = 0;
-    while p < k {
+    for p in 0..k {
         let s = s_of(tuples, w, z, k, p);
         let m = m_of(tuples, w, z, k, p);
         let e = e_of(tuples, w, z, k, p);
-        build_writing::write_label(out, q, w, y, s as u32, m as u32, e as u32);
-        q += step;
-        p += 1;
+        build_writing::write_label(out, at + w * (y * p), w, y, s as u32, m as u32, e as u32);
     }
 }
 

@@ -5,16 +5,17 @@ use mathlib.Core.List.{List, [], ◌∷◌, ◌++◌}
 use Prim.Native.Nat.{ℕ}
 use lib.Dec.{leb, ltb}
 use lib.ListN.{length, drop}
+use Rattle.std.specs.Prelude.{Result}
 use Rattle.lineage.specs.Lists.{cleared}
 use Rattle.lineage.specs.Stored.{counts_in}
 use Rattle.lineage.specs.Question.{downstream}
 use Rattle.lineage.specs.Calls.{Check, check, Outcome, refused, outcome, FormsTaken, words_in, form_checks, contents_check, index_in, list_late, list_answer, list_marks, list_work, list_output}
+use Rattle.refusals.specs.declared.Refusal.{Refusal}
 use Rattle.stored_header.specs.declared.Layout.{Layout}
 use Rattle.laws.specs.Checks.{Stops, Pass, stopped, Comes}
 use Rattle.stored_header.specs.Header.{layout_in}
 use Rattle.laws.proofs.Checks.{pass_both, refused_comes, stops_comes, rest_comes}
 use Rattle.stored_header.proofs.Admitted.{Admits, admitted}
-use Rattle.list.specs.declared.Listed.{Listed}
 use Rattle.list.specs.Listed.{listed_of, room_checks, Fills}
 
 module _ (T : FormsTaken) (b : List ℕ) (u : ℕ) (marks work out : List ℕ) where
@@ -56,7 +57,7 @@ module _ (T : FormsTaken) (b : List ℕ) (u : ℕ) (marks work out : List ℕ) w
     lists_at i s = lists_by_lem (stops_comes (length found) first own late i (admitted A) s)
 
     -- where 14 and 15 do not apply, 16 decides
-    pub lists_filled : Pass (own ++ (contents_check b ∷ [])) → {r : Listed} {f : List ℕ} → Fills found out r f
+    pub lists_filled : Pass (own ++ (contents_check b ∷ [])) → {r : Result ℕ Refusal} {f : List ℕ} → Fills found out r f
         → Lists (listed_of r) (cleared (counts_in b).n marks) (cleared (words_in b) work) f
     lists_filled p W =
         let (o, (m, (w, f))) =

@@ -11,11 +11,14 @@ use lib.Dec.{leb}
 use lib.ListN.{length, take, drop}
 use lib.Seq.{take_at, drop_at}
 use borrow.Author.Tests.{leb-false}
+use Rattle.std.specs.Prelude.{Result}
 use Rattle.lineage.specs.Lists.{among}
 use Rattle.lineage.specs.Index.{index_of, Made}
 use Rattle.lineage.specs.Stored.{Form, counts_of, counts_fit, counts_in}
 use Rattle.lineage.specs.Question.{downstream}
 use Rattle.lineage.specs.Calls.{Check, check, answered, any_applies, FormsTaken, index_in, form_checks, list_late, list_answer, list_output}
+use Rattle.refusals.specs.declared.Refusal.{Refusal}
+use Rattle.refusals.proofs.Told.{outcome_once}
 use Rattle.laws.specs.Rising.{Rises}
 use Rattle.laws_answers.specs.Answers.{Downstream}
 use Rattle.laws_answers.proofs.Demands.{downstream_rises, downstream_made}
@@ -26,9 +29,7 @@ use Rattle.stored.proofs.Contents.{names_many}
 use Rattle.stored.proofs.Encoded.{index_encode}
 use Rattle.open.specs.Yields.{Yields}
 use Rattle.open.proofs.Fits.{Wide, yielded_fits}
-use Rattle.list.specs.declared.Listed.{Listed}
-use Rattle.list.specs.declared.Listed.TheVariants.{Count, Refused}
-use Rattle.list.specs.Listed.{listed_of, Allowed}
+use Rattle.list.specs.Listed.{Allowed}
 
 module _ (T : FormsTaken) (b : List ℕ) (u : ℕ) (marks work out : List ℕ) (count : ℕ)
     (e : list_answer T b u (length marks) (length work) (length out) ≡ answered count)
@@ -97,14 +98,8 @@ module _ (T : FormsTaken) (b : List ℕ) (u : ℕ) (marks work out : List ℕ) (
         })
 
 -- two results that the contract allows are equal
-listed_one : (r r' : Listed) → listed_of r ≡ listed_of r' → r ≡ r'
-listed_one (Count count) (Count count') e = cc
-listed_one (Count count) (Refused number extra) e = let z : ◌≡◌ {A = ℕ} 0 1 = cc in absurd (omega arith)
-listed_one (Refused number extra) (Count count) e = let z : ◌≡◌ {A = ℕ} 0 1 = cc in absurd (omega arith)
-listed_one (Refused number extra) (Refused number' extra') e = cc
-
 pub listed_once :
-    {T : FormsTaken} {b : List ℕ} {u : ℕ} {marks work out : List ℕ} {r r' : Listed} {ms ms' ws ws' os os' : List ℕ}
+    {T : FormsTaken} {b : List ℕ} {u : ℕ} {marks work out : List ℕ} {r r' : Result ℕ Refusal} {ms ms' ws ws' os os' : List ℕ}
     → Allowed T b u marks work out r ms ws os → Allowed T b u marks work out r' ms' ws' os' → (r ≡ r') × ((ms ≡ ms') × ((ws ≡ ws') × (os ≡ os')))
 listed_once A B =
-    (listed_one _ _ (A.answers ∙ sym B.answers), (A.leaves ∙ sym B.leaves, (A.clears ∙ sym B.clears, A.writes ∙ sym B.writes)))
+    (outcome_once (λ count. count) (λ a a' e. e) _ _ (A.answers ∙ sym B.answers), (A.leaves ∙ sym B.leaves, (A.clears ∙ sym B.clears, A.writes ∙ sym B.writes)))

@@ -11,11 +11,12 @@ use lib.ListN.{length, get_or, drop, set, length-append, length-set}
 use lib.Seq.{drop-cons, set-append_seam}
 use borrow.Author.Tests.{eq-eqb, ne_eqb}
 use Rattle.lineage.specs.Lists.{upto, those}
-use Rattle.lineage.specs.Numbers.{numbers}
 use Rattle.laws.proofs.Lists.{those_append, those_yes, those_no, length_upto}
 use Rattle.laws.proofs.Rising.{those_short}
 use Rattle.numbers.proofs.Numbers.{numbers_long}
+use Rattle.list.specs.declared.listing.Listing.{Listing}
 use Rattle.list.specs.Listing.{is_listed, listed}
+use Rattle.list.specs.Vertices.{lists, vertices_of}
 
 module _ (p : ℕ → Bool) where
   -- one vertex more
@@ -40,31 +41,27 @@ module _ (p : ℕ → Bool) where
             )
       ]
 
--- v of n vertices are gone through, and `count` of them passed
-pub record Counted (p : ℕ → Bool) (n v count : ℕ) : Type 0 where
-  pub within : v ≤ n
+-- v vertices are gone through, and `count` of them passed
+pub record Counted (p : ℕ → Bool) (v count : ℕ) : Type 0 where
   pub is : count ≡ length (those p (upto v))
 
-pub counted_none : (p : ℕ → Bool) (n : ℕ) → Counted p n 0 0
-counted_none p n = record { within = omega arith; is = refl }
+pub counted_none : (p : ℕ → Bool) → Counted p 0 0
+counted_none p = record { is = refl }
 
 -- they are no more than there are vertices
-pub counted_most : {p : ℕ → Bool} {n v count : ℕ} → Counted p n v count → count ≤ v
-counted_most {p} {n} {v} C = omega (arith, C.is, those_short p (upto v), length_upto v)
+pub counted_most : {p : ℕ → Bool} {v count : ℕ} → Counted p v count → count ≤ v
+counted_most {p} {v} C = omega (arith, C.is, those_short p (upto v), length_upto v)
 
-module _ {p : ℕ → Bool} {n v count : ℕ} (C : Counted p n v count) {r : Bool} (h : v < n) (e : r ≡ p v) where
-  pub counted_more : r ≡ true → Counted p n (v + 1) (count + 1)
-  counted_more t = record {
-    within = omega arith;
-    is = rw (those_more p v (sym e ∙ t)) (omega (arith, C.is, length-append (those p (upto v)) (v ∷ [])));
-  }
+module _ {p : ℕ → Bool} {v count : ℕ} (C : Counted p v count) {r : Bool} (e : r ≡ p v) where
+  pub counted_more : r ≡ true → Counted p (v + 1) (count + 1)
+  counted_more t = record { is = rw (those_more p v (sym e ∙ t)) (omega (arith, C.is, length-append (those p (upto v)) (v ∷ []))) }
 
-  pub counted_over : r ≡ false → Counted p n (v + 1) count
-  counted_over f = record { within = omega arith; is = rw (those_over p v (sym e ∙ f)) C.is }
+  pub counted_over : r ≡ false → Counted p (v + 1) count
+  counted_over f = record { is = rw (those_over p v (sym e ∙ f)) C.is }
 
   -- where one passes, there are more than those counted
-  counted_below : r ≡ true → count < length (those p (upto n))
-  counted_below t =
+  counted_below : {n : ℕ} → v < n → r ≡ true → count < length (those p (upto n))
+  counted_below {n} h t =
       omega (arith, C.is, those_up p (v + 1) n (omega arith), ap length (those_more p v (sym e ∙ t)), length-append (those p (upto v)) (v ∷ []))
 
 -- those that passed stand in front of what was lent
@@ -83,7 +80,7 @@ front_more xs before v h =
     rw (long, drop-cons before (length xs) 0 h, set-append_seam xs (get_or before (length xs) 0) (drop (suc (length xs)) before) v)
     (sym (append_assoc xs (v ∷ []) (drop (suc (length xs)) before)))
 
-module _ {p : ℕ → Bool} {n v count : ℕ} {before out : List ℕ} (C : Counted p n v count) (W : Written p v before out) {r : Bool} (h : v < n) (e : r ≡ p v) where
+module _ {p : ℕ → Bool} {v count : ℕ} {before out : List ℕ} (C : Counted p v count) (W : Written p v before out) {r : Bool} (e : r ≡ p v) where
   pub written_more : r ≡ true → count < length before → Written p (v + 1) before (set out count v)
   written_more t l = record {
     long = length-set out count v ∙ W.long;
@@ -104,33 +101,22 @@ module _ (names marks : List ℕ) {u v : ℕ} (own : Bool) where
   mark_listed f e = rw (ne_eqb u v f, e)
 
 -- all vertices gone through
-module _ (w n : ℕ) (names marks : List ℕ) (u : ℕ) (own : Bool) where
-  abbrev p : ℕ → Bool
-  p = is_listed (numbers w names n) marks u own
-
-  all_listed : listed (numbers w names n) marks u own ≡ those p (upto n)
+module _ (l : Listing) where
+  all_listed : vertices_of l ≡ those (lists l) (upto l.names.len)
   unfolding listed
-  all_listed = rw (numbers_long w names n)
-
-  pub listed_few : length (listed (numbers w names n) marks u own) ≤ n
-  listed_few = omega (arith, ap length all_listed, those_short p (upto n), length_upto n)
+  all_listed = rw (numbers_long l.names.width l.names.bytes.now l.names.len)
 
   -- where one more is listed, a list that has room for all has room for it
   pub listed_room :
-      {v count size : ℕ} {r : Bool} → Counted p n v count → v < n → r ≡ p v → r ≡ true → length (listed (numbers w names n) marks u own) ≤ size → count < size
-  listed_room C h e t l = omega (arith, counted_below C h e t, ap length all_listed)
+      {v count size : ℕ} {r : Bool} → Counted (lists l) v count → v < l.names.len → r ≡ lists l v → r ≡ true → length (vertices_of l) ≤ size → count < size
+  listed_room C h e t room = omega (arith, counted_below C e h t, ap length all_listed)
 
-  module _ {v count : ℕ} (C : Counted p n v count) (h : n ≤ v) where
-    gone : v ≡ n
-    gone = omega (arith, C.within)
+  module _ {v count : ℕ} (C : Counted (lists l) v count) (gone : v ≡ l.names.len) where
+    pub counted_all : count ≡ length (vertices_of l)
+    counted_all = C.is ∙ ap (λ (x : ℕ). length (those (lists l) (upto x))) gone ∙ sym (ap length all_listed)
 
-    pub counted_all : count ≡ length (listed (numbers w names n) marks u own)
-    counted_all = C.is ∙ ap (λ (x : ℕ). length (those p (upto x))) gone ∙ sym (ap length all_listed)
-
-    pub written_all :
-        {before out : List ℕ} → Written p v before out
-        → out ≡ listed (numbers w names n) marks u own ++ drop (length (listed (numbers w names n) marks u own)) before
+    pub written_all : {before out : List ℕ} → Written (lists l) v before out → out ≡ vertices_of l ++ drop (length (vertices_of l)) before
     written_all {before} W =
         W.is
-        ∙ ap (λ (x : ℕ). those p (upto x) ++ drop (length (those p (upto x))) before) gone
+        ∙ ap (λ (x : ℕ). those (lists l) (upto x) ++ drop (length (those (lists l) (upto x))) before) gone
         ∙ sym (ap (λ (xs : List ℕ). xs ++ drop (length xs) before) all_listed)

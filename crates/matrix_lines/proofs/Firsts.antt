@@ -1,28 +1,20 @@
 -- The first byte of a line says what the line is: a comment begins with `%` and nothing else does, and a row of numbers begins with a digit.
 use mathlib.Core.Bool.{Bool, true, false, and-false}
 use mathlib.Core.List.{List, [], ◌∷◌}
-use mathlib.Core.Path.{◌≡◌, refl, sym, ap, ap₂, ◌∙◌, subst}
+use mathlib.Core.Path.{◌≡◌, refl, sym, ap, ap₂, ◌∙◌}
 use Prim.Native.Nat.{ℕ, suc, ◌≤◌, ◌<◌}
 use native.Mathlib.Omega.{arith}
 use lib.Dec.{eqb}
 use lib.ListN.{length, get_or, drop, drop_of_length-le}
 use lib.Seq.{drop-cons}
 use borrow.Author.Tests.{eqb-true, eq-eqb, ne_eqb, le-leb}
-use types.Run.{OneOf, miss}
-use denote.Enum.Declared.{tag_of, declared}
 use Rattle.text_lines.specs.Lines.{lf, space, is_digit, keep, first_piece, other_pieces, is_decimal}
 use Rattle.text_lines.specs.Reader.{is_break, word}
 use Rattle.text_lines.proofs.Bytes.{below_digits, above_digits}
 use Rattle.text_lines.proofs.Words.{word_first}
-use Rattle.matrix_lines.specs.declared.LineKind.{LineKind}
 use Rattle.matrix_lines.specs.declared.LineKind.TheVariants.{Comment, Row, Neither}
-use Rattle.matrix_lines.specs.contracts.LineKind.{enum}
 use Rattle.matrix_lines.specs.Matrix.{is_comment, is_row, most_digits}
 use Rattle.matrix_lines.specs.Reader.{kind_by, kind_in}
-
--- the variant's position, by which a match goes
-abbrev pub tag : LineKind → ℕ
-tag x = tag_of (declared enum) x
 
 -- past the end
 pub end_here : (text : List ℕ) (at : ℕ) → length text ≤ at → Neither ≡ kind_in (drop at text)
@@ -59,25 +51,24 @@ comment_first b s = go (eqb b lf) refl
     go true e = sym (ne_eqb b 37 (omega (arith, eqb-true b lf e)))
     go false e = refl
 
-comment_tag : (s : List ℕ) → is_comment (first_piece lf s) ≡ eqb (tag (kind_in s)) 0
+pub comment_is : (s : List ℕ) → kind_in s ≡ Comment → is_comment (first_piece lf s) ≡ true
 unfolding kind_in first_piece
-comment_tag [] = refl
-comment_tag (b ∷ s) = comment_first b s ∙ go (eqb b 37) (is_digit b)
+comment_is [] h = cc
+comment_is (b ∷ s) h = comment_first b s ∙ go (eqb b 37) (is_digit b) h
   where
-    go : (x y : Bool) → x ≡ eqb (tag (kind_by x y)) 0
-    go true y = refl
-    go false true = refl
-    go false false = refl
+    go : (x y : Bool) → kind_by x y ≡ Comment → x ≡ true
+    go true y h = refl
+    go false true h = cc
+    go false false h = cc
 
-module _ {x : LineKind} (s : List ℕ) (e : x ≡ kind_in s) where
-  pub comment_is : tag x ≡ 0 → is_comment (first_piece lf s) ≡ true
-  comment_is h = comment_tag s ∙ ap (λ (z : ℕ). eqb z 0) (ap tag (sym e) ∙ h)
-
-  pub comment_not : OneOf (1 ∷ 2 ∷ []) (tag x) → is_comment (first_piece lf s) ≡ false
-  comment_not h = comment_tag s ∙ (ap (λ (z : LineKind). eqb (tag z) 0) (sym e) ∙ go (tag x) h)
-    where
-      go : (t : ℕ) → OneOf (1 ∷ 2 ∷ []) t → eqb t 0 ≡ false
-      go t k = ne_eqb t 0 (λ z. miss (1 ∷ 2 ∷ []) 0 tt (rw (← z) k))
+pub comment_not : (s : List ℕ) → (kind_in s ≡ Comment → ⊥) → is_comment (first_piece lf s) ≡ false
+unfolding kind_in first_piece
+comment_not [] h = refl
+comment_not (b ∷ s) h = comment_first b s ∙ go (eqb b 37) (is_digit b) h
+  where
+    go : (x y : Bool) → (kind_by x y ≡ Comment → ⊥) → x ≡ false
+    go true y h = absurd (h refl)
+    go false y h = refl
 
 -- no decimal begins with another byte than a digit
 stray : (b : ℕ) (s : List ℕ) → is_digit b ≡ false → is_decimal most_digits (word (b ∷ s)) ≡ false
@@ -88,18 +79,17 @@ stray b s d = go (is_break b)
     go true = refl
     go false = rw d
 
-word_stray : (s : List ℕ) → OneOf (0 ∷ 2 ∷ []) (tag (kind_in s)) → is_decimal most_digits (word s) ≡ false
+word_stray : (s : List ℕ) → (kind_in s ≡ Row → ⊥) → is_decimal most_digits (word s) ≡ false
 unfolding kind_in word is_decimal
 word_stray [] h = refl
 word_stray (b ∷ s) h = go (eqb b 37) (is_digit b) refl refl h
   where
-    go : (x y : Bool) → eqb b 37 ≡ x → is_digit b ≡ y → OneOf (0 ∷ 2 ∷ []) (tag (kind_by x y)) → is_decimal most_digits (word (b ∷ s)) ≡ false
+    go : (x y : Bool) → eqb b 37 ≡ x → is_digit b ≡ y → (kind_by x y ≡ Row → ⊥) → is_decimal most_digits (word (b ∷ s)) ≡ false
     go true y p d k = stray b s (ap is_digit (eqb-true b 37 p))
-    go false true p d k = absurd (miss (0 ∷ 2 ∷ []) 1 tt k)
+    go false true p d k = absurd (k refl)
     go false false p d k = stray b s d
 
 -- so a line that does not begin with a digit is no row
-pub row_not : {x : LineKind} (size : ℕ) (s : List ℕ) → x ≡ kind_in s → OneOf (0 ∷ 2 ∷ []) (tag x) → is_row size (first_piece lf s) ≡ false
+pub row_not : (size : ℕ) (s : List ℕ) → (kind_in s ≡ Row → ⊥) → is_row size (first_piece lf s) ≡ false
 unfolding is_row
-row_not size s e h =
-    rw (word_first s, word_stray s (subst (λ (z : LineKind). OneOf (0 ∷ 2 ∷ []) (tag z)) e h)) (and-false (eqb (suc (length (other_pieces space (first_piece lf s)))) size))
+row_not size s h = rw (word_first s, word_stray s h) (and-false (eqb (suc (length (other_pieces space (first_piece lf s)))) size))

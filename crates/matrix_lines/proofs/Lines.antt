@@ -8,20 +8,19 @@ use native.Mathlib.Omega.{arith}
 use lib.Dec.{eqb, eqb-suc-suc}
 use lib.ListN.{length, get_or, take, drop, set, drop_of_length-le, length-drop}
 use lib.Seq.{drop-cons, drop-drop}
-use borrow.Author.Tests.{eq-eqb, ne_eqb}
+use borrow.Author.Tests.{ne_eqb}
 use Rattle.lineage.specs.Lists.{same_list, all_of}
-use types.Run.{OneOf, miss}
-use Rattle.laws.proofs.Tests.{clash, or_false_right}
+use Rattle.laws.proofs.Tests.{clash}
 use Rattle.laws.proofs.Lists.{same_self}
-use Rattle.text_lines.specs.declared.Byte.{Byte}
-use Rattle.text_lines.specs.declared.Line.{Line as LineRead}
-use Rattle.text_lines.specs.declared.Number.TheVariants.{Good as GoodNumber, Bad as BadNumber}
+use Rattle.text_lines.specs.declared.Number.{Number}
+use Rattle.std.proofs.Common.{Option, Some, None}
+use Rattle.std.specs.List.{starts_with}
+use Rattle.std.specs.Cmp.{nat_eq_equiv}
 use Rattle.text_lines.specs.Lines.{lf, space, keep, first_piece, begin, other_pieces, pieces, is_decimal, value, Line, line_is}
-use Rattle.text_lines.specs.Reader.{Found, found, none, after, is_more, is_break, word, is_ended, number_by, number_in, found_if, found_by, line_in}
-use Rattle.text_lines.proofs.Bytes.{tag, letter_goes, digit_goes, Sees, letter, digit, blank, newline, other, nothing}
+use Rattle.text_lines.specs.Reader.{Found, found, none, after, is_more, word, is_ended, number_by, number_in, found_if, found_by, line_in}
 use Rattle.text_lines.proofs.Words.{word_first, word_passed, no_break, after_after, Read, number_read}
 use Rattle.matrix_lines.specs.Matrix.{header, is_comment, most_digits, is_row, Run, stop, with_line}
-use Rattle.matrix_lines.specs.Reader.{starts_with, header_in, all_run, RunInto, found_row, row_in}
+use Rattle.matrix_lines.specs.Reader.{header_in, all_run, RunInto, found_row, row_in}
 use Rattle.matrix_lines.proofs.Pieces.{Lacks, lacks_first, lacks_more}
 use Rattle.matrix_lines.proofs.Runs.{run_on, run_stops}
 
@@ -30,65 +29,38 @@ swap : (a b c : Bool) → (a && (b && c)) ≡ (b && (a && c))
 swap true b c = refl
 swap false b c = sym (and-false b)
 
-line_starts : (w : List ℕ) → Lacks lf w → (s : List ℕ) → starts_with s (w ++ (lf ∷ [])) ≡ (is_more (other_pieces lf s) && same_list (first_piece lf s) w)
-unfolding starts_with first_piece other_pieces
+line_starts : (w : List ℕ) → Lacks lf w → (s : List ℕ) → starts_with eqb s (w ++ (lf ∷ [])) ≡ (is_more (other_pieces lf s) && same_list (first_piece lf s) w)
+unfolding first_piece other_pieces
 line_starts [] h [] = refl
-line_starts [] h (b ∷ s) = go (eqb b lf)
+line_starts [] h (b ∷ s) = rw (nat_eq_equiv.symm lf b) (go (eqb b lf))
   where
     go : (t : Bool) → (t && true) ≡ (is_more (begin t (first_piece lf s) (other_pieces lf s)) && same_list (keep t b (first_piece lf s)) [])
     go true = refl
     go false = sym (and-false (is_more (other_pieces lf s)))
 line_starts (c ∷ w) h [] = refl
-line_starts (c ∷ w) h (b ∷ s) = go (eqb b lf) refl (line_starts w (lacks_more lf c w h) s)
+line_starts (c ∷ w) h (b ∷ s) = rw (nat_eq_equiv.symm c b) (go (eqb b lf) refl (line_starts w (lacks_more lf c w h) s))
   where
-    go : (t : Bool) → eqb b lf ≡ t → starts_with s (w ++ (lf ∷ [])) ≡ (is_more (other_pieces lf s) && same_list (first_piece lf s) w)
-        → (eqb b c && starts_with s (w ++ (lf ∷ []))) ≡ (is_more (begin t (first_piece lf s) (other_pieces lf s)) && same_list (keep t b (first_piece lf s)) (c ∷ w))
+    go : (t : Bool) → eqb b lf ≡ t → starts_with eqb s (w ++ (lf ∷ [])) ≡ (is_more (other_pieces lf s) && same_list (first_piece lf s) w)
+        → (eqb b c && starts_with eqb s (w ++ (lf ∷ []))) ≡ (is_more (begin t (first_piece lf s) (other_pieces lf s)) && same_list (keep t b (first_piece lf s)) (c ∷ w))
     go true e rest = rw (ne_eqb b c (λ q. clash (ap (λ (x : ℕ). eqb x lf) (sym q) ∙ e) (lacks_first lf c w h)))
     go false e rest = rw rest (swap (eqb b c) (is_more (other_pieces lf s)) (same_list (first_piece lf s) w))
 
-pub header_starts : (s : List ℕ) → starts_with s (header ++ (lf ∷ [])) ≡ header_in s
+pub header_starts : (s : List ℕ) → starts_with eqb s (header ++ (lf ∷ [])) ≡ header_in s
 header_starts s = line_starts header refl s
 
--- The bytes of a word, one by one.
-module _ (text word : List ℕ) (j : ℕ) where
-  pub starts_turns : j < length word → j < length text → get_or text j 0 ≡ get_or word j 0 → starts_with (drop (j + 1) text) (drop (j + 1) word) ≡ starts_with (drop j text) (drop j word)
-  unfolding starts_with
-  starts_turns low inside e = rw (add-one j, drop-cons text j 0 inside, drop-cons word j 0 low, eq-eqb (get_or text j 0) (get_or word j 0) e)
+-- The bytes of a line, one by one: an LF ends it, any other byte stands in it.
+module _ (s : List ℕ) (p : ℕ) where
+  pub line_over : p < length s → get_or s p 0 ≡ lf → length (first_piece lf (drop p s)) ≡ 0
+  unfolding first_piece
+  line_over inside e = rw (drop-cons s p 0 inside, e)
 
-  pub starts_differs : j < length word → j < length text → (get_or text j 0 ≡ get_or word j 0 → ⊥) → starts_with (drop j text) (drop j word) ≡ false
-  unfolding starts_with
-  starts_differs low inside e = rw (drop-cons text j 0 inside, drop-cons word j 0 low, ne_eqb (get_or text j 0) (get_or word j 0) e)
+  pub line_goes : p < length s → (get_or s p 0 ≡ lf → ⊥) → length (first_piece lf (drop p s)) ≡ suc (length (first_piece lf (drop (p + 1) s)))
+  unfolding first_piece
+  line_goes inside e = rw (drop-cons s p 0 inside, ne_eqb (get_or s p 0) lf e, add-one p)
 
-  pub starts_short : j < length word → length text ≤ j → starts_with (drop j text) (drop j word) ≡ false
-  unfolding starts_with
-  starts_short low short = rw (drop_of_length-le text short, drop-cons word j 0 low)
-
-  pub starts_all : length word ≤ j → starts_with (drop j text) (drop j word) ≡ true
-  unfolding starts_with
-  starts_all h = rw (drop_of_length-le word h)
-
--- The bytes of a line, one by one: what is seen at a position ends it, or stands in it.
-pub line_over : {x : Byte} {s : List ℕ} → Sees x s → OneOf (3 ∷ 5 ∷ []) (tag x) → length (first_piece lf s) ≡ 0
-unfolding first_piece
-line_over (letter b more h) e = absurd (miss (3 ∷ 5 ∷ []) 0 tt e)
-line_over (digit d more h) e = absurd (miss (3 ∷ 5 ∷ []) 1 tt e)
-line_over (blank more) e = absurd (miss (3 ∷ 5 ∷ []) 2 tt e)
-line_over (newline more) e = refl
-line_over (other b more n h f) e = absurd (miss (3 ∷ 5 ∷ []) 4 tt e)
-line_over nothing e = refl
-
-stays : (b : ℕ) (more : List ℕ) → is_break b ≡ false → length (first_piece lf (b ∷ more)) ≡ suc (length (first_piece lf more))
-unfolding first_piece
-stays b more f = rw (or_false_right (eqb b space) (eqb b lf) f)
-
-pub line_goes : {x : Byte} {s : List ℕ} → Sees x s → OneOf (0 ∷ 1 ∷ 2 ∷ 4 ∷ []) (tag x) → length (first_piece lf s) ≡ suc (length (first_piece lf (drop 1 s)))
-unfolding first_piece
-line_goes (letter b more h) e = stays b more (letter_goes b h)
-line_goes (digit d more h) e = stays (48 + d) more (digit_goes d)
-line_goes (blank more) e = refl
-line_goes (newline more) e = absurd (miss (0 ∷ 1 ∷ 2 ∷ 4 ∷ []) 3 tt e)
-line_goes (other b more n h f) e = stays b more f
-line_goes nothing e = absurd (miss (0 ∷ 1 ∷ 2 ∷ 4 ∷ []) 5 tt e)
+  pub line_none : length s ≤ p → length (first_piece lf (drop p s)) ≡ 0
+  unfolding first_piece
+  line_none h = rw (drop_of_length-le s h)
 
 -- an LF ends the line exactly where it is shorter than the bytes
 ended_is : (s : List ℕ) → length (first_piece lf s) < length s → is_more (other_pieces lf s) ≡ true
@@ -128,9 +100,6 @@ pub record Skipping (text : List ℕ) (at i p : ℕ) : Type 0 where
   pub rest : (all_run is_comment (drop at text)).rest ≡ (all_run is_comment (drop p text)).rest
   pub inside : p ≤ length text
   pub spent : at + i ≤ p
-
-pub skip_begins : (text : List ℕ) (at : ℕ) → at ≤ length text → Skipping text at 0 at
-skip_begins text at h = record { counted = omega arith; rest = refl; inside = h; spent = omega arith }
 
 module _ (text : List ℕ) (at i p : ℕ) (k : Skipping text at i p) where
   -- no comment more
@@ -182,27 +151,27 @@ module _ (k : ℕ) (s : List ℕ) where
   unfolding row_in first_piece other_pieces is_row
   row_unended e = rw (no_break s e)
 
-  pub row_missing : (at : ℕ) → BadNumber ≡ number_in most_digits at s → row_in (suc k) s ≡ none
+  pub row_missing : (at : ℕ) → None ≡ number_in most_digits at s → row_in (suc k) s ≡ none
   unfolding number_in
   row_missing at e = go (is_ended s) (is_decimal most_digits (word s)) refl refl e
     where
-      go : (x y : Bool) → is_ended s ≡ x → is_decimal most_digits (word s) ≡ y → BadNumber ≡ number_by (x && y) (value (word s)) (at + length (word s)) → row_in (suc k) s ≡ none
+      go : (x y : Bool) → is_ended s ≡ x → is_decimal most_digits (word s) ≡ y → None ≡ number_by (x && y) (value (word s)) (at + length (word s)) → row_in (suc k) s ≡ none
       go true true f d h = absurd (true≢false cc)
       go true false f d h = row_stray d
       go false y f d h = row_unended f
 
-pub row_passed : (text : List ℕ) (at k v next : ℕ) → GoodNumber v next ≡ number_in most_digits at (drop at text)
-    → after (v ∷ []) next (line_in most_digits [] k (drop next text)) ≡ after [] at (row_in (suc k) (drop at text))
-row_passed text at k v next e =
+pub row_passed : (text : List ℕ) (at k : ℕ) (r : Number) → Some r ≡ number_in most_digits at (drop at text)
+    → after (r.value ∷ []) r.next (line_in most_digits [] k (drop r.next text)) ≡ after [] at (row_in (suc k) (drop at text))
+row_passed text at k r e =
     let s : List ℕ = drop at text in
     let n : ℕ = length (word s) in
-    let known : Read most_digits s at v next = number_read most_digits s at v next e in
+    let known : Read most_digits s at r.value r.next = number_read most_digits s at r e in
     let rest : Found = line_in most_digits [] k (drop (at + n) text) in
     rw (known.made, known.ends, row_word k s known.decimal, word_passed most_digits k s, drop-drop n at text)
     (sym (rw (after_after rest (value (word s) ∷ []) [] 0 n, after_after rest [] (value (word s) ∷ []) at (0 + n)) (ap (λ (q : ℕ). after (value (word s) ∷ []) q rest) (omega arith))))
 
 -- the same of a row of `size` numbers, from 1 on: its first number is stored, the others follow it
-pub row_missed : (size at : ℕ) (s : List ℕ) → 1 ≤ size → BadNumber ≡ number_in most_digits at s → none ≡ after [] at (row_in size s)
+pub row_missed : (size at : ℕ) (s : List ℕ) → 1 ≤ size → None ≡ number_in most_digits at s → none ≡ after [] at (row_in size s)
 row_missed zero at s low e = absurd (omega arith)
 row_missed (suc k) at s low e = rw (row_missing k s at e)
 
@@ -210,13 +179,13 @@ stored_first : (into : List ℕ) (v : ℕ) → 1 ≤ length into → take 1 (set
 stored_first [] v h = absurd (omega arith)
 stored_first (x ∷ into) v h = refl
 
-pub row_read : (r : LineRead) (text into exit : List ℕ) (at size v next : ℕ) → 1 ≤ size → 1 ≤ length into → GoodNumber v next ≡ number_in most_digits at (drop at text)
-    → found_by r (take (1 + (size - 1)) exit) ≡ after (take 1 (set into 0 v)) next (line_in most_digits [] (size - 1) (drop next text))
+pub row_read : (r : Option ℕ) (text into exit : List ℕ) (at size : ℕ) (n : Number) → 1 ≤ size → 1 ≤ length into → Some n ≡ number_in most_digits at (drop at text)
+    → found_by r (take (1 + (size - 1)) exit) ≡ after (take 1 (set into 0 n.value)) n.next (line_in most_digits [] (size - 1) (drop n.next text))
     → found_by r (take (0 + size) exit) ≡ after [] at (row_in size (drop at text))
-row_read r text into exit at size v next low room e h =
+row_read r text into exit at size n low room e h =
     let whole : 0 + size ≡ 1 + (size - 1) = omega arith in
     let full : suc (size - 1) ≡ size = omega arith in
     ap (λ (z : ℕ). found_by r (take z exit)) whole
     ∙ (h
-    ∙ (ap (λ (ns : List ℕ). after ns next (line_in most_digits [] (size - 1) (drop next text))) (stored_first into v room)
-    ∙ (row_passed text at (size - 1) v next e ∙ ap (λ (z : ℕ). after [] at (row_in z (drop at text))) full)))
+    ∙ (ap (λ (ns : List ℕ). after ns n.next (line_in most_digits [] (size - 1) (drop n.next text))) (stored_first into n.value room)
+    ∙ (row_passed text at (size - 1) n e ∙ ap (λ (z : ℕ). after [] at (row_in z (drop at text))) full)))

@@ -7,12 +7,6 @@ use Rattle.matrix_lines.specs.declared.LineKind.{LineKind}
 use Rattle.matrix_lines.specs.declared.LineKind.TheVariants.{Comment, Row, Neither}
 use Rattle.matrix_lines.specs.Matrix.{Raw, is_header, is_row, Run, run}
 
--- the bytes begin with these
-unfoldable pub starts_with : List ℕ → List ℕ → Bool
-starts_with s [] = true
-starts_with [] (c ∷ word) = false
-starts_with (b ∷ s) (c ∷ word) = eqb b c && starts_with s word
-
 -- the first line, ended by LF, is the header
 abbrev pub header_in : List ℕ → Bool
 header_in s = is_more (other_pieces lf s) && is_header (first_piece lf s)

@@ -6,45 +6,21 @@ ghost use Rattle.std.specs.Prelude.{◌≡◌, ◌+◌, ◌≤◌, length, drop}
 ghost use Rattle.text_lines.specs.Lines.{lf, first_piece};
 ghost use Rattle.text_lines.specs.Reader.{Into};
 ghost use Rattle.matrix_lines.specs.Matrix.{is_comment};
-ghost use Rattle.matrix_lines.specs.Reader.{starts_with, header_in, kind_in, row_in, all_run, RunInto};
+ghost use Rattle.matrix_lines.specs.Reader.{header_in, kind_in, row_in, all_run, RunInto};
 
-use text_lines::{Byte, Line, Number, byte_at, read_number, read_numbers};
+use text_lines::{Block, read_number, read_numbers};
 
 pub const MOST_DIGITS: usize = 7;
-
-// Lines that stood first: how many, and where the text goes on.
-#[derive(Clone, Copy)]
-pub struct Block {
-    pub count: usize,
-    pub at: usize,
-}
-
-// The text begins with these bytes.
-fn begins(text: &[u8], word: &[u8]) -> bool
-    ensures { result ≡ starts_with text.now word.now }
-{
-    let mut j = 0;
-    while j < word.len() {
-        if text.len() <= j {
-            return false;
-        }
-        if text[j] != word[j] {
-            return false;
-        }
-        j += 1;
-    }
-    true
-}
 
 // The first line is the header.
 pub fn header_stands(text: &[u8]) -> bool
     ensures { result ≡ header_in text.now }
 {
-    begins(text, b"%%MatrixMarket matrix coordinate pattern general\n")
+    text.starts_with(b"%%MatrixMarket matrix coordinate pattern general\n")
 }
 
 // What a line is, by its first byte: a comment, a row of numbers, or neither.
-#[derive(Clone, Copy)]
+#[derive(Clone, Copy, Debug, PartialEq, Eq)]
 pub enum LineKind {
     Comment,
     Row,
@@ -69,17 +45,12 @@ fn line_end(text: &[u8], at: usize) -> usize
     requires { at ≤ length text.now }
     ensures { (result ≡ at + length (first_piece lf (drop at text.now))) × (result ≤ length text.now) }
 {
-    let mut p = at;
-    loop {
-        match byte_at(text, p) {
-            Byte::Lf | Byte::End => {
-                return p;
-            }
-            _ => {
-                p += 1;
-            }
+    for p in at..text.len() {
+        if text[p] == b'\n' {
+            return p;
         }
     }
+    text.len()
 }
 
 // The comment lines that stand first.
@@ -89,31 +60,23 @@ pub fn skip_comments(text: &[u8], at: usize) -> Block
 {
     let mut i = 0;
     let mut p = at;
-    loop {
-        match kind_at(text, p) {
-            LineKind::Comment => {
-                let end = line_end(text, p);
-                if text.len() <= end {
-                    return Block { count: i, at: p };
-                }
-                p = end + 1;
-                i += 1;
-            }
-            LineKind::Row | LineKind::Neither => {
-                return Block { count: i, at: p };
-            }
+    while let LineKind::Comment = kind_at(text, p) {
+        let end = line_end(text, p);
+        if text.len() <= end {
+            break;
         }
+        p = end + 1;
+        i += 1;
     }
+    Block { count: i, at: p }
 }
 
 // A line of exactly `size` numbers, single spaces between them. They go into the list from its start on.
-pub fn read_row(text: &[u8], at: usize, size: usize, into: &mut [u32]) -> Line
+pub fn read_row(text: &[u8], at: usize, size: usize, into: &mut [u32]) -> Option<usize>
     requires { (1 ≤ size) × (size ≤ length into.old) }
     ensures { Into result (row_in size (drop at text.now)) at 0 size into.old into.new }
 {
-    let Number::Good { value, next } = read_number(text, at, MOST_DIGITS) else {
-        return Line::Bad;
-    };
-    into[0] = value;
-    read_numbers(text, next, MOST_DIGITS, size - 1, into, 1)
+    let first = read_number(text, at, MOST_DIGITS)?;
+    into[0] = first.value;
+    read_numbers(text, first.next, MOST_DIGITS, size - 1, into, 1)
 }

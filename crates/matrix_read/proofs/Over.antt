@@ -1,7 +1,7 @@
 -- The four kinds of lines, one after the other, and what they come to.
 use mathlib.Core.Bool.{Bool, true, false, true≢false, ◌&&◌, and-false}
 use mathlib.Core.List.{List, [], ◌∷◌}
-use mathlib.Core.Path.{◌≡◌, refl, sym, ap, ◌∙◌, subst}
+use mathlib.Core.Path.{◌≡◌, refl, sym, ap, ◌∙◌}
 use Prim.Native.Nat.{ℕ, suc, ◌+◌, ◌≤◌, ◌<◌}
 use native.Mathlib.Omega.{arith}
 use lib.Dec.{eqb}
@@ -16,7 +16,8 @@ use Rattle.matrix_lines.specs.Matrix.{Raw, header, is_header, is_comment, number
 use Rattle.matrix_lines.specs.Reader.{header_in, all_run, RunInto}
 use Rattle.matrix_lines.proofs.Lines.{ended_long}
 use Rattle.matrix_lines.proofs.Runs.{run_more, run_stops, run_end, run_left, run_few, reading_is}
-use Rattle.matrix_read.specs.declared.Size.TheVariants.{Good as GoodSize, Bad as BadSize}
+use Rattle.std.proofs.Common.{Some, None}
+use Rattle.matrix_read.specs.declared.Size.{Size}
 use Rattle.matrix_read.specs.Entries.{size_by, size_in}
 use Rattle.matrix_read.specs.Over.{entries_from, Stands}
 
@@ -60,34 +61,34 @@ module _ (text : List ℕ) (at : ℕ) (low : at ≤ length text) where
   s : List ℕ
   s = drop at text
 
-  pub size_taken : (n entries next : ℕ) → GoodSize n entries next ≡ size_in at (drop at text) → SizeGood text at n entries next
+  pub size_taken : (r : Size) → Some r ≡ size_in at (drop at text) → SizeGood text at r.n r.entries r.next
   unfolding size_in
-  size_taken n entries next e = go (is_more (other_pieces lf (drop at text))) (is_size (first_piece lf (drop at text))) refl refl e
+  size_taken r e = go (is_more (other_pieces lf (drop at text))) (is_size (first_piece lf (drop at text))) refl refl e
     where
       go : (x y : Bool) → is_more (other_pieces lf (drop at text)) ≡ x → is_size (first_piece lf (drop at text)) ≡ y
-          → GoodSize n entries next
-          ≡ size_by (x && y) (number 0 (first_piece lf (drop at text))) (number 2 (first_piece lf (drop at text))) (at + suc (length (first_piece lf (drop at text)))) → SizeGood text at n entries next
-      go true true m r h =
+          → Some r ≡ size_by (x && y) (number 0 (first_piece lf (drop at text))) (number 2 (first_piece lf (drop at text))) (at + suc (length (first_piece lf (drop at text))))
+          → SizeGood text at r.n r.entries r.next
+      go true true m z h =
           let l : Raw = first_piece lf (drop at text) in
-          let there : at + suc (length l) ≡ next = cc in
-          let goes : drop (suc (length l)) (drop at text) ≡ drop next text = drop-drop (suc (length l)) at text ∙ ap (λ (q : ℕ). drop q text) there in
-          record {
+          let same : r ≡ record { n = number 0 l; entries = number 2 l; next = at + suc (length l) } = cc in
+          let goes : drop (suc (length l)) (drop at text) ≡ drop (at + suc (length l)) text = drop-drop (suc (length l)) at text in
+          rw same record {
             sized =
-                run_more is_size (drop at text) 0 m r
+                run_more is_size (drop at text) 0 m z
                 ∙ (one_taken is_size l (pieces lf (drop (suc (length l)) (drop at text))) ∙ ap (λ (t : List ℕ). record { taken = l ∷ []; rest = pieces lf t }) goes);
-            first = cc;
-            third = cc;
+            first = refl;
+            third = refl;
             inside = omega (arith, ended_long (drop at text) m, length-drop at text);
             behind = omega arith;
           }
-      go true false m r h = absurd (true≢false cc)
-      go false y m r h = absurd (true≢false cc)
+      go true false m z h = absurd (true≢false cc)
+      go false y m z h = absurd (true≢false cc)
 
-  pub size_left : BadSize ≡ size_in at (drop at text) → run is_size 1 (pieces lf (drop at text)) ≡ stop (pieces lf (drop at text))
+  pub size_left : None ≡ size_in at (drop at text) → run is_size 1 (pieces lf (drop at text)) ≡ stop (pieces lf (drop at text))
   unfolding size_in
   size_left e = run_stops is_size (drop at text) 1 (go (is_more (other_pieces lf (drop at text)) && is_size (first_piece lf (drop at text))) e)
     where
-      go : (x : Bool) → BadSize ≡ size_by x (number 0 (first_piece lf (drop at text))) (number 2 (first_piece lf (drop at text))) (at + suc (length (first_piece lf (drop at text)))) → x ≡ false
+      go : (x : Bool) → None ≡ size_by x (number 0 (first_piece lf (drop at text))) (number 2 (first_piece lf (drop at text))) (at + suc (length (first_piece lf (drop at text)))) → x ≡ false
       go true h = absurd (true≢false cc)
       go false h = refl
 
@@ -107,7 +108,7 @@ module _ (text : List ℕ) (g : Headed text) (count at : ℕ) (c : RunInto text 
   abbrev C : Run
   C = all_run is_comment (drop 49 text)
 
-  pub sizeless : BadSize ≡ size_in at (drop at text) → matrix_reading text ≡ bad_line (count + 2)
+  pub sizeless : None ≡ size_in at (drop at text) → matrix_reading text ≡ bad_line (count + 2)
   sizeless e =
       let X : List Raw = pieces lf (drop at text) in
       let sized : stop X ≡ run is_size 1 C.rest = rw c.rest (sym (size_left text at c.inside e)) in
@@ -151,7 +152,3 @@ module _ (text : List ℕ) (g : Headed text) (count at : ℕ) (c : RunInto text 
 
       pub all_stands : entries ≤ passed → length text ≤ end → Stands text n entries next
       all_stands enough h' = stands (omega (arith, e.counted, run_few (is_entry n) entries (pieces lf (drop next text)))) h'
-
--- the number of entries as a size
-pub sized_as : {text : List ℕ} {at n entries next m : ℕ} → m ≡ entries → SizeGood text at n entries next → SizeGood text at n m next
-sized_as {text} {at} {n} {entries} {next} e z = subst (λ (k : ℕ). SizeGood text at n k next) (sym e) z

@@ -1,33 +1,32 @@
 -- Entries stored one by one: what stands in a list, then the ends still to be stored, are the ends of all.
 use mathlib.Core.List.{List, [], ◌∷◌, ◌++◌, append_assoc, append-nil}
 use mathlib.Core.Path.{◌≡◌, refl, sym, ap, ◌∙◌}
-use Prim.Native.Nat.{ℕ, suc, ◌+◌, ◌-◌, ◌≤◌, ◌<◌}
+use Prim.Native.Nat.{ℕ, suc, ◌+◌, ◌-◌, ◌<◌}
 use native.Mathlib.Nat.{sub-zero}
 use native.Mathlib.Numerals.{add-one}
 use native.Mathlib.Omega.{arith}
-use lib.ListN.{length, take, drop, set, length-set, take-append-drop}
+use lib.ListN.{length, take, drop, set, take-append-drop}
 use lib.Seq.{drop-drop, drop-set-lt, take-suc-set}
 use Rattle.text_lines.specs.Lines.{lf, first_piece, pieces}
 use Rattle.matrix_lines.specs.Matrix.{Raw, number, is_entry, Run, stop, with_line, run, ends}
 use Rattle.matrix_lines.proofs.Runs.{run_more, run_stops}
-use Rattle.matrix_read.specs.declared.Entry.TheVariants.{Good as GoodEntry, Bad as BadEntry}
+use Rattle.std.proofs.Common.{Some, None}
+use Rattle.matrix_read.specs.declared.Entry.{Entry}
 use Rattle.matrix_read.specs.Entries.{entry_in}
 use Rattle.matrix_read.specs.Over.{entries_from}
 use Rattle.matrix_read.proofs.Entries.{EntryGood, entry_taken, entry_left}
 
 -- i ends stand in the list; those of `left` are to be stored; they are the ends of `whole`
 pub record Column (k : ℕ) (whole left : List Raw) (i : ℕ) (lent held : List ℕ) : Type 0 where
-  pub long : length held ≡ length lent
   pub stored : take i held ++ ends k left ≡ ends k whole
   pub kept : drop i held ≡ drop i lent
 
 column_begins : (k : ℕ) (whole : List Raw) (lent : List ℕ) → Column k whole whole 0 lent lent
-column_begins k whole lent = record { long = refl; stored = refl; kept = refl }
+column_begins k whole lent = record { stored = refl; kept = refl }
 
 column_turns : (k : ℕ) (whole left : List Raw) (l : Raw) (i u : ℕ) (lent held : List ℕ) → Column k whole (l ∷ left) i lent held → i < length held → u ≡ number k l - 1
     → Column k whole left (i + 1) lent (set held i u)
 column_turns k whole left l i u lent held c low e = record {
-  long = length-set held i u ∙ c.long;
   stored = rw (add-one i, take-suc-set held i u low, e) (append_assoc (take i held) ((number k l - 1) ∷ []) (ends k left) ∙ c.stored);
   kept = drop-set-lt (i + 1) held i u (omega arith) ∙ (sym (drop-drop 1 i held) ∙ (ap (drop 1) c.kept ∙ drop-drop 1 i lent));
 }
@@ -39,14 +38,12 @@ column_ends k whole i count lent held c e =
 
 -- both lists
 pub record Storing (text : List ℕ) (at n count : ℕ) (S T : List ℕ) (i p : ℕ) (S' T' : List ℕ) : Type 0 where
-  pub few : i ≤ count
   pub left : length (entries_from n (count - i) text p).taken ≡ count - i
   pub sources : Column 0 (entries_from n count text at).taken (entries_from n (count - i) text p).taken i S S'
   pub targets : Column 1 (entries_from n count text at).taken (entries_from n (count - i) text p).taken i T T'
 
 pub store_begins : (text : List ℕ) (at n count : ℕ) (S T : List ℕ) → length (entries_from n count text at).taken ≡ count → Storing text at n count S T 0 at S T
 store_begins text at n count S T h = record {
-  few = omega arith;
   left = rw (sub-zero count) h;
   sources = rw (sub-zero count) (column_begins 0 (entries_from n count text at).taken S);
   targets = rw (sub-zero count) (column_begins 1 (entries_from n count text at).taken T);
@@ -54,45 +51,38 @@ store_begins text at n count S T h = record {
 
 module _ (text : List ℕ) (at n count : ℕ) (S T : List ℕ) (i p : ℕ) (S' T' : List ℕ) (k : Storing text at n count S T i p S' T') where
   -- there is an entry, as they were counted
-  pub store_never : i < count → BadEntry ≡ entry_in n p (drop p text) → ⊥
+  pub store_never : i < count → None ≡ entry_in n p (drop p text) → ⊥
   store_never low e =
       let none : entries_from n (count - i) text p ≡ stop (pieces lf (drop p text)) = run_stops (is_entry n) (drop p text) (count - i) (entry_left n p (drop p text) e) in
       let nothing : length (entries_from n (count - i) text p).taken ≡ 0 = ap (λ (R : Run). length R.taken) none in
       omega (arith, k.left, nothing)
 
-  pub store_turns : (u v next : ℕ) → i < count → i < length S' → i < length T' → GoodEntry u v next ≡ entry_in n p (drop p text)
-      → Storing text at n count S T (i + 1) next (set S' i u) (set T' i v)
-  store_turns u v next low ls lt e =
+  pub store_turns : (r : Entry) → i < count → i < length S' → i < length T' → Some r ≡ entry_in n p (drop p text)
+      → Storing text at n count S T (i + 1) r.next (set S' i r.source) (set T' i r.target)
+  store_turns r low ls lt e =
       let s : List ℕ = drop p text in
-      let t : EntryGood n p s u v next = entry_taken n p s u v next e in
-      let goes : drop (suc (length (first_piece lf s))) s ≡ drop next text =
+      let t : EntryGood n p s r = entry_taken n p s r e in
+      let goes : drop (suc (length (first_piece lf s))) s ≡ drop r.next text =
       drop-drop (suc (length (first_piece lf s))) p text ∙ ap (λ (q : ℕ). drop q text) (sym t.behind) in
       let one_left : count - i ≡ suc (count - (i + 1)) = omega arith in
-      let one : entries_from n (count - i) text p ≡ with_line (first_piece lf s) (entries_from n (count - (i + 1)) text next) =
+      let one : entries_from n (count - i) text p ≡ with_line (first_piece lf s) (entries_from n (count - (i + 1)) text r.next) =
       ap (λ (m : ℕ). entries_from n m text p) one_left
-      ∙ (run_more (is_entry n) s (count - (i + 1)) t.ended t.right ∙ ap (λ (r : List ℕ). with_line (first_piece lf s) (run (is_entry n) (count - (i + 1)) (pieces lf r))) goes) in
-      let taken : (entries_from n (count - i) text p).taken ≡ first_piece lf s ∷ (entries_from n (count - (i + 1)) text next).taken = ap (λ (R : Run). R.taken) one in
-      let long : length (entries_from n (count - i) text p).taken ≡ suc (length (entries_from n (count - (i + 1)) text next).taken) = ap (λ (ls' : List Raw). length ls') taken in
+      ∙ (run_more (is_entry n) s (count - (i + 1)) t.ended t.right ∙ ap (λ (z : List ℕ). with_line (first_piece lf s) (run (is_entry n) (count - (i + 1)) (pieces lf z))) goes) in
+      let taken : (entries_from n (count - i) text p).taken ≡ first_piece lf s ∷ (entries_from n (count - (i + 1)) text r.next).taken = ap (λ (R : Run). R.taken) one in
+      let long : length (entries_from n (count - i) text p).taken ≡ suc (length (entries_from n (count - (i + 1)) text r.next).taken) = ap (λ (ls' : List Raw). length ls') taken in
       let whole : List Raw = (entries_from n count text at).taken in
-      let rest : List Raw = (entries_from n (count - (i + 1)) text next).taken in
+      let rest : List Raw = (entries_from n (count - (i + 1)) text r.next).taken in
       record {
-        few = omega arith;
         left = omega (arith, k.left, long);
-        sources = column_turns 0 whole rest (first_piece lf s) i u S S' (rw taken at k.sources) ls t.source;
-        targets = column_turns 1 whole rest (first_piece lf s) i v T T' (rw taken at k.targets) lt t.target;
+        sources = column_turns 0 whole rest (first_piece lf s) i r.source S S' (rw taken at k.sources) ls t.source;
+        targets = column_turns 1 whole rest (first_piece lf s) i r.target T T' (rw taken at k.targets) lt t.target;
       }
 
   -- all are stored
-  none_left : count ≤ i → (entries_from n (count - i) text p).taken ≡ []
-  unfolding run
-  none_left h = rw (zero_left h)
-    where
-      zero_left : count ≤ i → count - i ≡ 0
-      zero_left l = omega arith
-
-  pub store_ends : count ≤ i
+  pub store_ends : i ≡ count
       → (S' ≡ ends 0 (entries_from n count text at).taken ++ drop count S) × (T' ≡ ends 1 (entries_from n count text at).taken ++ drop count T)
-  store_ends h =
+  unfolding run
+  store_ends full =
       let whole : List Raw = (entries_from n count text at).taken in
-      let full : i ≡ count = omega (arith, k.few) in
-      (column_ends 0 whole i count S S' (rw (none_left h) at k.sources) full, column_ends 1 whole i count T T' (rw (none_left h) at k.targets) full)
+      let none_left : count - i ≡ 0 = omega arith in
+      (column_ends 0 whole i count S S' (rw none_left at k.sources) full, column_ends 1 whole i count T T' (rw none_left at k.targets) full)

@@ -1,16 +1,16 @@
 -- What the read call says of a text. It answers exactly for the texts of the subset whose edge list has room and is within form 2's bounds: it then tells n and the number of
 -- entries of the one edge list that the text holds, which stands in the lists in its order, repeated entries too; behind it they are as they were. Every refusal leaves both
 -- lists as they were, and 18 tells the first bad line. Two results that the contract allows are equal.
-use mathlib.Core.Bool.{Bool, true, false, true≢false}
+use mathlib.Core.Bool.{Bool, true, false, cond, true≢false}
 use mathlib.Core.List.{List, [], ◌++◌}
-use mathlib.Core.Path.{◌≡◌, refl, sym, ap, ap₂, ◌∙◌}
+use mathlib.Core.Path.{◌≡◌, refl, sym, ap, ◌∙◌}
 use Prim.Native.Nat.{ℕ, ◌≤◌}
-use native.Mathlib.Omega.{arith}
+use lib.Dec.{eqb}
 use lib.ListN.{length, drop}
 use borrow.Author.Tests.{le-ltb}
 use Rattle.lineage.specs.Graph.{Graph}
 use Rattle.lineage.specs.Stored.{form2}
-use Rattle.lineage.specs.Calls.{Check, any_applies}
+use Rattle.lineage.specs.Calls.{Check, Outcome, refused, answered, any_applies}
 use Rattle.laws.specs.Checks.{Pass}
 use Rattle.laws.proofs.Checks.{stops_early, answered_pass, answered_is, refused_comes}
 use Rattle.matrix_lines.specs.Matrix.{MatrixReading, says, bad_line, matrix_reading}
@@ -18,20 +18,29 @@ use Rattle.matrix_lines.specs.Grammar.{Holds, FirstBad}
 use Rattle.matrix_lines.specs.Calls.{is_bad, line_of, graph_in, edges, read_checks, MatrixSize, matrix_read_answer, matrix_read_sources, matrix_read_targets}
 use Rattle.matrix_lines.proofs.Said.{said_holds}
 use Rattle.matrix_lines.proofs.Grammar.{holds_said, bad_line_lem}
+use Rattle.std.proofs.Common.{Result, Ok, Err}
 use Rattle.matrix_read.specs.declared.MatrixRead.{MatrixRead}
-use Rattle.matrix_read.specs.declared.MatrixRead.TheVariants.{Says, Refused}
-use Rattle.matrix_read.specs.Answer.{read_of, Answered}
+use Rattle.matrix_read.specs.declared.MatrixRefusal.{MatrixRefusal}
+use Rattle.matrix_read.specs.declared.MatrixRefusal.TheVariants.{BadMatrix, ListShort, ManyVertices, ManyEdges}
+use Rattle.matrix_read.specs.Answer.{number_of, extra_of, read_of, Answered}
+
+-- a result, by what it is told
+abbrev told : Outcome MatrixSize → Result MatrixRead MatrixRefusal
+told (answered a) = Ok (record { n = a.n; edges = a.edges })
+told (refused number extra) = Err (cond (eqb number 18) (BadMatrix extra) (cond (eqb number 16) (ListShort extra) (cond (eqb number 1) ManyVertices ManyEdges)))
+
+told_back : (r : Result MatrixRead MatrixRefusal) → told (read_of r) ≡ r
+told_back (Ok r) = refl
+told_back (Err (BadMatrix extra)) = refl
+told_back (Err (ListShort extra)) = refl
+told_back (Err ManyVertices) = refl
+told_back (Err ManyEdges) = refl
 
 -- two results that the contract allows are equal
-read_one : (r r' : MatrixRead) → read_of r ≡ read_of r' → r ≡ r'
-read_one (Says n m) (Says n' m') e =
-    let same : ◌≡◌ {A = MatrixSize} (record { n = n; edges = m }) (record { n = n'; edges = m' }) = cc in
-    ap₂ Says (ap (λ (z : MatrixSize). z.n) same) (ap (λ (z : MatrixSize). z.edges) same)
-read_one (Says n m) (Refused number extra) e = let z : ◌≡◌ {A = ℕ} 0 1 = cc in absurd (omega arith)
-read_one (Refused number extra) (Says n m) e = let z : ◌≡◌ {A = ℕ} 0 1 = cc in absurd (omega arith)
-read_one (Refused number extra) (Refused number' extra') e = cc
+pub read_one : (r r' : Result MatrixRead MatrixRefusal) → read_of r ≡ read_of r' → r ≡ r'
+read_one r r' e = sym (told_back r) ∙ (ap told e ∙ told_back r')
 
-pub read_once : {text S T : List ℕ} {r r' : MatrixRead} {S' S'' T' T'' : List ℕ} → Answered text S T r S' T' → Answered text S T r' S'' T'' → (r ≡ r') × ((S' ≡ S'') × (T' ≡ T''))
+pub read_once : {text S T : List ℕ} {r r' : Result MatrixRead MatrixRefusal} {S' S'' T' T'' : List ℕ} → Answered text S T r S' T' → Answered text S T r' S'' T'' → (r ≡ r') × ((S' ≡ S'') × (T' ≡ T''))
 read_once {r = r} {r'} A B =
     (read_one r r' (A.answers ∙ sym B.answers), (A.sources_hold ∙ sym B.sources_hold, A.targets_hold ∙ sym B.targets_hold))
 
@@ -62,7 +71,7 @@ module _ (text S T : List ℕ) where
   abbrev size : MatrixSize
   size = record { n = (graph_in (matrix_reading text)).n; edges = edges (graph_in (matrix_reading text)) }
 
-  module _ {n m : ℕ} {S' T' : List ℕ} (A : Answered text S T (Says n m) S' T') where
+  module _ {n m : ℕ} {S' T' : List ℕ} (A : Answered text S T (Ok (record { n = n; edges = m })) S' T') where
     passes : Pass checks
     unfolding matrix_read_answer
     passes = answered_pass size checks (record { n = n; edges = m }) (sym A.answers)
@@ -86,10 +95,10 @@ module _ (text S T : List ℕ) where
     }
 
   -- every refusal leaves both lists as they were
-  module _ {number extra : ℕ} {S' T' : List ℕ} (A : Answered text S T (Refused number extra) S' T') where
+  module _ {e : MatrixRefusal} {S' T' : List ℕ} (A : Answered text S T (Err e) S' T') where
     stopped : any_applies checks ≡ true
     unfolding matrix_read_answer
-    stopped = (refused_comes size size checks [] [] number extra (sym A.answers)).before
+    stopped = (refused_comes size size checks [] [] (number_of e) (extra_of e) (sym A.answers)).before
 
     pub refused_sources : S' ≡ S
     unfolding matrix_read_sources
@@ -100,19 +109,19 @@ module _ (text S T : List ℕ) where
     refused_targets = A.targets_hold ∙ rw stopped
 
 -- a text of the subset, with room, within the bounds: it is read
-module _ {text S T : List ℕ} {r : MatrixRead} {S' T' : List ℕ} (A : Answered text S T r S' T') (G : Graph) (holds : Holds text G)
+module _ {text S T : List ℕ} {r : Result MatrixRead MatrixRefusal} {S' T' : List ℕ} (A : Answered text S T r S' T') (G : Graph) (holds : Holds text G)
     (room-sources : length G.sources ≤ length S) (room-targets : length G.sources ≤ length T)
     (few : G.n ≤ form2.vertices) (short : length G.sources ≤ form2.edges) where
-  pub read_taken : r ≡ Says G.n (length G.sources)
+  pub read_taken : r ≡ Ok (record { n = G.n; edges = length G.sources })
   unfolding matrix_read_answer
   read_taken =
-      read_one r (Says G.n (length G.sources))
+      read_one r (Ok (record { n = G.n; edges = length G.sources }))
       (A.answers
       ∙ rw
       (holds_said text G holds, le-ltb (length S) (length G.sources) room-sources, le-ltb (length T) (length G.sources) room-targets, le-ltb form2.vertices G.n few, le-ltb form2.edges (length G.sources) short))
 
 -- a text outside the subset: 18, and its first bad line
-module _ {text S T : List ℕ} {r : MatrixRead} {S' T' : List ℕ} (A : Answered text S T r S' T') (outside : (G : Graph) → Holds text G → ⊥) where
+module _ {text S T : List ℕ} {r : Result MatrixRead MatrixRefusal} {S' T' : List ℕ} (A : Answered text S T r S' T') (outside : (G : Graph) → Holds text G → ⊥) where
   bad : is_bad (matrix_reading text) ≡ true
   bad = go (is_bad (matrix_reading text)) refl
     where
@@ -120,9 +129,9 @@ module _ {text S T : List ℕ} {r : MatrixRead} {S' T' : List ℕ} (A : Answered
       go true e = e
       go false e = absurd (outside (graph_in (matrix_reading text)) (said_holds text (graph_in (matrix_reading text)) (says_it (matrix_reading text) e)))
 
-  pub read_outside : r ≡ Refused 18 (line_of (matrix_reading text))
+  pub read_outside : r ≡ Err (BadMatrix (line_of (matrix_reading text)))
   unfolding matrix_read_answer
-  read_outside = read_one r (Refused 18 (line_of (matrix_reading text))) (A.answers ∙ rw bad)
+  read_outside = read_one r (Err (BadMatrix (line_of (matrix_reading text)))) (A.answers ∙ rw bad)
 
   pub read_first_bad : FirstBad text (line_of (matrix_reading text))
   read_first_bad = bad_line_lem text (line_of (matrix_reading text)) (bad_it (matrix_reading text) bad)

@@ -1,9 +1,8 @@
 -- What a text says, with its entries still to be stored.
-use Rattle.std.specs.Prelude.{List, ◌≡◌, ℕ, ◌≤◌, length, drop}
+use Rattle.std.specs.Prelude.{List, ◌≡◌, Result, Ok, Err, ℕ, ◌≤◌, length, drop}
 use Rattle.text_lines.specs.Lines.{lf, pieces}
 use Rattle.matrix_lines.specs.Matrix.{Run, is_entry, run, ends, says, bad_line, matrix_reading}
 use Rattle.matrix_read.specs.declared.Survey.{Survey as SurveyRead}
-use Rattle.matrix_read.specs.declared.Survey.TheVariants.{Good as GoodSurvey, BadLine}
 
 -- the entry lines that stand first from a position on, at most `most`
 abbrev pub entries_from : ℕ → ℕ → List ℕ → ℕ → Run
@@ -17,6 +16,6 @@ pub record Stands (text : List ℕ) (n entries at : ℕ) : Type 0 where
   pub counted : length (entries_from n entries text at).taken ≡ entries
   pub inside : at ≤ length text
 
-abbrev pub Surveyed : List ℕ → SurveyRead → Type 0
-Surveyed text (GoodSurvey n entries at) = Stands text n entries at
-Surveyed text (BadLine line) = matrix_reading text ≡ bad_line line
+abbrev pub Surveyed : List ℕ → Result SurveyRead ℕ → Type 0
+Surveyed text (Ok s) = Stands text s.n s.entries s.at
+Surveyed text (Err line) = matrix_reading text ≡ bad_line line

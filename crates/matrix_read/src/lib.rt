@@ -10,95 +10,74 @@ ghost use Rattle.matrix_read.specs.Entries.{entry_in, size_in};
 ghost use Rattle.matrix_read.specs.Over.{entries_from, Surveyed};
 ghost use Rattle.matrix_read.specs.Answer.{Answered};
 
-use matrix_lines::{Block, LineKind, header_stands, kind_at, read_row, skip_comments};
-use refusals::{BAD_MATRIX, LIST_SHORT, MANY_EDGES, MANY_VERTICES};
+use matrix_lines::{LineKind, header_stands, kind_at, read_row, skip_comments};
 use stored_header::form_row;
-use text_lines::Line;
+use text_lines::Block;
 
 // An entry that was read, its ends from 0 on, and where the next line begins.
-#[derive(Clone, Copy)]
-enum Entry {
-    Good {
-        source: u32,
-        target: u32,
-        next: usize,
-    },
-    Bad,
+#[derive(Clone, Copy, Debug, PartialEq, Eq)]
+struct Entry {
+    source: u32,
+    target: u32,
+    next: usize,
 }
 
 // Two numbers, each from 1 to n.
-fn read_pair(text: &[u8], at: usize, n: u32) -> Entry
+fn read_pair(text: &[u8], at: usize, n: u32) -> Option<Entry>
     ensures { result ≡ entry_in n at (drop at text.now) }
 {
     let mut pair = [0u32; 2];
-    let Line::Good(next) = read_row(text, at, 2, &mut pair) else {
-        return Entry::Bad;
-    };
-    let u = pair[0];
-    let v = pair[1];
-    if u == 0 {
-        return Entry::Bad;
+    let next = read_row(text, at, 2, &mut pair)?;
+    let [u, v] = pair;
+    if u == 0 || n < u || v == 0 || n < v {
+        return None;
     }
-    if n < u {
-        return Entry::Bad;
-    }
-    if v == 0 {
-        return Entry::Bad;
-    }
-    if n < v {
-        return Entry::Bad;
-    }
-    Entry::Good {
+    Some(Entry {
         source: u - 1,
         target: v - 1,
-        next: next,
-    }
+        next,
+    })
 }
 
 // An entry is a row; no comment stands behind the size line.
-fn read_entry(text: &[u8], at: usize, n: u32) -> Entry
+fn read_entry(text: &[u8], at: usize, n: u32) -> Option<Entry>
     ensures { result ≡ entry_in n at (drop at text.now) }
 {
     match kind_at(text, at) {
         LineKind::Row => read_pair(text, at, n),
-        LineKind::Comment => Entry::Bad,
-        LineKind::Neither => Entry::Bad,
+        LineKind::Comment => None,
+        LineKind::Neither => None,
     }
 }
 
 // The size line that was read: n, the number of entries, and where the next line begins.
-#[derive(Clone, Copy)]
-enum Size {
-    Good { n: u32, entries: u32, next: usize },
-    Bad,
+#[derive(Clone, Copy, Debug, PartialEq, Eq)]
+struct Size {
+    n: u32,
+    entries: u32,
+    next: usize,
 }
 
 // Three numbers, as many rows as columns.
-fn read_three(text: &[u8], at: usize) -> Size
+fn read_three(text: &[u8], at: usize) -> Option<Size>
     ensures { result ≡ size_in at (drop at text.now) }
 {
     let mut sizes = [0u32; 3];
-    let Line::Good(next) = read_row(text, at, 3, &mut sizes) else {
-        return Size::Bad;
-    };
-    let n = sizes[0];
-    if n != sizes[1] {
-        return Size::Bad;
+    let next = read_row(text, at, 3, &mut sizes)?;
+    let [n, columns, entries] = sizes;
+    if n != columns {
+        return None;
     }
-    Size::Good {
-        n: n,
-        entries: sizes[2],
-        next: next,
-    }
+    Some(Size { n, entries, next })
 }
 
 // The size line is a row.
-fn read_size(text: &[u8], at: usize) -> Size
+fn read_size(text: &[u8], at: usize) -> Option<Size>
     ensures { result ≡ size_in at (drop at text.now) }
 {
     match kind_at(text, at) {
         LineKind::Row => read_three(text, at),
-        LineKind::Comment | LineKind::Neither => Size::Bad,
+        LineKind::Comment | LineKind::Neither => None,
     }
 }
 
@@ -107,61 +86,45 @@ fn good_entries(text: &[u8], at: usize, n: u32, most: usize) -> Block
     requires { at ≤ length text.now }
     ensures { RunInto text.now at (run (is_entry n) most (pieces lf (drop at text.now))) result.count result.at }
 {
-    let mut i = 0;
     let mut p = at;
-    while i < most {
-        let Entry::Good {
-            source,
-            target,
-            next,
-        } = read_entry(text, p, n)
-        else {
+    for i in 0..most {
+        let Some(entry) = read_entry(text, p, n) else {
             return Block { count: i, at: p };
         };
-        p = next;
-        i += 1;
+        p = entry.next;
     }
-    Block { count: i, at: p }
+    Block { count: most, at: p }
 }
 
-// A number of 32 bits as a size.
-fn size_of(x: u32) -> usize
-    ensures { result ≡ x }
-{
-    x as usize
+// What a text says, its entries counted and found good: n, how many, and where they begin.
+#[derive(Clone, Copy, Debug, PartialEq, Eq)]
+struct Survey {
+    n: u32,
+    entries: usize,
+    at: usize,
 }
 
-// What a text says, its entries counted and found good: n, how many, and where they begin; or the first bad line.
-#[derive(Clone, Copy)]
-enum Survey {
-    Good { n: u32, entries: usize, at: usize },
-    BadLine(usize),
-}
-
-// One header, comments, one size line, as many entries as it says, and the end.
-fn look_over(text: &[u8]) -> Survey
+// One header, comments, one size line, as many entries as it says, and the end. The error is the first bad line.
+fn look_over(text: &[u8]) -> Result<Survey, usize>
     ensures { Surveyed text.now result }
 {
     if !header_stands(text) {
-        return Survey::BadLine(1);
+        return Err(1);
     }
     let c = skip_comments(text, 49);
-    let Size::Good { n, entries, next } = read_size(text, c.at) else {
-        return Survey::BadLine(c.count + 2);
+    let Some(size) = read_size(text, c.at) else {
+        return Err(c.count + 2);
     };
-    let most = size_of(entries);
-    let e = good_entries(text, next, n, most);
-    if e.count < most {
-        return Survey::BadLine(c.count + e.count + 3);
+    let most = size.entries as usize;
+    let e = good_entries(text, size.next, size.n, most);
+    if e.count < most || e.at < text.len() {
+        return Err(c.count + e.count + 3);
     }
-    if e.at < text.len() {
-        return Survey::BadLine(c.count + e.count + 3);
-    }
-    Survey::Good {
-        n: n,
+    Ok(Survey {
+        n: size.n,
         entries: most,
-        at: next,
-    }
+        at: size.next,
+    })
 }
 
 // Reads the entries again, `count` of them, and stores their ends.
@@ -178,67 +141,83 @@ fn store_entries(
     ensures sources_after { sources.new ≡ ends 0 (entries_from n count text.now at).taken ++ drop count sources.old }
     ensures targets_after { targets.new ≡ ends 1 (entries_from n count text.now at).taken ++ drop count targets.old }
 {
-    let mut i = 0;
     let mut p = at;
-    while i < count {
-        let Entry::Good {
-            source,
-            target,
-            next,
-        } = read_entry(text, p, n)
-        else {
+    for i in 0..count {
+        let Some(entry) = read_entry(text, p, n) else {
             return;
         };
-        sources[i] = source;
-        targets[i] = target;
-        p = next;
-        i += 1;
+        sources[i] = entry.source;
+        targets[i] = entry.target;
+        p = entry.next;
     }
 }
 
-// n and the number of entries, or a refusal with its number and its extra number.
-#[derive(Clone, Copy)]
-pub enum MatrixRead {
-    Says { n: u32, edges: usize },
-    Refused { number: u32, extra: usize },
+// n and the number of entries.
+#[derive(Clone, Copy, Debug, PartialEq, Eq)]
+pub struct MatrixRead {
+    pub n: u32,
+    pub edges: usize,
 }
 
-pub fn read_matrix(text: &[u8], sources: &mut [u32], targets: &mut [u32]) -> MatrixRead
-    ensures { Answered text.now sources.old targets.old result sources.new targets.new }
-{
-    match look_over(text) {
-        Survey::BadLine(line) => MatrixRead::Refused {
-            number: BAD_MATRIX,
-            extra: line,
-        },
-        Survey::Good { n, entries, at } => {
-            if sources.len() < entries {
-                return MatrixRead::Refused {
-                    number: LIST_SHORT,
-                    extra: entries,
-                };
-            }
-            if targets.len() < entries {
-                return MatrixRead::Refused {
-                    number: LIST_SHORT,
-                    extra: entries,
-                };
-            }
-            let form = form_row(2);
-            if form.vertices < size_of(n) {
-                return MatrixRead::Refused {
-                    number: MANY_VERTICES,
-                    extra: 0,
-                };
-            }
-            if form.edges < entries {
-                return MatrixRead::Refused {
-                    number: MANY_EDGES,
-                    extra: 0,
-                };
-            }
-            store_entries(text, at, n, entries, sources, targets);
-            MatrixRead::Says { n, edges: entries }
+// Why a text was not read: it is bad, and its first bad line; a list is shorter than the entries; n, or the entries, are beyond form 2's bounds.
+// A line's number need not fit 32 bits.
+#[derive(Clone, Copy, Debug, PartialEq, Eq)]
+pub enum MatrixRefusal {
+    BadMatrix(usize),
+    ListShort(usize),
+    ManyVertices,
+    ManyEdges,
+}
+
+impl MatrixRefusal {
+    ghost use Rattle.matrix_read.specs.Answer.{number_of, extra_of};
+
+    // The number that the documents give it.
+    pub fn number(self) -> u32
+        ensures { result ≡ number_of self }
+    {
+        match self {
+            MatrixRefusal::BadMatrix(_) => 18,
+            MatrixRefusal::ListShort(_) => 16,
+            MatrixRefusal::ManyVertices => 1,
+            MatrixRefusal::ManyEdges => 3,
         }
     }
+
+    // Its extra number.
+    pub fn extra(self) -> usize
+        ensures { result ≡ extra_of self }
+    {
+        match self {
+            MatrixRefusal::BadMatrix(extra) | MatrixRefusal::ListShort(extra) => extra,
+            MatrixRefusal::ManyVertices | MatrixRefusal::ManyEdges => 0,
+        }
+    }
+}
+
+pub fn read_matrix(
+    text: &[u8],
+    sources: &mut [u32],
+    targets: &mut [u32],
+) -> Result<MatrixRead, MatrixRefusal>
+    ensures { Answered text.now sources.old targets.old result sources.new targets.new }
+{
+    let Survey { n, entries, at } = match look_over(text) {
+        Ok(survey) => survey,
+        Err(line) => {
+            return Err(MatrixRefusal::BadMatrix(line));
+        }
+    };
+    if sources.len() < entries || targets.len() < entries {
+        return Err(MatrixRefusal::ListShort(entries));
+    }
+    let form = form_row(2);
+    if form.vertices < n as usize {
+        return Err(MatrixRefusal::ManyVertices);
+    }
+    if form.edges < entries {
+        return Err(MatrixRefusal::ManyEdges);
+    }
+    store_entries(text, at, n, entries, sources, targets);
+    Ok(MatrixRead { n, edges: entries })
 }

@@ -5,7 +5,7 @@ use mathlib.Core.Path.{◌≡◌, sym, ap, ◌∙◌}
 use Prim.Native.Nat.{ℕ, suc, ◌+◌, ◌≤◌, ◌<◌}
 use native.Mathlib.Numerals.{add-one}
 use native.Mathlib.Omega.{arith}
-use lib.ListN.{length, get_or, drop, length-append, drop_of_length-le}
+use lib.ListN.{length, get_or, drop, length-append}
 use lib.Seq.{drop-cons}
 use Rattle.lineage.specs.Graph.{Graph}
 use Rattle.text_lines.specs.Lines.{bytes, lf, space, decimal}
@@ -63,6 +63,3 @@ pub entries_next : (S T : List ℕ) (i : ℕ) → length S ≡ length T → i < 
 entries_next S T i paired low =
     rw (drop-cons S i 0 low, drop-cons T i 0 (omega arith), add-one i)
     (ended_more (row (suc (get_or S i 0)) (suc (get_or T i 0) ∷ [])) (entry_rows (drop (suc i) S) (drop (suc i) T)))
-
-pub entries_end : (S T : List ℕ) (i : ℕ) → length S ≤ i → entries_from S T i ≡ []
-entries_end S T i low = rw (drop_of_length-le S low)

@@ -14,25 +14,22 @@ use Rattle.lineage.specs.Calls.{Check, answered, any_applies, Input, build_call,
 use Rattle.laws.proofs.Checks.{stops_early, answered_pass, answered_is}
 use Rattle.build.specs.Input.{input_of}
 use Rattle.matrix_lines.specs.Matrix.{matrix_text}
-use Rattle.matrix_lines.specs.Calls.{MatrixSize, matrix_read_answer, matrix_read_sources, matrix_read_targets, write_checks, matrix_write_answer, matrix_write_output}
+use Rattle.matrix_lines.specs.Calls.{matrix_read_answer, matrix_read_sources, matrix_read_targets, write_checks, matrix_write_answer, matrix_write_output}
 use Rattle.matrix_lines.proofs.Reread as again
 use Rattle.matrix_read.specs.declared.MatrixRead.{MatrixRead}
-use Rattle.matrix_read.specs.declared.MatrixRead.TheVariants as reading
-use Rattle.matrix_read.specs.Answer.{read_of, Answered}
-use Rattle.matrix_write.specs.declared.Written.{Written}
-use Rattle.matrix_write.specs.declared.Written.TheVariants.{Total, Refused}
-use Rattle.matrix_write.specs.Written.{written_of, Allowed}
+use Rattle.matrix_read.specs.declared.MatrixRefusal.{MatrixRefusal}
+use Rattle.matrix_read.proofs.Theorems.{read_one}
+use Rattle.matrix_read.specs.Answer.{Answered}
+use Rattle.refusals.specs.declared.Refusal.{Refusal}
+use Rattle.refusals.proofs.Told.{outcome_once}
+use Rattle.std.proofs.Common.{Result, Ok}
+use Rattle.matrix_write.specs.Written.{Allowed}
 
 -- form 2's bounds have at most seven digits
 small : again.Small form2
 small = record { vertices = omega arith; edges = omega arith }
 
--- an answer that tells n and the number of edges
-read_one : (r : MatrixRead) {size : MatrixSize} → read_of r ≡ answered size → r ≡ reading.Says size.n size.edges
-read_one (reading.Says n edges) e = cc
-read_one (reading.Refused number extra) e = let z : ◌≡◌ {A = ℕ} 0 1 = cc in absurd (omega arith)
-
-module _ {G : Graph} {out out' : List ℕ} {total : ℕ} (W : Allowed G out (Total total) out') where
+module _ {G : Graph} {out out' : List ℕ} {total : ℕ} (W : Allowed G out (Ok total) out') where
   abbrev checks : List Check
   checks = write_checks form2 G (matrix_text G) (length out)
 
@@ -62,16 +59,16 @@ module _ {G : Graph} {out out' : List ℕ} {total : ℕ} (W : Allowed G out (Tot
   written_behind = ap (drop total) output_is ∙ drop_at (matrix_text G) (drop total out) total (sym total_is)
 
   -- it is read back into lists with room
-  module _ {S T : List ℕ} {r : MatrixRead} {S' T' : List ℕ} (R : Answered (take total out') S T r S' T')
+  module _ {S T : List ℕ} {r : Result MatrixRead MatrixRefusal} {S' T' : List ℕ} (R : Answered (take total out') S T r S' T')
       (sources-room : length G.sources ≤ length S) (targets-room : length G.sources ≤ length T)
     where
       rewritten : take total out' ≡ again.rewritten form2 G out S T small taken sources-room targets-room
       rewritten = ap₂ (λ (k : ℕ) (o : List ℕ). take k o) total_is W.writes
 
       -- the same n and number of edges, and the same edge list; behind it the lists are as they were
-      pub written_reads : r ≡ reading.Says G.n (length G.sources)
+      pub written_reads : r ≡ Ok (record { n = G.n; edges = length G.sources })
       written_reads =
-          read_one r
+          read_one r (Ok (record { n = G.n; edges = length G.sources }))
           (R.answers
           ∙ ap (λ (text : List ℕ). matrix_read_answer form2 text (length S) (length T)) rewritten
           ∙ again.written_reads form2 G out S T small taken sources-room targets-room)
@@ -109,11 +106,5 @@ module _ {G : Graph} {out out' : List ℕ} {total : ℕ} (W : Allowed G out (Tot
         bytes_same work lent = read_back (λ (sources targets : List ℕ). build_call_output form (input_of G.n sources targets d orders) work lent)
 
 -- Two results that the contract allows are equal.
-written_one : (r r' : Written) → written_of r ≡ written_of r' → r ≡ r'
-written_one (Total t) (Total t') e = cc
-written_one (Total t) (Refused number extra) e = let z : ◌≡◌ {A = ℕ} 0 1 = cc in absurd (omega arith)
-written_one (Refused number extra) (Total t) e = let z : ◌≡◌ {A = ℕ} 0 1 = cc in absurd (omega arith)
-written_one (Refused number extra) (Refused number' extra') e = cc
-
-pub written_once : {G : Graph} {out : List ℕ} {r r' : Written} {o o' : List ℕ} → Allowed G out r o → Allowed G out r' o' → (r ≡ r') × (o ≡ o')
-written_once {r = r} {r'} A B = (written_one r r' (A.answers ∙ sym B.answers), A.writes ∙ sym B.writes)
+pub written_once : {G : Graph} {out : List ℕ} {r r' : Result ℕ Refusal} {o o' : List ℕ} → Allowed G out r o → Allowed G out r' o' → (r ≡ r') × (o ≡ o')
+written_once {r = r} {r'} A B = (outcome_once (λ total. total) (λ a a' e. e) r r' (A.answers ∙ sym B.answers), A.writes ∙ sym B.writes)

@@ -11,15 +11,8 @@ ghost use Rattle.matrix_lines.specs.Calls.{matrix_write_answer, matrix_write_out
 ghost use Rattle.matrix_write.specs.Fit.{Lines};
 ghost use Rattle.matrix_write.specs.Written.{written_of};
 
-use refusals::{BAD_EDGE, LISTS_DIFFER, MANY_EDGES, MANY_VERTICES, OUTPUT_SHORT};
+use refusals::Refusal;
 use text_printing::{decimal_length, put_byte, put_number, put_word};
-
-// The length of the text that was written, or a refusal with its number and its extra number.
-#[derive(Clone, Copy)]
-pub enum Written {
-    Total(u32),
-    Refused { number: u32, extra: u32 },
-}
 
 // A vertex as the file counts it, from 1.
 fn file_number(v: u32) -> u32
@@ -49,10 +42,8 @@ fn text_length(n: u32, sources: &[u32], targets: &[u32]) -> usize
     ensures { (result ≡ length (matrix_text (graph_of n sources.now targets.now))) × (result < 2 ^ 32) }
 {
     let mut size = front_length(n, sources.len() as u32);
-    let mut edge = 0;
-    while edge < sources.len() {
+    for edge in 0..sources.len() {
         size += row_length(file_number(sources[edge]), file_number(targets[edge]));
-        edge += 1;
     }
     size
 }
@@ -90,55 +81,43 @@ fn put_entries(out: &mut [u8], at: usize, n: u32, sources: &[u32], targets: &[u3
     ensures { Put out.old at (ended (entry_rows sources.now targets.now)) result out.new }
 {
     let mut p = at;
-    let mut i = 0;
-    while i < sources.len() {
+    for i in 0..sources.len() {
         p = put_row(out, p, file_number(sources[i]), file_number(targets[i]));
-        i += 1;
     }
     p
 }
 
 // Writes the text of an edge list to the front of the output, and tells its length; or gives the first of the refusals 1, 2, 3, 7 and 9 that applies, by form 2's
 // bounds. The output behind the text is untouched, and all of it by every refusal.
-pub fn write_matrix(n: u32, sources: &[u32], targets: &[u32], out: &mut [u8]) -> Written
+pub fn write_matrix(
+    n: u32,
+    sources: &[u32],
+    targets: &[u32],
+    out: &mut [u8],
+) -> Result<u32, Refusal>
     ensures result_value { written_of result ≡ matrix_write_answer form2 (graph_of n sources.now targets.now) (length out.old) }
     ensures out_after { out.new ≡ matrix_write_output form2 (graph_of n sources.now targets.now) out.old }
 {
     let most = stored_header::form_row(2);
     let edges = sources.len();
     if most.vertices < n as usize {
-        return Written::Refused {
-            number: MANY_VERTICES,
-            extra: 0,
-        };
+        return Err(Refusal::ManyVertices);
     }
     if edges != targets.len() {
-        return Written::Refused {
-            number: LISTS_DIFFER,
-            extra: 0,
-        };
+        return Err(Refusal::ListsDiffer);
     }
     if most.edges < edges {
-        return Written::Refused {
-            number: MANY_EDGES,
-            extra: 0,
-        };
+        return Err(Refusal::ManyEdges);
     }
     let first = build_orders::bad_edge(n as usize, sources, targets);
     if first < edges {
-        return Written::Refused {
-            number: BAD_EDGE,
-            extra: first as u32,
-        };
+        return Err(Refusal::BadEdge(first as u32));
     }
     let size = text_length(n, sources, targets);
     if out.len() < size {
-        return Written::Refused {
-            number: OUTPUT_SHORT,
-            extra: size as u32,
-        };
+        return Err(Refusal::OutputShort(size as u32));
     }
     let at = put_front(out, n, edges as u32);
     put_entries(out, at, n, sources, targets);
-    Written::Total(size as u32)
+    Ok(size as u32)
 }

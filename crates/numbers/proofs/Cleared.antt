@@ -1,24 +1,17 @@
--- Lent memory whose first elements are set to 0, one element more at a time.
-use mathlib.Core.Path.{◌≡◌, sym, ap, ap₂, ◌∙◌}
+-- Lent memory whose first elements are set to 0.
+use mathlib.Core.Path.{◌≡◌, refl, sym, ap, ap₂, ◌∙◌}
 use mathlib.Core.List.{List, ◌++◌}
-use Prim.Native.Nat.{ℕ, ◌+◌, ◌≤◌, ◌<◌}
+use Prim.Native.Nat.{ℕ, ◌≤◌, ◌<◌}
 use native.Mathlib.Omega.{arith}
-use lib.ListN.{length, get_or, take, drop, take-append-drop, set, replicate, length-append, length-drop, length-replicate, get_or-replicate, get_or-append}
-use lib.Seq.{take_at, drop_at, take_all}
-use borrow.Author.Fill.{fill_none, fill_more}
+use lib.ListN.{length, get_or, take, drop, take-append-drop, replicate, length-append, length-drop, length-replicate, get_or-replicate, get_or-append}
+use lib.Seq.{take_at, drop_at, take_all, length-take-le}
 use Rattle.lineage.specs.Lists.{part, cleared}
 use Rattle.numbers.specs.Regions.{Kept}
 
-pub cleared_none : (s : List ℕ) → s ≡ cleared 0 s
+-- what `fill` leaves of the first n elements, with those behind them
+pub cleared_front_filled : (n : ℕ) (s : List ℕ) {zeros : List ℕ} → n ≤ length s → zeros ≡ replicate (length (take n s)) 0 → zeros ++ drop n s ≡ cleared n s
 unfolding cleared
-cleared_none s = fill_none s 0
-
-pub cleared_more : (s t : List ℕ) (i : ℕ) → i < length s → t ≡ cleared i s → set t i 0 ≡ cleared (i + 1) s
-unfolding cleared
-cleared_more s t i h e = rw e (fill_more i 0 s h)
-
-pub cleared_all : (s t : List ℕ) (i n : ℕ) → i ≡ n → t ≡ cleared i s → t ≡ cleared n s
-cleared_all s t i n e h = rw (← e) h
+cleared_front_filled n s h e = rw (e, length-take-le n s h) refl
 
 -- as many as before, 0 below n, and from n on as they were; to clear twice is to clear once
 module _ (n : ℕ) (s : List ℕ) where

@@ -1,7 +1,7 @@
-// Little-endian numbers of w bytes in lent bytes, w being 2 or 4; the lesser and the greater of two numbers; and lent memory set to 0.
+// Little-endian numbers of w bytes in lent bytes, w being 2 or 4; and lent memory set to 0.
 #![tactic(auto)]
 
-ghost use Rattle.std.specs.Prelude.{◌≡◌, ◌+◌, ◌*◌, ◌%◌, ◌^◌, ◌≤◌, ◌<◌, min, max, length, replicate};
+ghost use Rattle.std.specs.Prelude.{◌≡◌, ◌+◌, ◌*◌, ◌%◌, ◌^◌, ◌≤◌, ◌<◌, length, replicate};
 ghost use Rattle.lineage.specs.Lists.{part, cleared};
 ghost use Rattle.lineage.specs.Numbers.{Width, le_at, num_at, numbers, le_bytes, written};
 ghost use Rattle.laws.specs.Rising.{Rises, count_below};
@@ -18,31 +18,6 @@ fn low(v: usize) -> u8
     ensures { result ≡ v % 256 }
 {
     (v % 256) as u8
-}
-
-// The lesser of two numbers, and the greater; and those of two words.
-pub fn lesser(a: usize, b: usize) -> usize
-    ensures { result ≡ min a b }
-{
-    if a < b { a } else { b }
-}
-
-pub fn greater(a: usize, b: usize) -> usize
-    ensures { result ≡ max a b }
-{
-    if a < b { b } else { a }
-}
-
-pub fn lesser_word(a: u32, b: u32) -> u32
-    ensures { result ≡ min a b }
-{
-    if a < b { a } else { b }
-}
-
-pub fn greater_word(a: u32, b: u32) -> u32
-    ensures { result ≡ max a b }
-{
-    if a < b { b } else { a }
 }
 
 // The bytes that so many numbers of w bytes take.
@@ -132,11 +107,9 @@ pub fn write_words(out: &mut [u8], at: usize, w: usize, words: &[u32], from: usi
     ensures { out.new ≡ put out.old at (written w (part words.now from count)) }
 {
     let mut p = at;
-    let mut i = 0;
-    while i < count {
+    for i in 0..count {
         put_at(out, p, w, words[from + i] as usize);
         p += w;
-        i += 1;
     }
 }
 
@@ -148,11 +121,9 @@ pub fn copy_numbers(out: &mut [u8], at: usize, v: usize, from: &[u8], w: usize, 
     ensures { out.new ≡ put out.old at (written v (numbers w from.now count)) }
 {
     let mut p = at;
-    let mut i = 0;
-    while i < count {
+    for i in 0..count {
         put_at(out, p, v, num(from, w, i));
         p += v;
-        i += 1;
     }
 }
 
@@ -162,11 +133,7 @@ pub fn clear_part(words: &mut [u32], at: usize, n: usize)
     ensures kept { Kept words.old words.new at n }
     ensures n_after { part words.new at n ≡ replicate n 0 }
 {
-    let mut i = 0;
-    while i < n {
-        words[at + i] = 0;
-        i += 1;
-    }
+    words[at..at + n].fill(0)
 }
 
 // Sets the first n words to 0.
@@ -182,9 +149,5 @@ pub fn clear_marks(marks: &mut [u8], n: usize)
     requires { n ≤ length marks.old }
     ensures { marks.new ≡ cleared n marks.old }
 {
-    let mut i = 0;
-    while i < n {
-        marks[i] = 0;
-        i += 1;
-    }
+    marks[..n].fill(0)
 }

@@ -8,6 +8,7 @@ use mathlib.Core.List.{List}
 use Prim.Native.Nat.{ℕ, ◌^◌, ◌≤◌, ◌<◌}
 use native.Mathlib.Omega.{arith}
 use lib.ListN.{length, length-map}
+use Rattle.std.specs.Prelude.{Result}
 use Rattle.lineage.specs.Lists.{Every}
 use Rattle.lineage.specs.Graph.{Graph, Ends}
 use Rattle.lineage.specs.Labels.{Order, labelling}
@@ -17,6 +18,8 @@ use Rattle.lineage.specs.Sound.{is_tree, sound, contents_sound}
 use Rattle.lineage.specs.Calls.{answered, FormsTaken, takes, words_for, words_in, open_answer, open_marks, open_work, index_in}
 use Rattle.laws.proofs.Sound.{made_sound, sound_is_made, made_long}
 use Rattle.laws.proofs.Decides.{sound_decides}
+use Rattle.refusals.specs.declared.Refusal.{Refusal}
+use Rattle.refusals.proofs.Told.{outcome_once}
 use Rattle.numbers.proofs.Written.{Bytes}
 use Rattle.stored_header.proofs.Forms.{form_within}
 use Rattle.stored_header.proofs.Laid.{header_laid}
@@ -25,8 +28,7 @@ use Rattle.stored.proofs.Decoded.{counts_are, encode_decode}
 use Rattle.open.specs.Yields.{Yields, HeaderRight}
 use Rattle.open.proofs.Checks.{opened_right, opened_contents, right_passes}
 use Rattle.open.specs.declared.Opened.{Opened}
-use Rattle.open.specs.declared.Opened.TheVariants.{Index as IndexOf, Refused}
-use Rattle.open.specs.Opened.{opened_of}
+use Rattle.open.specs.Opened.{counts_told, opened_of}
 use Rattle.open.proofs.Bounds.{counts_bounded, laid_short}
 use Rattle.open.proofs.Fits.{Wide, form_wide, bounds_kept, yielded_fits, encoded_opens, fits_opens}
 
@@ -125,7 +127,7 @@ module _ (T : FormsTaken) (b : List ℕ) where
     )
 
     -- and so of the code: whatever answer its contract allows
-    pub accepts_exactly : (r : Opened) → opened_of r ≡ open_answer T b marks work
+    pub accepts_exactly : (r : Result Opened Refusal) → opened_of r ≡ open_answer T b marks work
         → (opened_of r ≡ answered (counts_in b)) ↔ (HeaderRight T b × ((Y : Yields own b) × (length Y.orders ≡ (counts_in b).d)))
     accepts_exactly r e = rw e opens_exactly
 
@@ -147,26 +149,18 @@ built_opens W G ends orders permuted vertices edges least most plain T marks wor
     let n = made_long (record { graph = G; ends = ends; orders = orders; permuted = permuted; yields = refl }) in
     sym (fits_opens (yielded_fits W G ends orders permuted plain bounds) passes plain T marks work taken (omega arith) words)
 
+-- counts are told as they are
+told_apart : (o o' : Opened) → counts_told o ≡ counts_told o' → o ≡ o'
+told_apart o o' = ap (λ (a : Counts). record { n = a.n; k = a.k; c = a.c; d = a.d })
+
 -- What opening may answer and leave, by its contract: two results are equal.
-pub record Allowed (T : FormsTaken) (b marks work : List ℕ) (r : Opened) (m w : List ℕ) : Type 0 where
+pub record Allowed (T : FormsTaken) (b marks work : List ℕ) (r : Result Opened Refusal) (m w : List ℕ) : Type 0 where
   pub answers : opened_of r ≡ open_answer T b (length marks) (length work)
   pub leaves : m ≡ open_marks T b marks (length work)
   pub clears : w ≡ open_work T b (length marks) work
 
-opened_one : (r r' : Opened) → opened_of r ≡ opened_of r' → r ≡ r'
-opened_one (IndexOf n k c d) (IndexOf n' k' c' d') e =
-    let same : ◌≡◌ {A = Counts} (record { n = n; k = k; c = c; d = d }) (record { n = n'; k = k'; c = c'; d = d' }) = cc in
-    let en : n ≡ n' = ap (λ (a : Counts). a.n) same in
-    let ek : k ≡ k' = ap (λ (a : Counts). a.k) same in
-    let ec : c ≡ c' = ap (λ (a : Counts). a.c) same in
-    let ed : d ≡ d' = ap (λ (a : Counts). a.d) same in
-    cc
-opened_one (IndexOf n k c d) (Refused number extra) e = cc
-opened_one (Refused number extra) (IndexOf n k c d) e = cc
-opened_one (Refused number extra) (Refused number' extra') e = cc
-
-pub opened_once : {T : FormsTaken} {b marks work : List ℕ} {r r' : Opened} {m m' w w' : List ℕ}
+pub opened_once : {T : FormsTaken} {b marks work : List ℕ} {r r' : Result Opened Refusal} {m m' w w' : List ℕ}
     → Allowed T b marks work r m w
     → Allowed T b marks work r' m' w'
     → (r ≡ r') × ((m ≡ m') × (w ≡ w'))
-opened_once A B = (opened_one _ _ (A.answers ∙ sym B.answers), (A.leaves ∙ sym B.leaves, A.clears ∙ sym B.clears))
+opened_once A B = (outcome_once counts_told told_apart _ _ (A.answers ∙ sym B.answers), (A.leaves ∙ sym B.leaves, A.clears ∙ sym B.clears))

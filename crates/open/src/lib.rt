@@ -11,16 +11,18 @@ ghost use Rattle.open.specs.Parts.{Parts, parts_pass};
 ghost use Rattle.open.specs.Opened.{opened_of};
 
 use numbers::{clear_marks, clear_words};
-use refusals::NOT_SOUND;
+use refusals::Refusal;
 use sound_groups::groups_pass;
 use sound_labels::labels_sound;
-use stored_header::{Header, Layout, words_needed};
+use stored_header::{Layout, admit, words_needed};
 
-// An index's counts, or a refusal with its number and its extra number.
-#[derive(Clone, Copy)]
-pub enum Opened {
-    Index { n: u32, k: u32, c: u32, d: u32 },
-    Refused { number: u32, extra: u32 },
+// An index's counts.
+#[derive(Clone, Copy, Debug, PartialEq, Eq)]
+pub struct Opened {
+    pub n: u32,
+    pub k: u32,
+    pub c: u32,
+    pub d: u32,
 }
 
 // Whether six sections hold an index that some edge list and some orders yield, and where labels are in pairs one of a plain hierarchy. Marks below n are 0 afterwards.
@@ -85,32 +87,26 @@ pub fn open_taking(
     index: &[u8],
     marks: &mut [u8],
     work: &mut [u32],
-) -> Opened
+) -> Result<Opened, Refusal>
     ensures result_value { opened_of result ≡ open_answer (forms_taken least most) index.now (length marks.old) (length work.old) }
     ensures marks_after { marks.new ≡ open_marks (forms_taken least most) index.now marks.old (length work.old) }
     ensures work_after { work.new ≡ open_work (forms_taken least most) index.now (length marks.old) work.old }
 {
-    let l = match stored_header::admit(least, most, index, marks.len(), work.len()) {
-        Header::Refused { number, extra } => return Opened::Refused { number, extra },
-        Header::Passed(l) => l,
-    };
+    let l = admit(least, most, index, marks.len(), work.len())?;
     clear_words(work, words_needed(l));
     if !contents_sound(index, l, marks) {
-        return Opened::Refused {
-            number: NOT_SOUND,
-            extra: 0,
-        };
+        return Err(Refusal::NotSound);
     }
-    Opened::Index {
+    Ok(Opened {
         n: l.n as u32,
         k: l.k as u32,
         c: l.c as u32,
         d: l.d as u32,
-    }
+    })
 }
 
 // Opens a stored index of form 1 or 2.
-pub fn open(index: &[u8], marks: &mut [u8], work: &mut [u32]) -> Opened
+pub fn open(index: &[u8], marks: &mut [u8], work: &mut [u32]) -> Result<Opened, Refusal>
     ensures result_value { opened_of result ≡ open_answer ordinary index.now (length marks.old) (length work.old) }
     ensures marks_after { marks.new ≡ open_marks ordinary index.now marks.old (length work.old) }
     ensures work_after { work.new ≡ open_work ordinary index.now (length marks.old) work.old }
@@ -119,10 +115,9 @@ pub fn open(index: &[u8], marks: &mut [u8], work: &mut [u32]) -> Opened
 }
 
 // Opens a stored index of form 1, which needs no words.
-pub fn open_form1(index: &[u8], marks: &mut [u8]) -> Opened
+pub fn open_form1(index: &[u8], marks: &mut [u8]) -> Result<Opened, Refusal>
     ensures result_value { opened_of result ≡ open_answer host index.now (length marks.old) 0 }
     ensures marks_after { marks.new ≡ open_marks host index.now marks.old 0 }
 {
-    let mut none = [0u32; 0];
-    open_taking(1, 1, index, marks, &mut none)
+    open_taking(1, 1, index, marks, &mut [])
 }

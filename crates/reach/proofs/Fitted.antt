@@ -27,12 +27,14 @@ use Rattle.stored_header.proofs.Laid.{n_is, k_is, d_is}
 use Rattle.stored.specs.Sections.{Six, children_in, labelling_in, tuples_of, places_of, labels_in, index_from, index_at}
 use Rattle.stored.proofs.Sections.{children_long, e_at, labels_long}
 use Rattle.stored.specs.Rows.{Holds}
+use Rattle.stored.specs.Reading.{numbers_of}
 use Rattle.sound_places.specs.Lent.{SoundBytes, Lent}
 use Rattle.stored.proofs.Contents.{names_many, children_many, labels_many, contents_sound_lem, index_at_lem}
 use Rattle.sound_places.proofs.Lent.{lent}
 use Rattle.sound_ranks.specs.Fit.{Tuples}
-use Rattle.reach_sweep.specs.Fit.{Spots, Ranked}
-use Rattle.reach.specs.Fit.{Names}
+use Rattle.reach_sweep.specs.declared.groups.Ranks.{Ranks}
+use Rattle.reach_sweep.specs.Fit.{names_of, children_of, Spots}
+use Rattle.reach.specs.Fit.{Names, SpotsIn, RankedIn, RanksOf}
 use Rattle.reach_sweep.specs.Sweep.{swept}
 use Rattle.reach.specs.Marks.{first_labels, rank_in, mark_in, swept_in, reach_marks}
 use Rattle.reach.proofs.Marked.{first_sound, rank_most}
@@ -73,6 +75,23 @@ module _ {b : List ℕ} {l : Layout} (O : SoundBytes b l) where
     unfolding reach_marks
     reach_is before clear es et e =
         e ∙ ap₂ (swept_in (index_in b)) et (es ∙ ap (mark_in (index_in b) u) (clear ∙ ap (λ (m : ℕ). cleared m before) (sym names_count)))
+
+-- its groups by rank
+module _ {b : List ℕ} {l : Layout} (O : SoundBytes b l) {ranks : Ranks} (R : RanksOf (index_in b) l.k ranks) where
+  -- they are fit for the sweep
+  pub ranks_spots : (marks : ℕ) → l.n ≤ marks → Spots ranks.groups marks
+  ranks_spots marks room = record {
+    name_low = λ p h.
+        let low : p < length (index_in b).children = omega (arith, R.many, children_many b, k_is O.laid) in
+        omega (arith, ap (λ (s : List ℕ). get_or s p 0) R.names, (group_name (index_sound O).condensed p low).0, names_count O);
+  }
+
+  -- what the sweep over them leaves is what it leaves over the index
+  pub swept_is :
+      (top : ℕ) (before : List ℕ) {after : List ℕ} → after ≡ swept (names_of ranks.groups) (children_of ranks.groups) (numbers_of ranks.places) top before
+      → after ≡ swept_in (index_in b) top before
+  unfolding swept_in
+  swept_is top before e = rw (← R.names, ← R.rows, ← R.by_rank) e
 
 -- the sections that were read
 module _
@@ -135,7 +154,7 @@ module _
           (group_name sound_groups p (omega (arith, children_long w starts children k c))).0,
         )
 
-    pub spots : (marks : ℕ) → n ≤ marks → Spots w k c groups starts children marks
+    pub spots : (marks : ℕ) → n ≤ marks → SpotsIn w k c groups starts children marks
     spots marks room = record {
       below = record {
         entries = record {
@@ -147,6 +166,9 @@ module _
       groups_held = holds groups k S.groups_long (omega (arith, S.vertices_few, S.groups_few));
       name_low = λ p h. omega (arith, name_low p h);
     }
+
+    pub spot_low : (marks : ℕ) → n ≤ marks → (p : ℕ) → p < k → get_or (numbers w groups k) p 0 < marks
+    spot_low marks room p h = omega (arith, name_low p h, numbers_at w groups k p h)
 
     -- the first labelling is what its two stretches hold
     first_is : first_labels (labels_in w z labels k d) ≡ labelling_in w z (tuples_of w z labels k 0) (places_of w z labels k 0) k
@@ -162,7 +184,7 @@ module _
       unfolding labelling_in places_of
       places_are = ap (λ (x : Labelling). x.by_rank) first_is ∙ ap (λ (s : List ℕ). numbers w s k) (sym R.is)
 
-      pub ranked : Ranked w k places
+      pub ranked : RankedIn w k places
       ranked = record {
         places_held = holds places k R.long (omega (arith, S.vertices_few, S.groups_few));
         place_low = λ r h.
@@ -176,12 +198,20 @@ module _
             );
       }
 
-      -- what the sweep over them leaves is what it leaves over the index
-      pub swept_is :
-          (top : ℕ) (before : List ℕ) {after : List ℕ} → after ≡ swept (numbers w groups k) (children_in w starts children k c) (numbers w places k) top before
-          → after ≡ swept_in (index_in b) top before
-      unfolding swept_in index_from
-      swept_is top before e = rw (index_is, places_are) e
+      -- the place at a rank, as it is read
+      pub rank_place : (r : ℕ) → r < k → get_or (numbers w places k) r 0 < k
+      rank_place r h = omega (arith, ranked.place_low r h, numbers_at w places k r h)
+
+      -- the groups of the index, and their places by rank
+      pub ranks_are : (ranks : Ranks) → ranks.groups.rows.k ≡ k → names_of ranks.groups ≡ numbers w groups k
+          → children_of ranks.groups ≡ children_in w starts children k c → numbers_of ranks.places ≡ numbers w places k → RanksOf (index_in b) k ranks
+      unfolding index_from
+      ranks_are ranks many names rows by_rank = record {
+        many = many;
+        names = names ∙ rw index_is refl;
+        rows = rows ∙ rw index_is refl;
+        by_rank = by_rank ∙ rw (index_is, places_are) refl;
+      }
 
     module _ (tuples : List ℕ) (T : Part labels (w * (0 * ((z + 1) * k))) (w * (z * k)) tuples) where
       -- the rank of group p

@@ -5,12 +5,15 @@ ghost use Rattle.std.specs.Prelude.{◌≡◌, ◌≤◌, ◌<◌, length};
 ghost use Rattle.lineage.specs.Lists.{cleared};
 ghost use Rattle.lineage.specs.Calls.{index_in};
 ghost use Rattle.sound_places.specs.Lent.{SoundBytes};
+ghost use Rattle.reach.specs.Fit.{RanksOf};
 ghost use Rattle.reach.specs.Marks.{rank_in, mark_in, swept_in, reach_marks};
 
 use numbers::num;
+use reach_sweep::groups::{Groups, Ranks};
 use sound_places::place_of;
 use sound_ranks::e_of;
 use stored::parts;
+use stored::reading::{Numbers, Rows};
 use stored_header::Layout;
 
 // The rank of vertex u's group in the first labelling.
@@ -43,22 +46,44 @@ pub fn mark_group(index: &[u8], l: Layout, marks: &mut [u8], u: usize)
     marks[name] = 1;
 }
 
+// The groups of sound bytes, and their places by rank in the first labelling.
+pub fn ranks_of<'a>(index: &'a [u8], l: Layout) -> Ranks<'a>
+    requires { SoundBytes index.now l }
+    ensures { RanksOf (index_in index.now) l.k result }
+{
+    let w = l.width;
+    let k = l.k;
+    let names = Numbers {
+        bytes: parts::groups(index, l),
+        width: w,
+        len: k,
+    };
+    let rows = Rows {
+        starts: parts::starts(index, l),
+        children: parts::children(index, l),
+        width: w,
+        k,
+        c: l.c,
+    };
+    let labels = parts::labels(index, l);
+    let places = Numbers {
+        bytes: parts::by_rank(labels, w, l.stride, k, l.d, 0),
+        width: w,
+        len: k,
+    };
+    Ranks {
+        groups: Groups { names, rows },
+        places,
+    }
+}
+
 // The sweep from rank `top` down: afterwards a group is marked exactly where it is reached from one marked before.
 pub fn sweep_down(index: &[u8], l: Layout, marks: &mut [u8], top: usize)
     requires sound_bytes { SoundBytes index.now l }
     requires n_in_bounds { (l.n ≤ length marks.old) × (top ≤ l.k) }
     ensures { marks.new ≡ swept_in (index_in index.now) top marks.old }
 {
-    let w = l.width;
-    let k = l.k;
-    let c = l.c;
-    let d = l.d;
-    let groups = parts::groups(index, l);
-    let starts = parts::starts(index, l);
-    let children = parts::children(index, l);
-    let labels = parts::labels(index, l);
-    let places = parts::by_rank(labels, w, l.stride, k, d, 0);
-    reach_sweep::sweep(groups, starts, children, places, marks, w, k, c, top);
+    reach_sweep::sweep(&ranks_of(index, l), marks, top);
 }
 
 // Marks the groups that vertex u's group reaches, on marks that are 0 below n.

@@ -4,16 +4,15 @@ use mathlib.Core.Path.{◌≡◌, refl, sym, ap, ◌∙◌}
 use mathlib.Core.List.{List, []}
 use Prim.Native.Nat.{ℕ, ◌+◌, ◌≤◌, ◌<◌}
 use native.Mathlib.Numerals.{add-one}
-use native.Mathlib.Omega.{arith}
 use lib.Dec.{ltb}
 use lib.ListN.{length, get_or, set, length-set}
 use borrow.Author.Tests.{lt-ltb, le-ltb}
-use Rattle.lineage.specs.Lists.{any, first_of, among, position}
+use Rattle.lineage.specs.Lists.{any, first_of, among}
 use Rattle.laws.proofs.Lists.{position_low, at_position}
-use Rattle.stored.specs.Sections.{children_in}
-use Rattle.stored.specs.Rows.{Places}
-use Rattle.stored.proofs.Row.{row_low}
+use Rattle.reach_sweep.specs.declared.groups.Groups.{Groups}
+use Rattle.reach_sweep.specs.Fit.{children_of}
 use Rattle.reach_sweep.specs.Sweep.{marked}
+use Rattle.reach_sweep.proofs.Children.{child_low}
 use Rattle.reach_climb.specs.Climb.{lifted, climbed}
 use Rattle.reach_climb.proofs.Lowest.{any_found}
 use Rattle.reach_climb.proofs.Lifted.{lifted_marked, lifted_passed}
@@ -49,12 +48,8 @@ module _
     climbing_passed h = next (lifted_passed groups children p marks (some ∙ le-ltb found k h)) refl
 
 -- children that have passed are places
-pub child_place :
-    {w k c p : ℕ} {starts children : List ℕ} → Places w starts children k c → p < k
-    → (q : ℕ) → among q (get_or (children_in w starts children k c) p []) ≡ true → q < k
-child_place {w} {k} {c} {p} {starts} {children} P low q i =
-    let row : List ℕ = get_or (children_in w starts children k c) p [] in
-    omega (arith, row_low P low (position q row) (position_low q row i), at_position q row i)
+pub child_place : (g : Groups) {p : ℕ} → p < g.rows.k → (q : ℕ) → among q (get_or (children_of g) p []) ≡ true → q < g.rows.k
+child_place g {p} low q i = let row : List ℕ = get_or (children_of g) p [] in child_low g low (position_low q row i) (sym (at_position q row i))
 
 pub climbing_all :
     {groups : List ℕ} {children : List (List ℕ)} {places : List ℕ} {ranks k : ℕ} {before marks : List ℕ} → Climbing groups children places ranks before marks

@@ -4,66 +4,40 @@
 
 ghost use Rattle.std.specs.Prelude.{[], ◌≡◌, ◌<◌, length, get_or};
 ghost use Rattle.lineage.specs.Lists.{first_of};
-ghost use Rattle.lineage.specs.Numbers.{numbers};
-ghost use Rattle.stored.specs.Sections.{children_in};
+ghost use Rattle.stored.specs.Reading.{numbers_of};
 ghost use Rattle.reach_sweep.specs.Sweep.{marked};
-ghost use Rattle.reach_sweep.specs.Fit.{Spots, Ranked};
+ghost use Rattle.reach_sweep.specs.Fit.{names_of, children_of, Spots};
 ghost use Rattle.reach_climb.specs.Climb.{climbed};
 
-use numbers::num;
-use stored::rows::row_span;
+use reach_sweep::groups::{Groups, Ranks};
 
 // The lowest marked child of the group at place p; k where none is marked.
-pub fn lowest_marked(
-    groups: &[u8],
-    starts: &[u8],
-    children: &[u8],
-    marks: &[u8],
-    w: usize,
-    k: usize,
-    c: usize,
-    p: usize,
-) -> usize
-    requires spots { Spots w k c groups.now starts.now children.now (length marks.now) }
-    requires p_lt_k { p < k }
-    ensures { result ≡ first_of (marked (numbers w groups.now k) marks.now) (get_or (children_in w starts.now children.now k c) p []) k }
+pub fn lowest_marked(groups: &Groups, marks: &[u8], p: usize) -> usize
+    requires spots { Spots groups.now (length marks.now) }
+    requires p_lt_k { p < groups.now.rows.k }
+    ensures { result ≡ first_of (marked (names_of groups.now) marks.now) (get_or (children_of groups.now) p []) groups.now.rows.k }
 {
-    let row = row_span(starts, w, k, c, p);
-    let from = row.from;
-    let len = row.len;
-    let mut i = 0;
-    while i < len {
-        let q = num(children, w, from + i);
-        let name = num(groups, w, q);
+    let row = groups.rows.row(p);
+    for i in 0..row.len {
+        let q = row.get(i);
+        let name = groups.names.get(q);
         if marks[name] == 1 {
             return q;
         }
-        i += 1;
     }
-    k
+    groups.rows.k
 }
 
 // The climb through all ranks: afterwards a group is marked exactly where it reaches one marked before.
-pub fn climb(
-    groups: &[u8],
-    starts: &[u8],
-    children: &[u8],
-    places: &[u8],
-    marks: &mut [u8],
-    w: usize,
-    k: usize,
-    c: usize,
-)
-    requires spots { Spots w k c groups.now starts.now children.now (length marks.old) }
-    requires ranked { Ranked w k places.now }
-    ensures { marks.new ≡ climbed (numbers w groups.now k) (children_in w starts.now children.now k c) (numbers w places.now k) k marks.old }
+pub fn climb(ranks: &Ranks, marks: &mut [u8])
+    requires { Spots ranks.now.groups (length marks.old) }
+    ensures { marks.new ≡ climbed (names_of ranks.now.groups) (children_of ranks.now.groups) (numbers_of ranks.now.places) ranks.now.groups.rows.k marks.old }
 {
-    let mut done = 0;
-    while done < k {
-        done += 1;
-        let p = num(places, w, done - 1);
-        if lowest_marked(groups, starts, children, marks, w, k, c, p) < k {
-            let name = num(groups, w, p);
+    let k = ranks.groups.rows.k;
+    for r in 0..k {
+        let p = ranks.places.get(r);
+        if lowest_marked(&ranks.groups, marks, p) < k {
+            let name = ranks.groups.names.get(p);
             marks[name] = 1;
         }
     }

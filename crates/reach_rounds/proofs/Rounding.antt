@@ -23,11 +23,7 @@ spread_still names (s ∷ S) (t ∷ T) marks h =
 
 -- so many rounds are left
 pub record Rounding (names S T : List ℕ) (v : ℕ) (sweep : List ℕ → List ℕ) (left : ℕ) (first marks : List ℕ) : Type 0 where
-  pub long : length marks ≡ length first
   pub rest : rounds names S T v sweep left marks ≡ rounds names S T v sweep (length S) first
-
-pub rounding_none : (names S T : List ℕ) (v : ℕ) (sweep : List ℕ → List ℕ) (marks : List ℕ) → Rounding names S T v sweep (length S) marks marks
-rounding_none names S T v sweep marks = record { long = refl; rest = refl }
 
 -- the marks are swept
 module _
@@ -66,9 +62,9 @@ module _
           at (suc l) e = comes (suc l) e (rw (← is, miss, s) refl)
 
       -- one round less is left
-      pub rounding_next : {l : ℕ} → left ≡ suc l → one_led_out names S T swept ≡ true → length after ≡ length marks → Rounding names S T v sweep l first after
+      pub rounding_next : {l : ℕ} → left ≡ suc l → one_led_out names S T swept ≡ true → Rounding names S T v sweep l first after
       unfolding rounds
-      rounding_next {l} some s long = record { long = long ∙ R.long; rest = rw spreads (comes (suc l) some (rw (← is, miss, s) refl)) }
+      rounding_next {l} some s = record { rest = rw spreads (comes (suc l) some (rw (← is, miss, s) refl)) }
 
 -- the mark that was read is the vertex's
 module _ (names marks : List ℕ) (v : ℕ) {name : ℕ} (is : name ≡ get_or names v 0) where

@@ -5,39 +5,34 @@ use mathlib.Core.List.{List, [], ◌∷◌}
 use Prim.Native.Nat.{ℕ, suc, ◌+◌, ◌≤◌, ◌<◌}
 use native.Mathlib.Numerals.{add-one}
 use lib.Dec.{eqb}
-use lib.ListN.{length, get_or, set, drop, length-set, drop_of_length-le}
+use lib.ListN.{length, get_or, set, drop, drop_of_length-le}
 use lib.Seq.{drop-cons}
 use borrow.Author.Tests.{eq-eqb, ne_eqb}
 use Rattle.reach_rounds.specs.Rounds.{leads_out, crossed, spread_over, one_led_out}
 
 pub record Spreading (names S T : List ℕ) (i : ℕ) (before marks : List ℕ) (changed : Bool) : Type 0 where
-  pub long : length marks ≡ length before
   pub rest : spread_over names (drop i S) (drop i T) marks ≡ spread_over names S T before
   pub stir : (changed || one_led_out names (drop i S) (drop i T) marks) ≡ one_led_out names S T before
-
-pub spreading_none : (names S T marks : List ℕ) → Spreading names S T 0 marks marks false
-spreading_none names S T marks = record { long = refl; rest = refl; stir = refl }
 
 module _
     {names S T : List ℕ} {i : ℕ} {before marks : List ℕ} {changed : Bool} (P : Spreading names S T i before marks changed)
     {s t : ℕ} (hs : i < length S) (ht : i < length T) (is : s ≡ get_or S i 0) (it : t ≡ get_or T i 0)
   where
-    next : {after : List ℕ} {now : Bool} → crossed names s t marks ≡ after → length after ≡ length marks → now ≡ (changed || leads_out names marks s t)
+    next : {after : List ℕ} {now : Bool} → crossed names s t marks ≡ after → now ≡ (changed || leads_out names marks s t)
         → Spreading names S T (i + 1) before after now
     unfolding spread_over one_led_out
-    next {after} {now} e l n =
+    next {after} {now} e n =
         let r : spread_over names (s ∷ drop (suc i) S) (t ∷ drop (suc i) T) marks ≡ spread_over names S T before =
         ap₂ (λ a b. spread_over names a b marks) (ap (λ x. x ∷ drop (suc i) S) is ∙ sym (drop-cons S i 0 hs)) (ap (λ x. x ∷ drop (suc i) T) it ∙ sym (drop-cons T i 0 ht)) ∙ P.rest in
         let q : (changed || one_led_out names (s ∷ drop (suc i) S) (t ∷ drop (suc i) T) marks) ≡ one_led_out names S T before =
         ap₂ (λ a b. changed || one_led_out names a b marks) (ap (λ x. x ∷ drop (suc i) S) is ∙ sym (drop-cons S i 0 hs)) (ap (λ x. x ∷ drop (suc i) T) it ∙ sym (drop-cons T i 0 ht)) ∙ P.stir in record {
-          long = l ∙ P.long;
           rest = rw (add-one, ← e) r;
           stir = rw (add-one, ← e, n) (or_assoc changed (leads_out names marks s t) (one_led_out names (drop (suc i) S) (drop (suc i) T) (crossed names s t marks)) ∙ q);
         }
 
     pub spreading_crossed : {to : ℕ} → leads_out names marks s t ≡ true → to ≡ get_or names t 0 → Spreading names S T (i + 1) before (set marks to 1) true
     unfolding crossed
-    spreading_crossed {to} h named = next (rw (h, named) refl) (length-set marks to 1) (rw h (sym (or-true changed)))
+    spreading_crossed {to} h named = next (rw (h, named) refl) (rw h (sym (or-true changed)))
       where
         or-true : (b : Bool) → (b || true) ≡ true
         or-true true = refl
@@ -45,7 +40,7 @@ module _
 
     pub spreading_passed : leads_out names marks s t ≡ false → Spreading names S T (i + 1) before marks changed
     unfolding crossed
-    spreading_passed h = next (rw h refl) refl (rw h (sym (or-false changed)))
+    spreading_passed h = next (rw h refl) (rw h (sym (or-false changed)))
 
 pub spreading_all :
     {names S T : List ℕ} {i : ℕ} {before marks : List ℕ} {changed : Bool} → Spreading names S T i before marks changed → length S ≤ i

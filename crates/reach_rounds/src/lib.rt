@@ -43,11 +43,9 @@ fn spread(
     ensures value { result ≡ one_led_out (numbers w names.now n) sources.now targets.now marks.old }
 {
     let mut changed = false;
-    let mut i = 0;
-    while i < sources.len() {
+    for i in 0..sources.len() {
         let s = sources[i] as usize;
         let t = targets[i] as usize;
-        i += 1;
         if leads_out(names, marks, w, n, s, t) {
             let to = num(names, w, t);
             marks[to] = 1;
@@ -78,18 +76,15 @@ pub fn reach_over(
     let k = l.k;
     let names = parts::names(index, l);
     let name = num(names, w, target);
-    let mut left = sources.len();
-    loop {
+    for _round in 0..sources.len() {
         sweep_down(index, l, marks, k);
         if marks[name] == 1 {
             return true;
         }
-        if left < 1 {
-            return false;
-        }
         if !spread(names, marks, w, n, sources, targets) {
             return false;
         }
-        left -= 1;
     }
+    sweep_down(index, l, marks, k);
+    marks[name] == 1
 }

@@ -1,33 +1,17 @@
 -- The sweep on its way down: sweeping the ranks that are left, over the marks as they are, comes to the whole sweep over the marks as they were.
-use mathlib.Core.Path.{◌≡◌, refl, sym, ap, ◌∙◌}
+use mathlib.Core.Path.{◌≡◌, refl, sym, ◌∙◌}
 use mathlib.Core.List.{List, []}
-use Prim.Native.Nat.{ℕ, suc, ◌≤◌, ◌<◌}
+use Prim.Native.Nat.{ℕ, suc, ◌≤◌}
 use native.Mathlib.Omega.{arith}
 use lib.ListN.{length, get_or}
 use borrow.Author.Tests.{eq-eqb, ne_eqb}
-use Rattle.lineage.specs.Numbers.{num_at, numbers}
-use Rattle.stored.proofs.Read.{was_read}
-use Rattle.reach_sweep.specs.Fit.{Ranked}
 use Rattle.reach_sweep.specs.Sweep.{row_marked, turn, swept}
 use Rattle.reach_sweep.proofs.Turn.{turn_marked, turn_passed}
-
--- what was read at a rank is a place, that of the list
-module _ {w k : ℕ} {places : List ℕ} (R : Ranked w k places) {r p : ℕ} (read : p ≡ num_at w places r) (low : r < k) where
-  pub rank_low : p < k
-  rank_low = omega (arith, R.place_low r low)
-
-  pub rank_was : p ≡ get_or (numbers w places k) r 0
-  rank_was = was_read R.places_held low read
 
 -- the ranks from `rank` down to 1 are left
 pub record Sweeping (groups : List ℕ) (children : List (List ℕ)) (places : List ℕ) (top rank : ℕ) (before marks : List ℕ) : Type 0 where
   pub long : length marks ≡ length before
   pub rest : swept groups children places rank marks ≡ swept groups children places top before
-
-pub sweeping_none :
-    (groups : List ℕ) (children : List (List ℕ)) (places : List ℕ) (top rank : ℕ) (marks : List ℕ) → rank ≡ top
-    → Sweeping groups children places top rank marks marks
-sweeping_none groups children places top rank marks e = record { long = refl; rest = ap (λ (r : ℕ). swept groups children places r marks) e }
 
 module _
     {groups : List ℕ} {children : List (List ℕ)} {places : List ℕ} {top rank : ℕ} {before marks : List ℕ}

@@ -1,17 +1,18 @@
 -- What `prepare` answers and leaves, by where its checks stop: at one of 10 to 13 and 6, at 14, at 15, or behind them.
 use mathlib.Core.Bool.{Bool, true, false, cond}
-use mathlib.Core.Path.{◌≡◌, sym, ap, ◌∙◌}
+use mathlib.Core.Path.{◌≡◌, refl, sym, ap, subst, ◌∙◌}
 use mathlib.Core.List.{List, [], ◌∷◌, ◌++◌}
-use Prim.Native.Nat.{ℕ, ◌≤◌, ◌<◌}
+use Prim.Native.Nat.{ℕ, ◌≤◌}
 use native.Mathlib.Omega.{arith}
 use lib.Dec.{leb, ltb}
 use lib.ListN.{length}
-use borrow.Author.Tests.{lt-ltb, le-ltb, ltb-false, leb-false}
+use borrow.Author.Tests.{ltb-false, leb-false}
+use Rattle.std.specs.Prelude.{Option, Some, None, position}
 use Rattle.lineage.specs.Lists.{any, cleared}
 use Rattle.lineage.specs.Stored.{counts_in}
 use Rattle.lineage.specs.Calls.{Check, check, Outcome, refused, answered, outcome, FormsTaken, words_in, form_checks, contents_check, index_in}
-use Rattle.laws.specs.Checks.{Stops, Pass, stopped, Comes}
-use Rattle.laws.proofs.Checks.{refused_comes, stops_comes, answered_pass, answered_is}
+use Rattle.laws.specs.Checks.{Stops, Pass, stopped, Comes, Told}
+use Rattle.laws.proofs.Checks.{outcome_told, refused_comes, stops_comes, answered_pass, answered_is}
 use Rattle.laws.proofs.Lists.{any_none}
 use Rattle.numbers.proofs.Cleared.{cleared_past}
 use Rattle.stored_header.specs.declared.Layout.{Layout}
@@ -21,24 +22,28 @@ use Rattle.stored_header.proofs.Admitted.{Admits, admitted}
 use Rattle.stored.proofs.Contents.{names_many}
 use Rattle.rules_states.specs.Rules.{position_of, rules_checks, rules_work}
 use Rattle.rules_states.specs.Marks.{InRange, affected_marks}
-use Rattle.rules_states.proofs.Positions.{any_position}
+use Rattle.rules_states.proofs.Positions.{position_found}
 use Rattle.rules_states.proofs.Affected.{marks_behind_same}
 use Rattle.rules.specs.Settled.{prepared_answer, prepared_marks}
 
--- 14 as code tests it: the position that was found is below the number of changed vertices, or not
-module _ {b : List ℕ} {l : Layout} (L : Laid b l) (changed : List ℕ) {bad : ℕ} (found : bad ≡ position_of (leb l.n) changed) where
-  at_counts : bad ≡ position_of (leb (counts_in b).n) changed
-  at_counts = found ∙ ap (λ (n : ℕ). position_of (leb n) changed) (n_is L)
+some_at : {at p : ℕ} (t : Bool) → Some at ≡ cond t (Some p) None → (t ≡ true) × (at ≡ p)
+some_at true e = (refl, cc)
+some_at false e = cc
 
-  pub one_out : bad < length changed → any (leb (counts_in b).n) changed ≡ true
-  one_out h = any_position (leb (counts_in b).n) changed ∙ lt-ltb (position_of (leb (counts_in b).n) changed) (length changed) (omega (arith, at_counts))
+none_at : (p : ℕ) (t : Bool) → ◌≡◌ {A = Option ℕ} None (cond t (Some p) None) → t ≡ false
+none_at p true e = cc
+none_at p false e = refl
 
-  pub none_out : length changed ≤ bad → any (leb (counts_in b).n) changed ≡ false
-  none_out h = any_position (leb (counts_in b).n) changed ∙ le-ltb (position_of (leb (counts_in b).n) changed) (length changed) (omega (arith, at_counts))
+-- 14 as code tests it: a position is found, which is the refusal's extra number, or none
+module _ {b : List ℕ} {l : Layout} (L : Laid b l) (changed : List ℕ) {r : Option ℕ} (found : r ≡ position (leb l.n) changed) where
+  found_in : r ≡ cond (any (leb (counts_in b).n) changed) (Some (position_of (leb (counts_in b).n) changed)) None
+  found_in = found ∙ ap (λ (n : ℕ). position (leb n) changed) (n_is L) ∙ position_found (leb (counts_in b).n) changed
 
-  -- the refusal has that position
-  pub out_at : ◌≡◌ {A = Outcome ℕ} (refused 14 bad) (refused 14 (position_of (leb (counts_in b).n) changed))
-  out_at = ap (refused 14) at_counts
+  pub one_out : {at : ℕ} → r ≡ Some at → (any (leb (counts_in b).n) changed ≡ true) × (at ≡ position_of (leb (counts_in b).n) changed)
+  one_out e = some_at (any (leb (counts_in b).n) changed) (sym e ∙ found_in)
+
+  pub none_out : r ≡ None → any (leb (counts_in b).n) changed ≡ false
+  none_out e = none_at _ (any (leb (counts_in b).n) changed) (sym e ∙ found_in)
 
 -- where none is n or more, all are in range
 pub in_range : {n m : ℕ} → n ≡ m → (changed : List ℕ) → any (leb m) changed ≡ false → InRange n changed
@@ -73,6 +78,15 @@ module _ (T : FormsTaken) (b changed marks work : List ℕ) where
       (cond kept work (cleared (words_in b) work))
   unfolding prepared_answer prepared_marks rules_work
   prepares_by C = (sym C.says, (rw (C.all, C.before), rw C.before))
+
+  -- none of 10 to 13 and 6 is 14
+  pub header_own : {x y : ℕ} → refused x y ≡ outcome first (layout_in b) → x ≡ 14 → ⊥
+  header_own e =
+      subst (Told (λ n z. n ≡ 14 → ⊥) (λ (l : Layout). Unit {0})) (sym e)
+      (outcome_told (layout_in b) (λ n z. n ≡ 14 → ⊥) (λ (l : Layout). Unit {0}) first (
+        (λ z. omega (arith, z)),
+        ((λ z. omega (arith, z)), ((λ z. omega (arith, z)), ((λ z. omega (arith, z)), ((λ z. omega (arith, z)), tt)))),
+      ) tt)
 
   pub prepares_refused : {x y : ℕ} → refused x y ≡ outcome first (layout_in b) → Prepares (refused x y) marks work
   prepares_refused e = prepares_by (refused_comes (counts_in b).n (layout_in b) first own late _ _ (sym e))

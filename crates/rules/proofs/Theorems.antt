@@ -4,8 +4,10 @@ use mathlib.Core.Bool.{true, false}
 use mathlib.Core.Path.{◌≡◌, refl, sym, ap, subst⁻¹, ◌∙◌}
 use mathlib.Core.List.{List, []}
 use Prim.Native.Nat.{ℕ, ◌≤◌, ◌<◌}
-use native.Mathlib.Omega.{arith}
 use lib.ListN.{length, get_or}
+use Rattle.std.specs.Prelude.{Result, Ok, Err}
+use Rattle.refusals.specs.declared.Refusal.{Refusal}
+use Rattle.refusals.proofs.Told.{outcome_once}
 use Rattle.lineage.specs.Index.{index_of, Made}
 use Rattle.lineage.specs.Stored.{Form, counts_of, counts_fit}
 use Rattle.lineage.specs.Calls.{Check, answered, any_applies, FormsTaken, index_in}
@@ -22,9 +24,9 @@ use Rattle.rules_states.specs.After.{After, SameMembers, Turning, OneByOne}
 use Rattle.rules_states.proofs.States.{each_long, each_at, each_behind}
 use Rattle.rules_states.proofs.After.{state_right}
 use Rattle.rules_states.proofs.OneByOne.{states_steady, one_by_one}
-use Rattle.rules.specs.declared.Settled.{Settled}
-use Rattle.rules.specs.declared.Settled.TheVariants.{Done, Refused}
-use Rattle.rules.specs.Settled.{settled_of, Allowed}
+use Rattle.rules.specs.declared.SettleRefusal.{SettleRefusal}
+use Rattle.rules.specs.declared.SettleRefusal.TheVariants.{Refused, BadChanged}
+use Rattle.rules.specs.Settled.{settled_of, Own, Allowed}
 use Rattle.rules.proofs.Preparing.{in_range}
 
 -- whatever graph yields the bytes, with counts within their form's bounds, yields the index that they hold
@@ -89,7 +91,7 @@ module _ (T : FormsTaken) (b changed : List ℕ) (marks work : ℕ) (e : rules_a
 
 -- Calls in sequence. What a call may leave, whatever it answers:
 abbrev pub Call : (T : FormsTaken) (b vertices : List ℕ) → (changed marks work states marks' work' states' : List ℕ) → Type 0
-Call T b vertices changed marks work states marks' work' states' = (r : Settled) × Allowed T b changed marks work vertices states r marks' work' states'
+Call T b vertices changed marks work states marks' work' states' = (r : Result (Unit {0}) SettleRefusal) × Allowed T b changed marks work vertices states r marks' work' states'
 
 call_turns : (T : FormsTaken) (b vertices : List ℕ) → Turning (λ us. states_after (index_in b) us vertices) T b (Call T b vertices)
 unfolding rule_states
@@ -104,15 +106,19 @@ settled_one_by_one T b vertices changed marks work e =
     one_by_one (call_turns T b vertices) (states_steady (index_in b) vertices) marks work changed (settled_pass T b changed (length marks) (length work) e)
 
 -- two results that the contract allows are equal
-settled_one : (r r' : Settled) → settled_of r ≡ settled_of r' → r ≡ r'
-settled_one Done Done e = refl
-settled_one Done (Refused number extra) e = let z : ◌≡◌ {A = ℕ} 0 1 = cc in absurd (omega arith)
-settled_one (Refused number extra) Done e = let z : ◌≡◌ {A = ℕ} 0 1 = cc in absurd (omega arith)
-settled_one (Refused number extra) (Refused number' extra') e = cc
+settled_one : (r r' : Result (Unit {0}) SettleRefusal) → Own r → Own r' → settled_of r ≡ settled_of r' → r ≡ r'
+settled_one (Ok done) (Ok done') o o' e = refl
+settled_one (Ok done) (Err r') o o' e = cc
+settled_one (Err r) (Ok done') o o' e = cc
+settled_one (Err (Refused r)) (Err (Refused r')) o o' e =
+    let same : ◌≡◌ {A = Result (Unit {0}) Refusal} (Err r) (Err r') = outcome_once (λ (done : Unit {0}). done) (λ a a' z. z) (Err r) (Err r') e in cc
+settled_one (Err (Refused r)) (Err (BadChanged at)) o o' e = absurd (o cc)
+settled_one (Err (BadChanged at)) (Err (Refused r')) o o' e = absurd (o' cc)
+settled_one (Err (BadChanged at)) (Err (BadChanged at')) o o' e = cc
 
 pub settled_once :
-    {T : FormsTaken} {b changed marks work vertices states : List ℕ} {r r' : Settled} {m m' w w' s s' : List ℕ}
+    {T : FormsTaken} {b changed marks work vertices states : List ℕ} {r r' : Result (Unit {0}) SettleRefusal} {m m' w w' s s' : List ℕ}
     → Allowed T b changed marks work vertices states r m w s → Allowed T b changed marks work vertices states r' m' w' s'
     → (r ≡ r') × ((m ≡ m') × ((w ≡ w') × (s ≡ s')))
 settled_once A B =
-    (settled_one _ _ (A.answers ∙ sym B.answers), (A.leaves ∙ sym B.leaves, (A.clears ∙ sym B.clears, A.turns ∙ sym B.turns)))
+    (settled_one _ _ A.own B.own (A.answers ∙ sym B.answers), (A.leaves ∙ sym B.leaves, (A.clears ∙ sym B.clears, A.turns ∙ sym B.turns)))

@@ -5,26 +5,50 @@
 ghost use Rattle.std.specs.Prelude.{◌≡◌, length};
 ghost use Rattle.lineage.specs.Calls.{forms_taken, ordinary};
 ghost use Rattle.rules_states.specs.Rules.{rules_answer, rule_states, rules_marks, rules_work};
-ghost use Rattle.rules.specs.Settled.{settled_of, prepared_of, prepared_answer, prepared_marks};
+ghost use Rattle.rules.specs.declared.SettleRefusal.TheVariants.{Refused};
+ghost use Rattle.rules.specs.Settled.{settle_number, settle_extra, settled_of, prepared_of, Own, prepared_answer, prepared_marks};
 
 use numbers::{clear_marks, clear_words};
 use open::contents_sound;
-use refusals::{BAD_VERTEX, NOT_SOUND};
+use refusals::Refusal;
 use rules_states::{first_out, mark_affected, settle_states};
-use stored_header::{Header, words_needed};
+use stored_header::words_needed;
 
-// The states are as told, or a refusal with its number and its extra number.
-#[derive(Clone, Copy)]
-pub enum Settled {
-    Done,
-    Refused { number: u32, extra: usize },
+// Why no state is turned: a refusal, or the position of the first changed vertex that is n or more.
+#[derive(Clone, Copy, Debug, PartialEq, Eq)]
+pub enum SettleRefusal {
+    Refused(Refusal),
+    BadChanged(usize),
 }
 
-// The number of vertices, of which those that the changed ones reach are marked, or a refusal.
-#[derive(Clone, Copy)]
-pub enum Prepared {
-    Reached(usize),
-    Refused { number: u32, extra: usize },
+impl SettleRefusal {
+    // The number that the documents give it.
+    pub fn number(self) -> u32
+        ensures { result ≡ settle_number self }
+    {
+        match self {
+            SettleRefusal::Refused(r) => r.number(),
+            SettleRefusal::BadChanged(_) => 14,
+        }
+    }
+
+    // Its extra number.
+    pub fn extra(self) -> usize
+        ensures { result ≡ settle_extra self }
+    {
+        match self {
+            SettleRefusal::Refused(r) => r.extra() as usize,
+            SettleRefusal::BadChanged(at) => at,
+        }
+    }
+}
+
+impl From<Refusal> for SettleRefusal {
+    ghost from_gives = { λ r e. e ≡ Refused r };
+
+    fn from(r: Refusal) -> SettleRefusal {
+        SettleRefusal::Refused(r)
+    }
 }
 
 // The first of the refusals 10, 11, 12, 13, 6, 14 and 15 that applies; or n, and of the marks below n those of the vertices that a changed vertex reaches are 1, the
@@ -36,36 +60,22 @@ pub fn prepare(
     changed: &[u32],
     marks: &mut [u8],
     work: &mut [u32],
-) -> Prepared
+) -> Result<usize, SettleRefusal>
+    ensures own { Own result }
     ensures result_value { prepared_of result ≡ prepared_answer (forms_taken least most) index.now changed.now (length marks.old) (length work.old) }
     ensures marks_after { marks.new ≡ prepared_marks (forms_taken least most) index.now changed.now marks.old (length work.old) }
     ensures work_after { work.new ≡ rules_work (forms_taken least most) index.now changed.now (length marks.old) work.old }
 {
-    let l = match stored_header::admit(least, most, index, marks.len(), work.len()) {
-        Header::Refused { number, extra } => {
-            return Prepared::Refused {
-                number,
-                extra: extra as usize,
-            };
-        }
-        Header::Passed(l) => l,
-    };
-    let bad = first_out(changed, l.n);
-    if bad < changed.len() {
-        return Prepared::Refused {
-            number: BAD_VERTEX,
-            extra: bad,
-        };
+    let l = stored_header::admit(least, most, index, marks.len(), work.len())?;
+    if let Some(at) = first_out(changed, l.n) {
+        return Err(SettleRefusal::BadChanged(at));
     }
     clear_words(work, words_needed(l));
     if !contents_sound(index, l, marks) {
-        return Prepared::Refused {
-            number: NOT_SOUND,
-            extra: 0,
-        };
+        return Err(SettleRefusal::Refused(Refusal::NotSound));
     }
     mark_affected(index, l, marks, changed);
-    Prepared::Reached(l.n)
+    Ok(l.n)
 }
 
 // Turns the states of a table by a stored index of a form from `least` to `most`, as far as both lists go: suspect where a changed vertex reaches the vertex of the
@@ -80,19 +90,17 @@ pub fn settle_lists_taking(
     work: &mut [u32],
     vertices: &[u32],
     states: &mut [u32],
-) -> Settled
+) -> Result<(), SettleRefusal>
+    ensures own { Own result }
     ensures result_value { settled_of result ≡ rules_answer (forms_taken least most) index.now changed.now (length marks.old) (length work.old) }
     ensures marks_after { marks.new ≡ rules_marks (forms_taken least most) index.now changed.now marks.old (length work.old) }
     ensures work_after { work.new ≡ rules_work (forms_taken least most) index.now changed.now (length marks.old) work.old }
     ensures states_after { states.new ≡ rule_states (forms_taken least most) index.now changed.now (length marks.old) (length work.old) vertices.now states.old }
 {
-    let n = match prepare(least, most, index, changed, marks, work) {
-        Prepared::Refused { number, extra } => return Settled::Refused { number, extra },
-        Prepared::Reached(n) => n,
-    };
+    let n = prepare(least, most, index, changed, marks, work)?;
     settle_states(marks, n, vertices, states);
     clear_marks(marks, n);
-    Settled::Done
+    Ok(())
 }
 
 // The states of a table by a stored index of form 1 or 2.
@@ -103,7 +111,8 @@ pub fn settle_lists(
     work: &mut [u32],
     vertices: &[u32],
     states: &mut [u32],
-) -> Settled
+) -> Result<(), SettleRefusal>
+    ensures own { Own result }
     ensures result_value { settled_of result ≡ rules_answer ordinary index.now changed.now (length marks.old) (length work.old) }
     ensures marks_after { marks.new ≡ rules_marks ordinary index.now changed.now marks.old (length work.old) }
     ensures work_after { work.new ≡ rules_work ordinary index.now changed.now (length marks.old) work.old }

@@ -1,15 +1,15 @@
 // The rule desk's states, in stored bytes whose contents are sound: the vertices that the changed ones reach are marked, and each state follows the mark of its vertex.
 #![tactic(auto)]
 
-ghost use Rattle.std.specs.Prelude.{◌≡◌, ◌≤◌, leb, length};
+ghost use Rattle.std.specs.Prelude.{◌≡◌, ◌≤◌, leb, length, position};
 ghost use Rattle.lineage.specs.Lists.{cleared};
 ghost use Rattle.lineage.specs.Numbers.{numbers};
 ghost use Rattle.lineage.specs.Calls.{index_in};
 ghost use Rattle.sound_places.specs.Lent.{SoundBytes};
-ghost use Rattle.rules_states.specs.Rules.{each_state, position_of};
+ghost use Rattle.rules_states.specs.Rules.{each_state};
 ghost use Rattle.rules_states.specs.Marks.{InRange, Named, mark_each, vertex_marks, affected_marks, state_by};
 
-use numbers::{lesser, num};
+use numbers::num;
 use stored::parts;
 use stored_header::Layout;
 
@@ -20,18 +20,11 @@ pub const SUSPECT: u32 = 1;
 
 pub const UNKNOWN: u32 = 2;
 
-// The position of the first changed vertex that is n or more; where there is none, their number.
-pub fn first_out(changed: &[u32], n: usize) -> usize
-    ensures { result ≡ position_of (leb n) changed.now }
+// The position of the first changed vertex that is n or more.
+pub fn first_out(changed: &[u32], n: usize) -> Option<usize>
+    ensures { result ≡ position (leb n) changed.now }
 {
-    let mut i = 0;
-    while i < changed.len() {
-        if n <= changed[i] as usize {
-            return i;
-        }
-        i += 1;
-    }
-    i
+    changed.iter().position(|v| n <= *v as usize)
 }
 
 // Marks the group of each changed vertex, whatever else is marked.
@@ -40,10 +33,8 @@ fn mark_changed(index: &[u8], l: Layout, marks: &mut [u8], changed: &[u32])
     requires n_in_bounds { (l.n ≤ length marks.old) × InRange l.n changed.now }
     ensures { marks.new ≡ mark_each (index_in index.now) changed.now marks.old }
 {
-    let mut i = 0;
-    while i < changed.len() {
-        reach::mark_group(index, l, marks, changed[i] as usize);
-        i += 1;
+    for v in changed {
+        reach::mark_group(index, l, marks, *v as usize);
     }
 }
 
@@ -52,11 +43,9 @@ fn mark_vertices(names: &[u8], marks: &mut [u8], w: usize, n: usize)
     requires { Named w n names.now (length marks.old) }
     ensures { marks.new ≡ vertex_marks (numbers w names.now n) marks.old }
 {
-    let mut v = 0;
-    while v < n {
+    for v in 0..n {
         let name = num(names, w, v);
         marks[v] = (marks[name] == 1) as u8;
-        v += 1;
     }
 }
 
@@ -92,10 +81,7 @@ pub fn settle_states(marks: &[u8], n: usize, vertices: &[u32], states: &mut [u32
     requires { n ≤ length marks.now }
     ensures { states.new ≡ each_state (state_by marks.now n) vertices.now states.old }
 {
-    let count = lesser(vertices.len(), states.len());
-    let mut i = 0;
-    while i < count {
+    for i in 0..vertices.len().min(states.len()) {
         states[i] = state_after(marks, n, vertices[i], states[i]);
-        i += 1;
     }
 }

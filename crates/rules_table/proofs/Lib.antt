@@ -1,4 +1,3 @@
 -- The laws that the proofs of this crate cite.
-pub mod First
 pub mod Settling
 pub mod Theorems

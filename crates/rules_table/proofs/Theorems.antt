@@ -20,7 +20,8 @@ use Rattle.rules_states.specs.Rules.{state_after, states_after, rules_checks, ru
 use Rattle.rules_states.specs.After.{After, SameMembers, Turning, OneByOne, Steady}
 use Rattle.rules_states.proofs.After.{state_right}
 use Rattle.rules_states.proofs.OneByOne.{state_joins, state_members, one_by_one}
-use Rattle.rules.specs.declared.Settled.{Settled}
+use Rattle.std.specs.Prelude.{Result}
+use Rattle.rules.specs.declared.SettleRefusal.{SettleRefusal}
 use Rattle.rules.specs.Settled as lists
 use Rattle.rules.proofs.Theorems.{yields_made, settled_pass, settled_none, settled_range}
 use Rattle.rules_table.specs.declared.Rule.{Rule}
@@ -100,7 +101,7 @@ settled_read T b changed marks work =
 
 -- the two calls agree
 pub calls_agree :
-    {T : FormsTaken} {b changed marks work m w m' w' s' : List ℕ} {table t : List Rule} {r : RulesSettled} {r' : Settled}
+    {T : FormsTaken} {b changed marks work m w m' w' s' : List ℕ} {table t : List Rule} {r : RulesSettled} {r' : Result (Unit {0}) SettleRefusal}
     → Allowed T b changed marks work table r m w t → lists.Allowed T b changed marks work (vertices_of table) (states_of table) r' m' w' s'
     → (settled_by r ≡ lists.settled_of r') × ((m ≡ m') × ((w ≡ w') × (states_of t ≡ s')))
 calls_agree {T} {b} {changed} {marks} {work} {table = table} A B = (

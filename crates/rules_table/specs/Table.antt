@@ -1,14 +1,12 @@
 -- A table of rule records, lent as it stands (document 02, [11]): what a record becomes, what the table is afterwards, and what the desk is given for an answer.
-use Rattle.std.specs.Prelude.{cond, ◌≡◌, List, ◌++◌, map, ℕ, eqb, length, take, drop}
+use Rattle.std.specs.Prelude.{cond, ◌≡◌, List, map, ℕ, eqb, length}
 use Rattle.lineage.specs.Index.{Index}
-use Rattle.lineage.specs.Calls.{Outcome, refused, answered, any_applies, FormsTaken, ordinary, index_in}
+use Rattle.lineage.specs.Calls.{Outcome, refused, answered, any_applies, FormsTaken, index_in}
 use Rattle.lineage.specs.Sound.{contents_sound}
 use Rattle.lineage.specs.Stored.{decode}
 use Rattle.rules_states.specs.Rules.{state_after, rules_checks, rules_answer, rules_marks, rules_work}
 use Rattle.rules_states.specs.Marks.{state_by}
-use Rattle.rules.specs.Settled.{prepared_answer, prepared_marks}
 use Rattle.rules_table.specs.declared.Rule.{Rule}
-use Rattle.rules_table.specs.declared.Work.{Work}
 use Rattle.rules_table.specs.declared.RulesSettled.{RulesSettled}
 
 -- a record with another state: rule numbers and vertices never change
@@ -40,24 +38,10 @@ pub record Allowed (T : FormsTaken) (b changed marks work : List ℕ) (table : L
   pub clears : work' ≡ rules_work T b changed (length marks) work
   pub turns : table' ≡ rule_table T b changed (length marks) (length work) table
 
--- a record told from the mark of its vertex, of n vertices; and the first `count` records of a table
+-- a record told from the mark of its vertex, of n vertices
 unfoldable pub rule_by : (marks : List ℕ) → ℕ → Rule → Rule
 unfolding state_by
 rule_by marks n r = with_state r (state_by marks n r.vertex r.state)
-
-abbrev pub turned_first : (marks : List ℕ) → (n count : ℕ) → List Rule → List Rule
-turned_first marks n count table = map (rule_by marks n) (take count table) ++ drop count table
-
--- what is to be done with so many records: all of them by n marks; or none, and nothing cleared
-abbrev pub work_of : Outcome ℕ → ℕ → Work
-work_of (refused number extra) have = record { refusal = number; extra = extra; n = 0; count = 0 }
-work_of (answered n) have = record { refusal = 0; extra = 0; n = n; count = have }
-
--- of bytes, changed vertices, marks, words and so many records: what is to be done, and what marks and words hold then
-pub record Readied (b changed marks work : List ℕ) (have : ℕ) (r : Work) (marks' work' : List ℕ) : Type 0 where
-  pub answers : r ≡ work_of (prepared_answer ordinary b changed (length marks) (length work)) have
-  pub leaves : marks' ≡ prepared_marks ordinary b changed marks (length work)
-  pub clears : work' ≡ rules_work ordinary b changed (length marks) work
 
 -- what is read past the end of a table
 abbrev pub no_rule : Rule

@@ -1,18 +1,17 @@
-// The rule desk's product over its own table, a `&mut` slice of rule records that C lends (document 02, [11]). The work is done on values and numbers: `rules::prepare`
-// checks and marks, and `turned` is one record. What takes the slice is thin: the loop over the records, and the call.
+// The rule desk's product over its own table, a `&mut` slice of rule records that C lends (document 02, [11]). `rules::prepare` checks and marks, and `turned` is one record.
 #![tactic(auto)]
 
-ghost use Rattle.std.specs.Prelude.{◌≡◌, ◌≤◌, ◌<◌, length};
+ghost use Rattle.std.specs.Prelude.{◌≡◌, ◌≤◌, map, length};
 ghost use Rattle.lineage.specs.Calls.{ordinary};
-ghost use Rattle.rules_table.specs.Table.{Allowed, rule_by, turned_first, Readied};
+ghost use Rattle.rules_table.specs.Table.{Allowed, rule_by};
 
 use numbers::clear_marks;
-use rules::{Prepared, prepare};
+use rules::{SettleRefusal, prepare};
 use rules_states::state_after;
 
 // A rule record: rule number, vertex and state. The state is a number, since an enum has no layout in C.
 #[repr(C)]
-#[derive(Clone, Copy)]
+#[derive(Clone, Copy, Debug, PartialEq, Eq)]
 pub struct Rule {
     pub rule: u32,
     pub vertex: u32,
@@ -21,19 +20,25 @@ pub struct Rule {
 
 // What the desk is given: a refusal with its extra number, or 0 and 0.
 #[repr(C)]
-#[derive(Clone, Copy)]
+#[derive(Clone, Copy, Debug, PartialEq, Eq)]
 pub struct RulesSettled {
     pub refusal: u32,
     pub extra: usize,
 }
 
-// What is to be done: the answer, the number of vertices, and how many records are to be turned.
-#[derive(Clone, Copy)]
-pub struct Work {
-    pub refusal: u32,
-    pub extra: usize,
-    pub n: usize,
-    pub count: usize,
+impl From<Result<(), SettleRefusal>> for RulesSettled {
+    ghost use Rattle.rules.specs.Settled.{settled_of};
+    ghost use Rattle.rules_table.specs.Table.{desk_settled};
+
+    ghost from_gives = { λ r desk. desk ≡ desk_settled (settled_of r) };
+
+    fn from(r: Result<(), SettleRefusal>) -> RulesSettled {
+        let (refusal, extra) = match r {
+            Ok(()) => (0, 0),
+            Err(refusal) => (refusal.number(), refusal.extra()),
+        };
+        RulesSettled { refusal, extra }
+    }
 }
 
 // A record afterwards, by the mark of its vertex.
@@ -48,36 +53,13 @@ fn turned(marks: &[u8], n: usize, r: Rule) -> Rule
     }
 }
 
-// Turns the first count records of a table; the rest are as they were. Where count is 0 nothing is asked of n.
-fn turn_all(marks: &[u8], rules: &mut [Rule], n: usize, count: usize)
-    requires { (0 < count → n ≤ length marks.now) × (count ≤ length rules.old) }
-    ensures { rules.new ≡ turned_first marks.now n count rules.old }
+// Turns all records of a table.
+fn turn_all(marks: &[u8], rules: &mut [Rule], n: usize)
+    requires { n ≤ length marks.now }
+    ensures { rules.new ≡ map (rule_by marks.now n) rules.old }
 {
-    let mut i = 0;
-    while i < count {
-        let r = rules[i];
-        rules[i] = turned(marks, n, r);
-        i += 1;
-    }
-}
-
-// The checks, and the marks of what the changed vertices reach. After a refusal no record is to be turned, and no mark cleared.
-fn ready(index: &[u8], changed: &[u32], marks: &mut [u8], work: &mut [u32], have: usize) -> Work
-    ensures { Readied index.now changed.now marks.old work.old have result marks.new work.new }
-{
-    match prepare(1, 2, index, changed, marks, work) {
-        Prepared::Refused { number, extra } => Work {
-            refusal: number,
-            extra,
-            n: 0,
-            count: 0,
-        },
-        Prepared::Reached(n) => Work {
-            refusal: 0,
-            extra: 0,
-            n,
-            count: have,
-        },
+    for r in rules.iter_mut() {
+        *r = turned(marks, n, *r);
     }
 }
 
@@ -92,13 +74,18 @@ pub extern "C" fn drobisten_settle_rules(
 ) -> RulesSettled
     ensures { Allowed ordinary index.now changed.now marks.old work.old rules.old result marks.new work.new rules.new }
 {
-    let w = ready(index, changed, marks, work, rules.len());
-    let n = w.n;
-    let count = w.count;
-    turn_all(marks, rules, n, count);
-    clear_marks(marks, n);
-    RulesSettled {
-        refusal: w.refusal,
-        extra: w.extra,
+    match prepare(1, 2, index, changed, marks, work) {
+        Ok(n) => {
+            turn_all(marks, rules, n);
+            clear_marks(marks, n);
+            RulesSettled {
+                refusal: 0,
+                extra: 0,
+            }
+        }
+        Err(r) => RulesSettled {
+            refusal: r.number(),
+            extra: r.extra(),
+        },
     }
 }

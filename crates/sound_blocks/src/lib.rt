@@ -84,15 +84,13 @@ pub fn intervals_pass(
     requires ranked { Ranked w z tuples.now places.now k }
     ensures { result ≡ all_below k (intervals_pass (children_in w starts.now children.now k c) (labelling_in w z tuples.now places.now k)) }
 {
-    let mut p = 0;
-    while p < k {
+    for p in 0..k {
         if !outer_passes(starts, children, tuples, w, z, k, c, p) {
             return false;
         }
         if !block_passes(starts, children, tuples, places, w, z, k, c, p) {
             return false;
         }
-        p += 1;
     }
     true
 }

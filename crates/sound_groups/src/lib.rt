@@ -11,7 +11,7 @@ ghost use Rattle.stored.specs.Rows.{Holds, Starts, Children};
 ghost use Rattle.sound_groups.specs.Fit.{Groups};
 ghost use Rattle.sound_groups.specs.Tests.{own_name, row_and_level};
 
-use numbers::{greater, num};
+use numbers::num;
 use stored::rows::row_span;
 
 // Whether the name of v is not above v and is its own name.
@@ -33,9 +33,8 @@ fn names_pass(names: &[u8], groups: &[u8], w: usize, n: usize, k: usize) -> bool
     requires holds_2 { Holds w groups.now k }
     ensures { result ≡ names_pass (numbers w names.now n) (numbers w groups.now k) }
 {
-    let mut v = 0;
     let mut p = 0;
-    while v < n {
+    for v in 0..n {
         if !own_name(names, w, n, v) {
             return false;
         }
@@ -48,7 +47,6 @@ fn names_pass(names: &[u8], groups: &[u8], w: usize, n: usize, k: usize) -> bool
             }
             p += 1;
         }
-        v += 1;
     }
     p == k
 }
@@ -61,12 +59,10 @@ fn starts_pass(starts: &[u8], w: usize, k: usize, c: usize) -> bool
     if num(starts, w, 0) != 0 {
         return false;
     }
-    let mut p = 0;
-    while p < k {
+    for p in 0..k {
         if num(starts, w, p + 1) < num(starts, w, p) {
             return false;
         }
-        p += 1;
     }
     num(starts, w, k) == c
 }
@@ -89,10 +85,9 @@ fn row_passes(
     let row = row_span(starts, w, k, c, p);
     let from = row.from;
     let len = row.len;
-    let mut i = 0;
     let mut next = 0;
     let mut level = 0;
-    while i < len {
+    for i in 0..len {
         let q = num(children, w, from + i);
         if k <= q {
             return false;
@@ -101,8 +96,7 @@ fn row_passes(
             return false;
         }
         next = q + 1;
-        level = greater(level, num(levels, w, q) + 1);
-        i += 1;
+        level = level.max(num(levels, w, q) + 1);
     }
     num(levels, w, p) == level
 }
@@ -113,12 +107,10 @@ fn rows_pass(starts: &[u8], children: &[u8], levels: &[u8], w: usize, k: usize, 
     requires holds { Holds w levels.now k }
     ensures { result ≡ all_below k (row_and_level (children_in w starts.now children.now k c) (numbers w levels.now k)) }
 {
-    let mut p = 0;
-    while p < k {
+    for p in 0..k {
         if !row_passes(starts, children, levels, w, k, c, p) {
             return false;
         }
-        p += 1;
     }
     true
 }

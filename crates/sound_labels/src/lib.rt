@@ -93,12 +93,10 @@ fn labellings_pass(
     requires tells { Tells (children_in w starts.now children.now k c) marks.now k }
     ensures { result ≡ all_of (labels_pass (children_in w starts.now children.now k c)) (labels_in w z labels.now k d) }
 {
-    let mut j = 0;
-    while j < d {
+    for j in 0..d {
         if !labelling_passes(starts, children, labels, marks, w, z, k, c, d, j) {
             return false;
         }
-        j += 1;
     }
     true
 }

@@ -2,11 +2,10 @@
 use mathlib.Core.Bool.{Bool, true, false, not}
 use mathlib.Core.Path.{◌≡◌, refl, sym, ap, ◌∙◌}
 use mathlib.Core.List.{List, [], ◌∷◌}
-use Prim.Native.Nat.{ℕ, ◌+◌, ◌≤◌, ◌<◌}
+use Prim.Native.Nat.{ℕ, ◌≤◌, ◌<◌}
 use native.Mathlib.Decide.{dec_lt}
 use native.Mathlib.Omega.{arith}
 use lib.Dec.{eqb}
-use borrow.Author.Count.{below_none, below_more}
 use borrow.Author.Tests.{eq-eqb, ne_eqb}
 use Rattle.lineage.specs.Lists.{upto, any, among, first_of}
 use Rattle.laws.proofs.Tests.{clash, is_false}
@@ -42,32 +41,19 @@ module _ (p : ℕ → Bool) where
           ne_eqb (first_of p (upto k) k) k (λ same. let low : first_of p (upto k) k < k = upto_low k (first_of p (upto k) k) f.1 in omega arith) ∙ ap not (sym e)
       at false e = eq-eqb (first_of p (upto k) k) k (none_first (upto k) k e) ∙ ap not (sym e)
 
--- none of the numbers below i passes: what a loop over 0, 1, .. knows
-pub record NoneYet (p : ℕ → Bool) (k i : ℕ) : Type 0 where
-  pub within : i ≤ k
-  pub none : (j : ℕ) → j < i → p j ≡ false
+-- what a loop over 0, 1, .. knows, where none of the numbers below i passes
+module _ {p : ℕ → Bool} {k i : ℕ} (none : (j : ℕ) → j < i → p j ≡ false) where
+  -- i passes: it is the first
+  pub none_found : i < k → p i ≡ true → i ≡ first_of p (upto k) k
+  none_found h t =
+      let f = first_of_lem p (upto k) k i (rises_upto k) (in_upto k i h) t in
+      elim (dec_lt (first_of p (upto k) k) i) [
+        | yes l ↦ clash f.0 (none (first_of p (upto k) k) l)
+        | no l ↦ let most : first_of p (upto k) k ≤ i = f.2 in omega arith
+      ]
 
-module _ {p : ℕ → Bool} {k : ℕ} where
-  pub none_begin : NoneYet p k 0
-  none_begin = record { within = omega arith; none = below_none _ }
-
-  module _ {i : ℕ} (N : NoneYet p k i) where
-    pub none_more : i < k → p i ≡ false → NoneYet p k (i + 1)
-    none_more h e = record { within = omega arith; none = below_more _ _ N.none e }
-
-    -- i passes: it is the first
-    pub none_found : i < k → p i ≡ true → i ≡ first_of p (upto k) k
-    none_found h t =
-        let f = first_of_lem p (upto k) k i (rises_upto k) (in_upto k i h) t in
-        elim (dec_lt (first_of p (upto k) k) i) [
-          | yes l ↦ clash f.0 (N.none (first_of p (upto k) k) l)
-          | no l ↦ let most : first_of p (upto k) k ≤ i = f.2 in omega arith
-        ]
-
-    -- none of the k passes
-    pub none_all : k ≤ i → i ≡ first_of p (upto k) k
-    none_all h =
-        let whole : i ≡ k = omega (arith, N.within) in
-        let none : any p (upto k) ≡ false =
-        is_false (any p (upto k)) (λ t. let (x, j, y) = in_any p (upto k) t in clash y (N.none x (omega (arith, upto_low k x j)))) in
-        whole ∙ sym (none_first p (upto k) k none)
+  -- none of the k passes
+  pub none_all : k ≤ i → k ≡ first_of p (upto k) k
+  none_all h =
+      sym (none_first p (upto k) k
+      (is_false (any p (upto k)) (λ t. let (x, j, y) = in_any p (upto k) t in clash y (none x (omega (arith, upto_low k x j))))))

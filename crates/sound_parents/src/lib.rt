@@ -16,11 +16,9 @@ fn mark_children(children: &[u8], marks: &mut [u8], w: usize, c: usize)
     requires { Within w children.now c (length marks.old) }
     ensures { marks.new ≡ mark_all (numbers w children.now c) marks.old }
 {
-    let mut j = 0;
-    while j < c {
+    for j in 0..c {
         let q = num(children, w, j);
         marks[q] = 1;
-        j += 1;
     }
 }
 
@@ -36,11 +34,9 @@ fn count_children(children: &[u8], marks: &mut [u8], w: usize, c: usize)
     requires { Within w children.now c (length marks.old) }
     ensures { marks.new ≡ count_all (numbers w children.now c) marks.old }
 {
-    let mut j = 0;
-    while j < c {
+    for j in 0..c {
         let q = num(children, w, j);
         marks[q] = one_more(marks[q]);
-        j += 1;
     }
 }
 
@@ -49,14 +45,12 @@ fn first_twice(marks: &[u8], k: usize) -> usize
     requires { k ≤ length marks.now }
     ensures { result ≡ first_of (marked_twice marks.now) (upto k) k }
 {
-    let mut p = 0;
-    while p < k {
+    for p in 0..k {
         if marks[p] == 2 {
             return p;
         }
-        p += 1;
     }
-    p
+    k
 }
 
 // Tells by marks, 0 before, who of k groups is somebody's child; and whether, where labels are in pairs, no group is a child of two others.

@@ -27,6 +27,5 @@ pub fn place_of(groups: &[u8], w: usize, n: usize, k: usize, name: usize) -> usi
     ensures { result ≡ place_of (numbers w groups.now k) name }
 {
     let least = least_place(n, k, name);
-    let most = numbers::lesser(name, k);
-    numbers::count_below(groups, w, k, name, least, most)
+    numbers::count_below(groups, w, k, name, least, name.min(k))
 }

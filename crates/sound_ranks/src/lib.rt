@@ -9,7 +9,7 @@ ghost use Rattle.stored.specs.Sections.{children_in, labelling_in};
 ghost use Rattle.sound_ranks.specs.Tests.{tuples_alone, rank_and_inner, fall_and_outer};
 ghost use Rattle.sound_ranks.specs.Fit.{Tuples, Labels, LabelledRows};
 
-use numbers::{lesser, num};
+use numbers::num;
 use stored::rows::row_span;
 
 // s of group p, the first of its z numbers.
@@ -60,11 +60,9 @@ pub fn ranks_pass(tuples: &[u8], places: &[u8], w: usize, z: usize, k: usize) ->
     requires { Labels w z tuples.now places.now k }
     ensures { result ≡ all_below k (rank_and_inner k (labelling_in w z tuples.now places.now k)) }
 {
-    let mut r = 0;
     let mut passed = true;
-    while r < k {
+    for r in 0..k {
         passed = passed & rank_passes(tuples, places, w, z, k, r);
-        r += 1;
     }
     passed
 }
@@ -89,14 +87,12 @@ pub fn outer_passes(
     let len = row.len;
     let top = e_of(tuples, w, z, k, p);
     let mut s = top;
-    let mut i = 0;
-    while i < len {
+    for i in 0..len {
         let q = num(children, w, from + i);
         if top <= e_of(tuples, w, z, k, q) {
             return false;
         }
-        s = lesser(s, s_of(tuples, w, z, k, q));
-        i += 1;
+        s = s.min(s_of(tuples, w, z, k, q));
     }
     s_of(tuples, w, z, k, p) == s
 }

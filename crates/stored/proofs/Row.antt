@@ -1,21 +1,28 @@
 -- Where the children of one group stand, and that they are its row of the children's list.
 use mathlib.Core.Bool.{Bool, true, ◌&&◌}
-use mathlib.Core.Path.{◌≡◌, sym, ap, ◌∙◌}
+use mathlib.Core.Path.{◌≡◌, sym, ap, ap₂, ◌∙◌}
 use mathlib.Core.List.{List, []}
-use Prim.Native.Nat.{ℕ, suc, ◌+◌, ◌-◌, ◌*◌, ◌≤◌, ◌<◌}
+use Prim.Native.Nat.{ℕ, suc, ◌+◌, ◌-◌, ◌*◌, ◌^◌, ◌≤◌, ◌<◌}
+use native.Mathlib.Nat.{mul-le-mul_left}
 use native.Mathlib.Omega.{arith}
 use lib.Dec.{ltb}
 use lib.ListN.{length, get_or}
 use borrow.Author.Tests.{ltb-true}
-use Rattle.lineage.specs.Lists.{all_below}
-use Rattle.lineage.specs.Numbers.{Width, num_at}
+use Rattle.lineage.specs.Lists.{all_below, part}
+use Rattle.lineage.specs.Numbers.{Width, num_at, numbers}
 use Rattle.lineage.specs.Sound.{row_passes}
 use Rattle.laws.proofs.Tests.{and_left, and_right}
 use Rattle.laws.proofs.Lists.{all_below_lem}
 use Rattle.stored.specs.Sections.{children_in}
-use Rattle.stored.specs.Rows.{Rows, Row, Children, Places}
-use Rattle.stored.proofs.Sections.{starts_rise, starts_within, children_long, row_long, row_at_lem}
+use Rattle.numbers.specs.Regions.{Part}
+use Rattle.numbers.proofs.Numbers.{numbers_part}
+use Rattle.stored.specs.Rows.{Holds, Rows, Row, Children, Places}
+use Rattle.stored.proofs.Sections.{starts_rise, starts_within, children_long, row_is, row_long, row_at_lem}
 use Rattle.stored.proofs.Read.{can_read}
+
+-- numbers of a part of the bytes
+pub numbers_in : (w : ℕ) (s : List ℕ) (count from len : ℕ) {r : List ℕ} → from + len ≤ count → Part s (w * from) (w * len) r → numbers w r len ≡ part (numbers w s count) from len
+numbers_in w s count from len h P = ap (λ (b : List ℕ). numbers w b len) P.is ∙ numbers_part w s count from len h
 
 -- child starts that have passed: none falls, and none is above c
 module _ {w k c : ℕ} {starts : List ℕ} (R : Rows w starts k c) where
@@ -45,6 +52,19 @@ module _ {w k c p from len : ℕ} {starts children : List ℕ} (K : Children w s
   row_has =
       row_long w starts children k c p R.low (row_rises K.rows p R.low) (row_within K.rows (p + 1) (omega (arith, R.low)))
       ∙ omega (arith, R.begins, R.ends)
+
+  -- its children are numbers of theirs
+  pub row_fits : (from + len < 2 ^ 32) × (w * (from + len) ≤ length children)
+  row_fits = (omega (arith, R.within, K.held.few), omega (arith, mul-le-mul_left w R.within, K.held.long))
+
+  pub row_numbers : {r : List ℕ} → Part children (w * from) (w * len) r → numbers w r len ≡ get_or (children_in w starts children k c) p []
+  row_numbers P =
+      numbers_in w children c from len R.within P
+      ∙ ap₂ (λ (a n : ℕ). part (numbers w children c) a n) R.begins (omega (arith, R.begins, R.ends))
+      ∙ sym (row_is w starts children k c p R.low)
+
+  pub row_held : {r : List ℕ} → Part children (w * from) (w * len) r → Holds w r len
+  row_held P = record { width = K.held.width; long = omega (arith, P.long); few = omega (arith, R.within, K.held.few) }
 
   -- what was read is child i of the row
   pub child_was : {i q : ℕ} → i < len → q ≡ num_at w children (from + i) → q ≡ get_or (get_or (children_in w starts children k c) p []) i 0

@@ -2,3 +2,4 @@
 pub mod Sections
 pub mod Rows
 pub mod Fits
+pub mod Reading

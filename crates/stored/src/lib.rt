@@ -2,4 +2,5 @@
 #![tactic(auto)]
 
 pub mod parts;
+pub mod reading;
 pub mod rows;

@@ -1,14 +1,14 @@
 -- What a header says, as code has it: a row of the table of forms, a layout, and the refusals that the header alone decides.
-use Rattle.std.specs.Prelude.{Bool, true, ◌&&◌, ◌≡◌, List, [], ◌∷◌, map, ℕ, ◌+◌, ◌*◌, ◌≤◌, eqb, length, get_or, take}
+use Rattle.std.specs.Prelude.{Bool, true, ◌&&◌, ◌≡◌, List, [], ◌∷◌, map, ℕ, ◌+◌, ◌*◌, ◌≤◌, eqb, length, get_or, take, Result}
 use Rattle.lineage.specs.Lists.{upto, same_list}
 use Rattle.lineage.specs.Numbers.{Width}
 use Rattle.lineage.specs.Stored.{Counts, offsets, header_at, counts_in, form_of, is_form, most_labellings}
-use Rattle.lineage.specs.Calls.{Check, Outcome, refused, answered, FormsTaken, words_for, form_checks}
+use Rattle.lineage.specs.Calls.{Check, Outcome, FormsTaken, words_for, form_checks}
 use Rattle.numbers.specs.Bounds.{vertex_bound, entry_bound}
 use Rattle.stored_header.specs.declared.Row.{Row}
 use Rattle.stored_header.specs.declared.Layout.{Layout}
-use Rattle.stored_header.specs.declared.Header.{Header}
-use Rattle.stored_header.specs.declared.Header.TheVariants.{Passed, Refused}
+use Rattle.refusals.specs.declared.Refusal.{Refusal}
+use Rattle.refusals.specs.Refusals.{outcome_by}
 
 -- the numbers of one group by place: s, m and e, or s and e
 pub record Stride (z : ℕ) : Type 0 where
@@ -94,9 +94,8 @@ abbrev pub header_checks : FormsTaken → List ℕ → List Check
 header_checks T b = take 3 (form_checks T b 0 0)
 
 -- what a header says, as an outcome
-abbrev pub header_outcome : Header → Outcome Layout
-header_outcome (Passed l) = answered l
-header_outcome (Refused number extra) = refused number extra
+abbrev pub header_outcome : Result Layout Refusal → Outcome Layout
+header_outcome = outcome_by (λ l. l)
 
 -- each section starts where the one before it ends, the first behind the header; at the end of the last is the total
 pub record Sited (l : Layout) : Type 0 where

@@ -11,7 +11,7 @@ ghost use Rattle.numbers.specs.Bounds.{vertex_bound, entry_bound};
 ghost use Rattle.numbers.specs.Put.{put};
 ghost use Rattle.stored_header.specs.Header.{Stride, row_of, wide_row, counts, layout_by, layout_in, words_of, offsets_agree, header_of, header_outcome};
 
-use refusals::{BAD_HEADER, BYTES_SHORT, MARKS_SHORT, OTHER_FORM, WORK_SHORT};
+use refusals::Refusal;
 
 const HEADER_LENGTH: usize = 48;
 
@@ -48,13 +48,6 @@ pub struct Layout {
     pub children: usize,
     pub labels: usize,
     pub total: usize,
-}
-
-// What a header says: a layout, or a refusal with its number and its extra number.
-#[derive(Clone, Copy)]
-pub enum Header {
-    Passed(Layout),
-    Refused { number: u32, extra: u32 },
 }
 
 // The row of a form of 32-bit numbers.
@@ -185,14 +178,17 @@ pub fn words_needed(l: Layout) -> usize
 
 // The checks 10 to 13 and 6, which every call on stored bytes makes before its own, for the forms from `least` to `most` and so many marks and words: the first
 // that applies, or the layout.
-pub fn admit(least: usize, most: usize, index: &[u8], marks: usize, words: usize) -> Header
+pub fn admit(
+    least: usize,
+    most: usize,
+    index: &[u8],
+    marks: usize,
+    words: usize,
+) -> Result<Layout, Refusal>
     ensures { header_outcome result ≡ outcome (form_checks (forms_taken least most) index.now marks words) (layout_in index.now) }
 {
     if index.len() < HEADER_LENGTH {
-        return Header::Refused {
-            number: BYTES_SHORT,
-            extra: 0,
-        };
+        return Err(Refusal::BytesShort);
     }
     let form = numbers::num(index, 4, 0);
     let n = numbers::num(index, 4, 1);
@@ -200,39 +196,24 @@ pub fn admit(least: usize, most: usize, index: &[u8], marks: usize, words: usize
     let c = numbers::num(index, 4, 3);
     let d = numbers::num(index, 4, 4);
     if !takes(least, most, form) {
-        return Header::Refused {
-            number: OTHER_FORM,
-            extra: form as u32,
-        };
+        return Err(Refusal::OtherForm(form as u32));
     }
     let row = form_row(form);
     if !counts_fit(form, n, k, c, d) {
-        return Header::Refused {
-            number: BAD_HEADER,
-            extra: 0,
-        };
+        return Err(Refusal::BadHeader);
     }
     let l = lay_out(row.width, row.stride, n, k, c, d);
     if !offsets_fit(index, l) {
-        return Header::Refused {
-            number: BAD_HEADER,
-            extra: 0,
-        };
+        return Err(Refusal::BadHeader);
     }
     if marks < n {
-        return Header::Refused {
-            number: MARKS_SHORT,
-            extra: n as u32,
-        };
+        return Err(Refusal::MarksShort(n as u32));
     }
     let needed = words_needed(l);
     if words < needed {
-        return Header::Refused {
-            number: WORK_SHORT,
-            extra: needed as u32,
-        };
+        return Err(Refusal::WorkShort(needed as u32));
     }
-    Header::Passed(l)
+    Ok(l)
 }
 
 // Writes the header of a form's number and a layout, all of whose numbers are of 32 bits.

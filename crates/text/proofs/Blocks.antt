@@ -3,7 +3,7 @@ use mathlib.Core.Bool.{Bool, true, false, true≢false, false≢true, ◌&&◌, 
 use mathlib.Core.List.{List, [], ◌∷◌, ◌++◌, map, append_assoc, append-nil}
 use mathlib.Core.Path.{◌≡◌, refl, sym, ap, ◌∙◌, subst}
 use Prim.Native.Nat.{ℕ, zero, suc, ◌+◌, ◌-◌, ◌*◌, ◌≤◌, ◌<◌}
-use native.Mathlib.Nat.{add-zero, zero-add, sub-zero, sub_self, zero-mul, one-mul, suc-mul, add-mul, mul-le-mul_right}
+use native.Mathlib.Nat.{add-zero, zero-add, sub-zero, sub_self, zero-mul, one-mul, add-mul}
 use native.Mathlib.Numerals.{one-add}
 use native.Mathlib.Omega.{arith}
 use lib.Dec.{eqb}
@@ -11,12 +11,12 @@ use lib.ListN.{length, take, drop, length-drop, length-map}
 use lib.Seq.{drop-drop}
 use borrow.Author.Tests.{eqb-true}
 use Rattle.lineage.specs.Lists.{all_of, same_list}
-use Rattle.text_lines.specs.declared.Line.{Line as LineRead}
-use Rattle.text_lines.specs.declared.Line.TheVariants.{Good as GoodLine, Bad as BadLine}
+use Rattle.std.proofs.Common.{Option, Some, None}
 use Rattle.text_lines.specs.Lines.{space, lf, keep, first_piece, begin, other_pieces, pieces, Line, lines_of, is_decimal, most_digits, value, line_is, numbers_in}
 use Rattle.text_lines.specs.Reader.{Found, found, none, after, found_if, is_more, words_in, line_in, Into}
 use Rattle.text_lines.proofs.Words.{line_behind}
 use Rattle.text.specs.Text.{Block, stop, block}
+use Rattle.text.specs.Blocks.{BlockInto}
 
 -- how many bytes pieces take with the separators in front of them
 abbrev spread : List (List ℕ) → ℕ
@@ -141,7 +141,7 @@ module _ (text into first : List ℕ) (size most i p : ℕ) where
   passed_begins e = rw (e, zero-mul size, sub-zero most, zero-add (block first size most (lines_of (drop p text))).count)
 
   -- as many lines as may be
-  pub passed_full : i ≡ most → ◌≡◌ {A = Block} (record { count = i; numbers = take (i * size) into; rest = lines_of (drop p text) }) (passed text into first size most i p)
+  passed_full : i ≡ most → ◌≡◌ {A = Block} (record { count = i; numbers = take (i * size) into; rest = lines_of (drop p text) }) (passed text into first size most i p)
   unfolding passed block
   passed_full e = rw (e, sub_self most, add-zero most, append-nil (take (most * size) into))
 
@@ -154,14 +154,14 @@ record Read (text into into' first : List ℕ) (size i p next : ℕ) : Type 0 wh
   ends : next ≡ p + k
 
 module _ (text into into' first : List ℕ) (size i p : ℕ) where
-  line_read : (next : ℕ) → Into (GoodLine next) (line_in most_digits first size (drop p text)) p (i * size) size into into' → Read text into into' first size i p next
+  line_read : (next : ℕ) → Into (Some next) (line_in most_digits first size (drop p text)) p (i * size) size into into' → Read text into into' first size i p next
   line_read next t = go (line_in most_digits first size (drop p text)) refl t.read
     where
       go : (f : Found) → line_in most_digits first size (drop p text) ≡ f → found (take (i * size + size) into') next ≡ after (take (i * size) into) p f → Read text into into' first size i p next
       go (found ns k) e h = record { ns = ns; k = k; line = e; stored = cc; ends = cc }
       go none e h = absurd (true≢false cc)
 
-  line_missed : Into BadLine (line_in most_digits first size (drop p text)) p (i * size) size into into' → line_in most_digits first size (drop p text) ≡ none
+  line_missed : Into None (line_in most_digits first size (drop p text)) p (i * size) size into into' → line_in most_digits first size (drop p text) ≡ none
   line_missed t = go (line_in most_digits first size (drop p text)) t.read
     where
       go : (f : Found) → none ≡ after (take (i * size) into) p f → f ≡ none
@@ -180,20 +180,20 @@ module _ (text into into' first : List ℕ) (size i p : ℕ) where
         rw (one, stored, ends, left, block_more first size (most - (i + 1)) (drop p text) ns k (taken first size (drop p text) ns k line), drop-drop k p text)
         (sym (behind_behind rest i 1 (take (i * size) into) ns))
 
-    pub passed_turns : (next : ℕ) → i < most → Into (GoodLine next) (line_in most_digits first size (drop p text)) p (i * size) size into into'
+    pub passed_turns : (next : ℕ) → i < most → Into (Some next) (line_in most_digits first size (drop p text)) p (i * size) size into into'
         → passed text into' first size most (i + 1) next ≡ passed text into first size most i p
     passed_turns next low t =
         let r : Read text into into' first size i p next = line_read next t in
         turns next r.k r.ns low r.line r.stored r.ends
 
     -- no line more
-    pub passed_stops : Into BadLine (line_in most_digits first size (drop p text)) p (i * size) size into into'
+    pub passed_stops : Into None (line_in most_digits first size (drop p text)) p (i * size) size into into'
         → ◌≡◌ {A = Block} (record { count = i; numbers = take (i * size) into'; rest = lines_of (drop p text) }) (passed text into first size most i p)
     unfolding passed
     passed_stops t = rw (t.kept, block_stops first size (most - i) (drop p text) (line_missed t), add-zero i, append-nil (take (i * size) into))
 
 -- what a line that was read takes of the text
-module _ (text into into' : List ℕ) (c size i p next : ℕ) (low : p ≤ length text) (t : Into (GoodLine next) (line_in most_digits (c ∷ []) size (drop p text)) p (i * size) size into into') where
+module _ (text into into' : List ℕ) (c size i p next : ℕ) (low : p ≤ length text) (t : Into (Some next) (line_in most_digits (c ∷ []) size (drop p text)) p (i * size) size into into') where
   line_spends : (p + (2 * size + 2) ≤ next) × (next ≤ length text)
   line_spends =
       let r : Read text into into' (c ∷ []) size i p next = line_read text into into' (c ∷ []) size i p next t in
@@ -208,37 +208,35 @@ module _ (text into into' : List ℕ) (c size i p next : ℕ) (low : p ≤ lengt
       let one : (i + 1) * (2 * size + 2) ≡ i * (2 * size + 2) + (2 * size + 2) = add-mul i 1 (2 * size + 2) ∙ ap (λ (k : ℕ). i * (2 * size + 2) + k) (one-mul (2 * size + 2)) in
       omega (arith, one, line_spends.0)
 
-pub into_is : {x y : LineRead} {f : Found} {at base size : ℕ} {entry exit : List ℕ} → x ≡ y → Into x f at base size entry exit → Into y f at base size entry exit
-into_is {f} {at} {base} {size} {entry} {exit} e t = subst (λ (z : LineRead). Into z f at base size entry exit) e t
-
--- a line's numbers fit behind those of the lines passed
-pub block_room : (i most size l : ℕ) → i < most → most * size ≤ l → i * size + size ≤ l
-block_room i most size l low room = omega (arith, suc-mul i size, mul-le-mul_right {m = suc i} {n = most} size low)
-
--- The loop's invariant: few enough lines passed, within the text, each of its bytes, and with what is still to be read they are the block.
-pub record Passing (text : List ℕ) (at letter size most : ℕ) (entry into : List ℕ) (i p : ℕ) : Type 0 where
-  pub few : i ≤ most
+-- The loop's invariant: the lines passed lie within the text, each of its bytes, and with what is still to be read they are the block.
+pub record Passing (text : List ℕ) (at letter size most : ℕ) (into : List ℕ) (i p : ℕ) : Type 0 where
   pub inside : p ≤ length text
   pub spent : at + i * (2 * size + 2) ≤ p
-  pub long : length into ≡ length entry
   pub whole : passed text into (letter ∷ []) size most i p ≡ block (letter ∷ []) size most (lines_of (drop at text))
 
-module _ (text : List ℕ) (at letter size most : ℕ) (entry : List ℕ) where
-  pub passing_begins : at ≤ length text → Passing text at letter size most entry entry 0 at
+module _ (text : List ℕ) (at letter size most : ℕ) (into : List ℕ) where
+  pub passing_begins : at ≤ length text → Passing text at letter size most into 0 at
   passing_begins low = record {
-    few = omega arith;
     inside = low;
     spent = omega (arith, zero-mul (2 * size + 2));
-    long = refl;
-    whole = passed_begins text entry (letter ∷ []) size most 0 at refl;
+    whole = passed_begins text into (letter ∷ []) size most 0 at refl;
   }
 
-  pub passing_turns : (into into' : List ℕ) (i p next : ℕ) → Passing text at letter size most entry into i p → i < most → length into' ≡ length into
-      → Into (GoodLine next) (line_in most_digits (letter ∷ []) size (drop p text)) p (i * size) size into into' → Passing text at letter size most entry into' (i + 1) next
-  passing_turns into into' i p next q low same t = record {
-    few = omega arith;
+  pub passing_turns : (into' : List ℕ) (i p next : ℕ) → Passing text at letter size most into i p → i < most
+      → Into (Some next) (line_in most_digits (letter ∷ []) size (drop p text)) p (i * size) size into into' → Passing text at letter size most into' (i + 1) next
+  passing_turns into' i p next q low t = record {
     inside = block_inside text into into' letter size i p next q.inside t;
     spent = block_spent text into into' letter size i p next q.inside t at q.spent;
-    long = same ∙ q.long;
     whole = passed_turns text into into' (letter ∷ []) size i p most next low t ∙ q.whole;
   }
+
+  -- as many lines as may be
+  pub passing_full : (i p : ℕ) → i ≡ most → Passing text at letter size most into i p → BlockInto text at letter size most most p into
+  passing_full i p full q =
+      let b : BlockInto text at letter size most i p into = record {
+        read = passed_full text into (letter ∷ []) size most i p full ∙ q.whole;
+        few = omega arith;
+        inside = q.inside;
+        spent = q.spent;
+      } in
+      rw full at b

@@ -32,6 +32,3 @@ pub column_turns : (pairs into : List ℕ) (k i : ℕ) → k < 2 → (i + 1) * 2
     → take (i + 1) (set into i (get_or pairs (i * 2 + k) 0)) ≡ of_pairs k (take ((i + 1) * 2) pairs)
 column_turns pairs into k i h l room e =
     rw (add-one i, take-suc-set into i (get_or pairs (i * 2 + k) 0) room, e) (sym (pair_more k h i pairs (omega arith)))
-
-pub column_full : (pairs into : List ℕ) (k i count : ℕ) → i ≡ count → take i into ≡ of_pairs k (take (i * 2) pairs) → take count into ≡ of_pairs k (take (count * 2) pairs)
-column_full pairs into k i count e h = rw e at h

@@ -12,7 +12,7 @@ use Rattle.lineage.specs.Lists.{joined}
 use Rattle.lineage.specs.Stored.{most_labellings}
 use Rattle.text_lines.specs.Lines.{bytes, space, lf, keep, first_piece, begin, other_pieces, pieces, Line, lines_of, most_digits, line_is}
 use Rattle.text.specs.Blocks.{BlockInto, most_questions, reading_of}
-use Rattle.text.specs.declared.Reading.TheVariants.{Says}
+use Rattle.std.proofs.Common.{Ok}
 use Rattle.text.specs.Text.{most_bytes, Block, with_line, go_on, block, most_edges, most_vertices, Text, bad_line, of_pairs, is_end, vertices, judged, saying, reading}
 
 -- a block ends before the last piece
@@ -143,6 +143,6 @@ module _ {text head pairs orders asked : List ℕ} {n vc va ec ea oc oa qc qa : 
 
   -- none is left
   pub four_good : (sources targets : List ℕ) → length text ≤ qa → take ec sources ≡ of_pairs 0 (take (ec * 2) pairs) → take ec targets ≡ of_pairs 1 (take (ec * 2) pairs)
-      → reading_of (Says n ec oc qc) sources targets orders asked ≡ reading text
+      → reading_of (Ok (record { n = n; edges = ec; orders = oc; questions = qc })) sources targets orders asked ≡ reading text
   unfolding say
   four_good sources targets h s t = rw (s, t) (four_say true (end_reached text qa h))

@@ -1,8 +1,7 @@
 -- What reading lines of one letter into a list leaves, and what reading a whole text does.
-use Rattle.std.specs.Prelude.{List, [], ◌∷◌, ◌≡◌, ℕ, ◌+◌, ◌*◌, ◌≤◌, length, take, drop}
+use Rattle.std.specs.Prelude.{List, [], ◌∷◌, ◌≡◌, Result, Ok, Err, ℕ, ◌+◌, ◌*◌, ◌≤◌, length, take, drop}
 use Rattle.lineage.specs.Stored.{most_labellings}
 use Rattle.text.specs.declared.Reading.{Reading as ReadingRead}
-use Rattle.text.specs.declared.Reading.TheVariants.{Says, BadLine}
 use Rattle.text_lines.specs.Lines.{lines_of}
 use Rattle.text.specs.Text.{Block, block, most_vertices, most_edges, Reading, says, bad_line, reading}
 
@@ -26,18 +25,25 @@ pub record Lent (sources targets orders asked : List ℕ) : Type 0 where
   pub orders_long : most_labellings * most_vertices ≤ length orders
   pub asked_long : 2 * (most_questions + 1) ≤ length asked
 
--- what the counts and the lists say
-abbrev pub reading_of : ReadingRead → List ℕ → List ℕ → List ℕ → List ℕ → Reading
-reading_of (Says n edges d questions) sources targets orders asked =
-    says (record { n = n; sources = take edges sources; targets = take edges targets; d = d; orders = take (d * n) orders; asked = take (questions * 2) asked })
-reading_of (BadLine l) sources targets orders asked = bad_line l
+-- what the counts and the lists say, or the bad line
+abbrev pub reading_of : Result ReadingRead ℕ → List ℕ → List ℕ → List ℕ → List ℕ → Reading
+reading_of (Ok r) sources targets orders asked =
+    says (record {
+      n = r.n;
+      sources = take r.edges sources;
+      targets = take r.edges targets;
+      d = r.orders;
+      orders = take (r.orders * r.n) orders;
+      asked = take (r.questions * 2) asked;
+    })
+reading_of (Err l) sources targets orders asked = bad_line l
 
 -- the counts, or the line, are within the program's bounds
-abbrev pub Within : ReadingRead → Type 0
-Within (Says n edges d questions) = (n ≤ most_vertices) × ((edges ≤ most_edges) × ((d ≤ most_labellings) × (questions ≤ most_questions)))
-Within (BadLine l) = l ≤ 2 + most_edges + most_labellings + most_questions
+abbrev pub Within : Result ReadingRead ℕ → Type 0
+Within (Ok r) = (r.n ≤ most_vertices) × ((r.edges ≤ most_edges) × ((r.orders ≤ most_labellings) × (r.questions ≤ most_questions)))
+Within (Err l) = l ≤ 2 + most_edges + most_labellings + most_questions
 
 -- a text read into lists
-pub record TextInto (r : ReadingRead) (text sources targets orders asked : List ℕ) : Type 0 where
+pub record TextInto (r : Result ReadingRead ℕ) (text sources targets orders asked : List ℕ) : Type 0 where
   pub read : reading_of r sources targets orders asked ≡ reading text
   pub within : Within r

@@ -10,19 +10,17 @@ use lib.Seq.{drop-cons}
 use Rattle.lineage.specs.Calls.{Outcome, Said}
 use Rattle.text.specs.Output.{question_line, answer_to, answers_to}
 use Rattle.text_printing.specs.Printer.{Put}
-use Rattle.text_printing.proofs.Putting.{line_short, put_put, put_same, word_begins}
+use Rattle.text_printing.proofs.Putting.{line_short, put_put, put_same, put_empty}
 
--- from number i on nothing is asked yet; what is put takes at most 31 bytes for each number passed
+-- i questions are answered, and none behind them; what is put takes at most 62 bytes for each
 pub record Answering (index asked entry : List ℕ) (i at : ℕ) (out : List ℕ) : Type 0 where
   pub lines : List ℕ
   pub put : Put entry 0 lines at out
-  pub whole : lines ++ answers_to index (drop i asked) ≡ answers_to index asked
-  pub short : at ≤ 31 * i
-  pub low : i ≤ length asked
-  pub long : length out ≡ length entry
+  pub whole : lines ++ answers_to index (drop (2 * i) asked) ≡ answers_to index asked
+  pub short : at ≤ 62 * i
 
 pub answering_begins : (index asked entry : List ℕ) → Answering index asked entry 0 0 entry
-answering_begins index asked entry = record { lines = []; put = word_begins entry 0; whole = refl; short = omega arith; low = omega arith; long = refl }
+answering_begins index asked entry = record { lines = []; put = put_empty entry 0; whole = refl; short = omega arith }
 
 -- the next question's line and those behind it
 next_line : (index asked : List ℕ) (i : ℕ) → i + 1 < length asked
@@ -41,31 +39,28 @@ none_left index [] h = refl
 none_left index (u ∷ []) h = refl
 none_left index (u ∷ (v ∷ more)) h = absurd (omega arith)
 
-module _ {index asked entry : List ℕ} {i at : ℕ} {out : List ℕ} (A : Answering index asked entry i at out) (room : 31 * length asked ≤ length entry) where
-  -- there is room for a line
-  pub line_room : i + 1 < length asked → at + 61 ≤ length out
-  line_room h = omega (arith, A.short, A.long)
-
-  pub answering_turns : {next : ℕ} {exit : List ℕ} → i + 1 < length asked
-      → Put out at (question_line (get_or asked i 0) (get_or asked (i + 1) 0) (answer_to index (get_or asked i 0) (get_or asked (i + 1) 0))) next exit
-      → length exit ≡ length out
-      → Answering index asked entry (i + 2) next exit
-  answering_turns {next} {exit} h p long =
-      let u : ℕ = get_or asked i 0 in
-      let v : ℕ = get_or asked (i + 1) 0 in
+module _ {index asked entry : List ℕ} {i at : ℕ} {out : List ℕ} (A : Answering index asked entry i at out) where
+  pub answering_turns : {next : ℕ} {exit : List ℕ} → 2 * i + 1 < length asked
+      → Put out at (question_line (get_or asked (2 * i) 0) (get_or asked (2 * i + 1) 0) (answer_to index (get_or asked (2 * i) 0) (get_or asked (2 * i + 1) 0))) next exit
+      → Answering index asked entry (i + 1) next exit
+  answering_turns {next} {exit} h p =
+      let u : ℕ = get_or asked (2 * i) 0 in
+      let v : ℕ = get_or asked (2 * i + 1) 0 in
       let o : Outcome Said = answer_to index u v in
+      let two : 2 * (i + 1) ≡ 2 * i + 2 = omega arith in
       record {
         lines = A.lines ++ question_line u v o;
         put = put_put A.put p (omega arith);
         whole =
-            append_assoc A.lines (question_line u v o) (answers_to index (drop (i + 2) asked))
-            ∙ ap (λ (s : List ℕ). A.lines ++ s) (sym (next_line index asked i h))
-            ∙ A.whole;
+            rw two
+            (append_assoc A.lines (question_line u v o) (answers_to index (drop (2 * i + 2) asked))
+            ∙ ap (λ (s : List ℕ). A.lines ++ s) (sym (next_line index asked (2 * i) h))
+            ∙ A.whole);
         short = omega (arith, A.short, p.behind, line_short u v o);
-        low = omega arith;
-        long = long ∙ A.long;
       }
 
   -- no question is left
-  pub answering_ends : length asked ≤ i + 1 → Put entry 0 (answers_to index asked) at out
-  answering_ends h = put_same (sym (append-nil A.lines) ∙ ap (λ (s : List ℕ). A.lines ++ s) (sym (none_left index (drop i asked) (omega (arith, length-drop i asked)))) ∙ A.whole) A.put
+  pub answering_ends : length asked ≤ 2 * i + 1 → Put entry 0 (answers_to index asked) at out
+  answering_ends h =
+      let left : answers_to index (drop (2 * i) asked) ≡ [] = none_left index (drop (2 * i) asked) (omega (arith, length-drop (2 * i) asked)) in
+      put_same (sym (append-nil A.lines) ∙ ap (λ (s : List ℕ). A.lines ++ s) (sym left) ∙ A.whole) A.put

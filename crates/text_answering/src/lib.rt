@@ -5,7 +5,6 @@ ghost use Rattle.std.specs.Prelude.{◌+◌, ◌*◌, ◌≤◌, length};
 ghost use Rattle.text.specs.Output.{told, question_line, answer_to, answers_to};
 ghost use Rattle.text_printing.specs.Printer.{Put};
 
-use ask::Asked;
 use text::MOST_VERTICES;
 
 // Asks a question, and puts what it is told: the answer, or the refusal.
@@ -15,13 +14,8 @@ fn put_told(out: &mut [u8], at: usize, index: &[u8], source: u32, target: u32) -
 {
     let mut marks = [0u8; MOST_VERTICES];
     match ask::ask_form1(index, source, target, &mut marks) {
-        Asked::Answer {
-            says,
-            reason,
-            opened,
-            deciding,
-        } => text_printing::put_said(out, at, says, reason, opened, deciding),
-        Asked::Refused { number, extra } => text_printing::put_refusal(out, at, number, extra),
+        Ok(a) => text_printing::put_said(out, at, a.says, a.reason, a.opened, a.deciding),
+        Err(refusal) => text_printing::put_refusal(out, at, refusal.number(), refusal.extra()),
     }
 }
 
@@ -40,11 +34,9 @@ pub fn put_answers(out: &mut [u8], index: &[u8], asked: &[u32]) -> usize
     requires { 31 * length asked.now ≤ length out.old }
     ensures { Put out.old 0 (answers_to index.now asked.now) result out.new }
 {
-    let mut i = 0;
     let mut at = 0;
-    while i + 1 < asked.len() {
-        at = put_answer(out, at, index, asked[i], asked[i + 1]);
-        i += 2;
+    for i in 0..asked.len() / 2 {
+        at = put_answer(out, at, index, asked[2 * i], asked[2 * i + 1]);
     }
     at
 }

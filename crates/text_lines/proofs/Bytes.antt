@@ -10,16 +10,10 @@ use lib.ListN.{length, get_or, drop, drop_of_length-le, length-drop}
 use lib.Seq.{drop-cons}
 use borrow.Author.Tests.{eqb-true, leb-true, leb-false, ne_eqb, le-leb, lt-leb}
 use types.Run.{OneOf}
-use denote.Enum.Declared.{tag_of, declared}
 use Rattle.text_lines.specs.declared.Byte.{Byte}
 use Rattle.text_lines.specs.declared.Byte.TheVariants.{Letter, Digit, Space, Lf, Other, End}
-use Rattle.text_lines.specs.contracts.Byte.{enum}
 use Rattle.text_lines.specs.Lines.{space, lf, is_digit, digit_of}
 use Rattle.text_lines.specs.Reader.{is_letter, kind_by, kind, byte_in, is_break}
-
--- the variant's position, by which a match goes
-abbrev pub tag : Byte → ℕ
-tag x = tag_of (declared enum) x
 
 -- past the end
 pub end_here : (s : List ℕ) (at : ℕ) → length s ≤ at → End ≡ byte_in (drop at s)
@@ -109,7 +103,7 @@ sees (b ∷ more) = sees_by b more (is_letter b) (is_digit b) (eqb b space) (eqb
 pub seen : (x : Byte) (s : List ℕ) → x ≡ byte_in s → Sees x s
 seen x s e = subst (λ (y : Byte). Sees y s) (sym e) (sees s)
 
-long : {x : Byte} {s : List ℕ} → Sees x s → (tag x ≡ 5 → ⊥) → 0 < length s
+long : {x : Byte} {s : List ℕ} → Sees x s → (x ≡ End → ⊥) → 0 < length s
 long (letter b more e) h = omega arith
 long (digit d more e) h = omega arith
 long (blank more) h = omega arith
@@ -118,5 +112,5 @@ long (other b more l e f) h = omega arith
 long nothing h = absurd (h refl)
 
 -- where a byte is seen the text goes on
-pub within : (text : List ℕ) (at : ℕ) {x : Byte} → Sees x (drop at text) → (tag x ≡ 5 → ⊥) → at < length text
+pub within : (text : List ℕ) (at : ℕ) {x : Byte} → Sees x (drop at text) → (x ≡ End → ⊥) → at < length text
 within text at e h = omega (arith, long e h, length-drop at text)

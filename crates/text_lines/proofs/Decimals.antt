@@ -1,6 +1,6 @@
 -- Reading a number, digit by digit: what is still to be read of its word says the same as the word from the start.
 use mathlib.Core.Bool.{Bool, true, false, ◌&&◌, ◌||◌, and-true, and-false, or-true}
-use mathlib.Core.List.{List, [], ◌∷◌}
+use mathlib.Core.List.{List, ◌∷◌}
 use mathlib.Core.Path.{◌≡◌, refl, sym, ap, ◌∙◌}
 use Prim.Native.Nat.{ℕ, zero, suc, ◌+◌, ◌-◌, ◌*◌, ◌^◌, ◌≤◌, ◌<◌}
 use native.Mathlib.Nat.{pow-succ', mul-le-mul_right, mul_assoc, le-mul_of_pos_right, one-le-pow, pow-le-pow_right, add-zero}
@@ -9,14 +9,14 @@ use lib.Dec.{eqb, leb, leb-zero, leb-suc-suc, leb-suc-zero}
 use lib.ListN.{length, drop}
 use lib.Seq.{drop-drop}
 use borrow.Author.Tests.{ne_eqb, le-leb}
-use types.Run.{OneOf, miss}
+use mathlib.Core.Logic.{◌⊎◌, inl, inr}
 use Rattle.lineage.specs.Lists.{all_of}
 use Rattle.text_lines.specs.declared.Byte.{Byte}
-use Rattle.text_lines.specs.declared.Byte.TheVariants.{Digit}
-use Rattle.text_lines.specs.declared.Number.TheVariants.{Good as GoodNumber, Bad as BadNumber}
+use Rattle.text_lines.specs.declared.Byte.TheVariants.{Digit, Space, Lf}
+use Rattle.std.proofs.Common.{Some, None}
 use Rattle.text_lines.specs.Lines.{is_digit, digit_of, value_from, value, is_decimal}
 use Rattle.text_lines.specs.Reader.{word, is_ended, digits_in, number_in}
-use Rattle.text_lines.proofs.Bytes.{tag, above_digits, digit_goes, letter_goes, Sees, letter, digit, blank, newline, other, nothing}
+use Rattle.text_lines.proofs.Bytes.{above_digits, digit_goes, letter_goes, Sees, letter, digit, blank, newline, other, nothing}
 
 -- the byte of a digit
 pub digit_is : (d : ℕ) → d ≤ 9 → is_digit (48 + d) ≡ true
@@ -34,46 +34,52 @@ module _ (v i : ℕ) where
       let next : i + 1 + length (word more) ≡ i + suc (length (word more)) = omega arith in
       rw (digit_goes d, digit_is d h, made, leb-suc-suc (length (word more)) l, next)
 
-  -- a digit, where no more may stand
-  pub digit_over : (l : ℕ) {d : ℕ} {s : List ℕ} → Sees (Digit d) s → l ≡ 0 → BadNumber ≡ digits_in l v i s
-  unfolding digits_in word is_ended
-  digit_over l (digit d more h) e =
-      rw (e, digit_goes d, digit_is d h, leb-suc-zero (length (word more)), and-false (all_of is_digit (word more)), and-false (is_ended more))
-
   -- a space or LF
-  pub number_ends : (l : ℕ) {x : Byte} {s : List ℕ} → Sees x s → OneOf (2 ∷ 3 ∷ []) (tag x) → GoodNumber v i ≡ digits_in l v i s
+  pub number_ends : (l : ℕ) {x : Byte} {s : List ℕ} → Sees x s → (x ≡ Space) ⊎ (x ≡ Lf) → Some (record { value = v; next = i }) ≡ digits_in l v i s
   unfolding digits_in word is_ended
-  number_ends l (letter b more e) h = absurd (miss (2 ∷ 3 ∷ []) 0 tt h)
-  number_ends l (digit d more e) h = absurd (miss (2 ∷ 3 ∷ []) 1 tt h)
   number_ends l (blank more) h = rw (leb-zero l, add-zero i)
   number_ends l (newline more) h = rw (leb-zero l, add-zero i)
-  number_ends l (other b more n e f) h = absurd (miss (2 ∷ 3 ∷ []) 4 tt h)
-  number_ends l nothing h = absurd (miss (2 ∷ 3 ∷ []) 5 tt h)
+  number_ends l (letter b more e) h = elim h [ inl h ↦ cc | inr h ↦ cc ]
+  number_ends l (digit d more e) h = elim h [ inl h ↦ cc | inr h ↦ cc ]
+  number_ends l (other b more n e f) h = elim h [ inl h ↦ cc | inr h ↦ cc ]
+  number_ends l nothing h = elim h [ inl h ↦ cc | inr h ↦ cc ]
 
   -- anything else
-  pub number_strays : (l : ℕ) {x : Byte} {s : List ℕ} → Sees x s → OneOf (0 ∷ 4 ∷ 5 ∷ []) (tag x) → BadNumber ≡ digits_in l v i s
+  pub number_strays : (l : ℕ) {x : Byte} {s : List ℕ} → Sees x s → ((d : ℕ) → x ≡ Digit d → ⊥) → (x ≡ Space → ⊥) → (x ≡ Lf → ⊥) → None ≡ digits_in l v i s
   unfolding digits_in word is_ended
-  number_strays l (letter b more e) h =
-      rw (letter_goes b e, above_digits b (omega arith), and-false (is_ended more))
-  number_strays l (digit d more e) h = absurd (miss (0 ∷ 4 ∷ 5 ∷ []) 1 tt h)
-  number_strays l (blank more) h = absurd (miss (0 ∷ 4 ∷ 5 ∷ []) 2 tt h)
-  number_strays l (newline more) h = absurd (miss (0 ∷ 4 ∷ 5 ∷ []) 3 tt h)
-  number_strays l (other b more n e f) h = rw (f, e, and-false (is_ended more))
-  number_strays l nothing h = refl
+  number_strays l (letter b more e) d h k = rw (letter_goes b e, above_digits b (omega arith), and-false (is_ended more))
+  number_strays l (digit d more e) n h k = absurd (n d refl)
+  number_strays l (blank more) d h k = absurd (h refl)
+  number_strays l (newline more) d h k = absurd (k refl)
+  number_strays l (other b more n e f) d h k = rw (f, e, and-false (is_ended more))
+  number_strays l nothing d h k = refl
 
--- one turn: a digit more
-pub digit_turn : (text : List ℕ) (l v i : ℕ) {d : ℕ} → Sees (Digit d) (drop i text) → 1 ≤ l
-    → digits_in (l - 1) (10 * v + d) (i + 1) (drop (i + 1) text) ≡ digits_in l v i (drop i text)
-digit_turn text l v i {d} e h =
-    ap (digits_in (l - 1) (10 * v + d) (i + 1)) (sym (drop-drop 1 i text))
-    ∙ (digit_next v i (l - 1) e ∙ ap (λ (k : ℕ). digits_in k v i (drop i text)) (omega arith))
+  -- where no digit more may stand, a digit strays too
+  pub number_over : {x : Byte} {s : List ℕ} → Sees x s → (x ≡ Space → ⊥) → (x ≡ Lf → ⊥) → None ≡ digits_in 0 v i s
+  unfolding digits_in word is_ended
+  number_over (digit d more e) h k =
+      rw (digit_goes d, digit_is d e, leb-suc-zero (length (word more)), and-false (all_of is_digit (word more)), and-false (is_ended more))
+  number_over (letter b more e) h k = number_strays 0 (letter b more e) (λ d q. cc) h k
+  number_over (blank more) h k = absurd (h refl)
+  number_over (newline more) h k = absurd (k refl)
+  number_over (other b more n e f) h k = number_strays 0 (other b more n e f) (λ d q. cc) h k
+  number_over nothing h k = refl
+
+-- one turn: a digit more, and one fewer may follow
+pub digit_turn : (text : List ℕ) (left v at i : ℕ) {d : ℕ} → i < left → Sees (Digit d) (drop (at + i) text)
+    → digits_in (left - (i + 1)) (10 * v + d) (at + (i + 1)) (drop (at + (i + 1)) text) ≡ digits_in (left - i) v (at + i) (drop (at + i) text)
+digit_turn text left v at i {d} h e =
+    let one : left - i ≡ suc (left - (i + 1)) = omega arith in
+    let next : at + (i + 1) ≡ at + i + 1 = omega arith in
+    rw (one, next) (ap (digits_in (left - (i + 1)) (10 * v + d) (at + i + 1)) (sym (drop-drop 1 (at + i) text)) ∙ digit_next v (at + i) (left - (i + 1)) e)
 
 -- so many digits still fit
-pub digit_room : (l v d : ℕ) → (v + 1) * 10 ^ l ≤ 10 ^ 9 → 1 ≤ l → d ≤ 9 → (10 * v + d + 1) * 10 ^ (l - 1) ≤ 10 ^ 9
-digit_room l v d room h low =
-    let more : (10 * v + d + 1) * 10 ^ (l - 1) ≤ (v + 1) * 10 * 10 ^ (l - 1) = mul-le-mul_right (10 ^ (l - 1)) (omega arith) in
-    let power : 10 ^ l ≡ 10 * 10 ^ (l - 1) = ap (λ (k : ℕ). 10 ^ k) (omega arith) ∙ pow-succ' 10 (l - 1) in
-    let whole : (v + 1) * 10 * 10 ^ (l - 1) ≡ (v + 1) * 10 ^ l = mul_assoc (v + 1) 10 (10 ^ (l - 1)) ∙ ap (λ (x : ℕ). (v + 1) * x) (sym power) in
+pub digit_room : (left v i d : ℕ) → (v + 1) * 10 ^ (left - i) ≤ 10 ^ 9 → i < left → d ≤ 9 → (10 * v + d + 1) * 10 ^ (left - (i + 1)) ≤ 10 ^ 9
+digit_room left v i d room h low =
+    let l : ℕ = left - (i + 1) in
+    let more : (10 * v + d + 1) * 10 ^ l ≤ (v + 1) * 10 * 10 ^ l = mul-le-mul_right (10 ^ l) (omega arith) in
+    let power : 10 ^ (left - i) ≡ 10 * 10 ^ l = ap (λ (k : ℕ). 10 ^ k) (omega arith) ∙ pow-succ' 10 l in
+    let whole : (v + 1) * 10 * 10 ^ l ≡ (v + 1) * 10 ^ (left - i) = mul_assoc (v + 1) 10 (10 ^ l) ∙ ap (λ (x : ℕ). (v + 1) * x) (sym power) in
     omega arith
 
 -- a number with room is a number
@@ -125,14 +131,12 @@ first_room most d h low high =
     let power : 10 ^ most ≡ 10 * 10 ^ (most - 1) = ap (λ (k : ℕ). 10 ^ k) (omega arith) ∙ pow-succ' 10 (most - 1) in
     omega (arith, pow-le-pow_right {n = 10} (omega arith) high)
 
-module _ (most at : ℕ) where
-  -- no digit stands first
-  pub number_none : {x : Byte} {s : List ℕ} → Sees x s → OneOf (0 ∷ 2 ∷ 3 ∷ 4 ∷ 5 ∷ []) (tag x) → BadNumber ≡ number_in most at s
-  unfolding number_in word is_ended is_decimal
-  number_none (letter b more e) h =
-      rw (letter_goes b e, above_digits b (omega arith), and-false (is_ended more))
-  number_none (digit d more e) h = absurd (miss (0 ∷ 2 ∷ 3 ∷ 4 ∷ 5 ∷ []) 1 tt h)
-  number_none (blank more) h = refl
-  number_none (newline more) h = refl
-  number_none (other b more n e f) h = rw (f, e, and-false (is_ended more))
-  number_none nothing h = refl
+-- no digit stands first
+pub number_none : (most at : ℕ) {x : Byte} {s : List ℕ} → Sees x s → ((d : ℕ) → x ≡ Digit d → ⊥) → None ≡ number_in most at s
+unfolding number_in word is_ended is_decimal
+number_none most at (letter b more e) h = rw (letter_goes b e, above_digits b (omega arith), and-false (is_ended more))
+number_none most at (digit d more e) h = absurd (h d refl)
+number_none most at (blank more) h = refl
+number_none most at (newline more) h = refl
+number_none most at (other b more n e f) h = rw (f, e, and-false (is_ended more))
+number_none most at nothing h = refl

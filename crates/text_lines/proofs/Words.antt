@@ -9,14 +9,14 @@ use lib.Dec.{eqb, eqb-suc-suc, eqb-zero-suc, eqb-suc-zero}
 use lib.ListN.{length, take, drop, set}
 use lib.Seq.{drop-drop, take-suc-set, take-set-le}
 use borrow.Author.Tests.{ne_eqb, eq-eqb}
-use types.Run.{OneOf, miss}
 use Rattle.lineage.specs.Lists.{all_of, same_list}
 use Rattle.text_lines.specs.declared.Byte.{Byte}
 use Rattle.text_lines.specs.declared.Byte.TheVariants.{Letter, Space, Lf}
-use Rattle.text_lines.specs.declared.Number.TheVariants.{Good as GoodNumber, Bad as BadNumber}
+use Rattle.text_lines.specs.declared.Number.{Number}
+use Rattle.std.proofs.Common.{Some, None}
 use Rattle.text_lines.specs.Lines.{space, lf, keep, first_piece, begin, other_pieces, pieces, value, is_decimal, Line, line_is, numbers_in}
 use Rattle.text_lines.specs.Reader.{is_letter, is_break, word, is_ended, number_by, number_in, Found, found, none, after, found_if, is_more, words_in, line_in}
-use Rattle.text_lines.proofs.Bytes.{tag, letter_high, letter_goes, digit_goes, Sees, letter, digit, blank, newline, other, nothing}
+use Rattle.text_lines.proofs.Bytes.{letter_high, letter_goes, digit_goes, Sees, letter, digit, blank, newline, other, nothing}
 
 neither : (x y : Bool) → (x || y) ≡ false → (x ≡ false) × (y ≡ false)
 neither true y e = absurd (true≢false e)
@@ -151,22 +151,22 @@ module _ (most : ℕ) where
   space_last k s e = rw (no_break s e)
 
   -- no space stands where a number should begin
-  no_number : (k : ℕ) {x : Byte} {s : List ℕ} → Sees x s → OneOf (0 ∷ 1 ∷ 3 ∷ 4 ∷ 5 ∷ []) (tag x) → line_in most [] (suc k) s ≡ none
+  no_number : (k : ℕ) {x : Byte} {s : List ℕ} → Sees x s → (x ≡ Space → ⊥) → line_in most [] (suc k) s ≡ none
   unfolding line_in first_piece other_pieces line_is
   no_number k (letter b more h) e = word_begins b (letter_goes b h) (suc k) more
   no_number k (digit d more h) e = word_begins (48 + d) (digit_goes d) (suc k) more
-  no_number k (blank more) e = absurd (miss (0 ∷ 1 ∷ 3 ∷ 4 ∷ 5 ∷ []) 2 tt e)
+  no_number k (blank more) e = absurd (e refl)
   no_number k (newline more) e = rw (eqb-zero-suc k)
   no_number k (other b more n h f) e = word_begins b f (suc k) more
   no_number k nothing e = refl
 
   -- no LF stands where the line should end
-  no_end : {x : Byte} {s : List ℕ} → Sees x s → OneOf (0 ∷ 1 ∷ 2 ∷ 4 ∷ 5 ∷ []) (tag x) → line_in most [] 0 s ≡ none
+  no_end : {x : Byte} {s : List ℕ} → Sees x s → (x ≡ Lf → ⊥) → line_in most [] 0 s ≡ none
   unfolding line_in first_piece other_pieces line_is
   no_end (letter b more h) e = word_begins b (letter_goes b h) 0 more
   no_end (digit d more h) e = word_begins (48 + d) (digit_goes d) 0 more
   no_end (blank more) e = rw (eqb-suc-zero (length (other_pieces space (first_piece lf more))), and-false (is_more (other_pieces lf more)))
-  no_end (newline more) e = absurd (miss (0 ∷ 1 ∷ 2 ∷ 4 ∷ 5 ∷ []) 3 tt e)
+  no_end (newline more) e = absurd (e refl)
   no_end (other b more n h f) e = word_begins b f 0 more
   no_end nothing e = refl
 
@@ -181,37 +181,37 @@ module _ (most : ℕ) where
     pub made : v ≡ value (word s)
     pub ends : next ≡ at + length (word s)
 
-  pub number_read : (s : List ℕ) (at v next : ℕ) → GoodNumber v next ≡ number_in most at s → Read s at v next
+  pub number_read : (s : List ℕ) (at : ℕ) (r : Number) → Some r ≡ number_in most at s → Read s at r.value r.next
   unfolding number_in
-  number_read s at v next e = go (is_ended s) (is_decimal most (word s)) refl e
+  number_read s at r e = go (is_ended s) (is_decimal most (word s)) refl e
     where
-      go : (x y : Bool) → is_decimal most (word s) ≡ y → GoodNumber v next ≡ number_by (x && y) (value (word s)) (at + length (word s)) → Read s at v next
-      go true true d h = record { decimal = d; made = cc; ends = cc }
+      go : (x y : Bool) → is_decimal most (word s) ≡ y → Some r ≡ number_by (x && y) (value (word s)) (at + length (word s)) → Read s at r.value r.next
+      go true true d h = let same : r ≡ record { value = value (word s); next = at + length (word s) } = cc in rw same record { decimal = d; made = refl; ends = refl }
       go true false d h = absurd (true≢false cc)
       go false y d h = absurd (true≢false cc)
 
   module _ (text : List ℕ) (p k : ℕ) (spaced : Sees Space (drop p text)) where
     -- a number behind a single space
-    number_passed : (ns : List ℕ) (v next : ℕ) → GoodNumber v next ≡ number_in most (p + 1) (drop (p + 1) text)
-        → after (ns ++ (v ∷ [])) next (line_in most [] k (drop next text)) ≡ after ns p (line_in most [] (suc k) (drop p text))
-    number_passed ns v next e =
-        let r : List ℕ = drop (p + 1) text in
-        let n : ℕ = length (word r) in
-        let known : Read r (p + 1) v next = number_read r (p + 1) v next e in
+    number_passed : (ns : List ℕ) (r : Number) → Some r ≡ number_in most (p + 1) (drop (p + 1) text)
+        → after (ns ++ (r.value ∷ [])) r.next (line_in most [] k (drop r.next text)) ≡ after ns p (line_in most [] (suc k) (drop p text))
+    number_passed ns r e =
+        let s : List ℕ = drop (p + 1) text in
+        let n : ℕ = length (word s) in
+        let known : Read s (p + 1) r.value r.next = number_read s (p + 1) r e in
         let rest : Found = line_in most [] k (drop (p + 1 + n) text) in
-        rw (known.made, known.ends, space_here text p spaced, space_number k r known.decimal, word_passed k r, drop-drop n (p + 1) text)
-        (rw (after_after rest (value (word r) ∷ []) [] 1 n, after_after rest ns (value (word r) ∷ []) p (1 + n))
-        (ap (λ (q : ℕ). after (ns ++ (value (word r) ∷ [])) q rest) (omega arith)))
+        rw (known.made, known.ends, space_here text p spaced, space_number k s known.decimal, word_passed k s, drop-drop n (p + 1) text)
+        (rw (after_after rest (value (word s) ∷ []) [] 1 n, after_after rest ns (value (word s) ∷ []) p (1 + n))
+        (ap (λ (q : ℕ). after (ns ++ (value (word s) ∷ [])) q rest) (omega arith)))
 
     -- no number behind a single space
-    number_missing : BadNumber ≡ number_in most (p + 1) (drop (p + 1) text) → line_in most [] (suc k) (drop p text) ≡ none
+    number_missing : None ≡ number_in most (p + 1) (drop (p + 1) text) → line_in most [] (suc k) (drop p text) ≡ none
     unfolding number_in
     number_missing e = rw (space_here text p spaced) (go (is_ended r) (is_decimal most (word r)) refl refl e)
       where
         r : List ℕ
         r = drop (p + 1) text
 
-        go : (x y : Bool) → is_ended r ≡ x → is_decimal most (word r) ≡ y → BadNumber ≡ number_by (x && y) (value (word r)) (p + 1 + length (word r))
+        go : (x y : Bool) → is_ended r ≡ x → is_decimal most (word r) ≡ y → None ≡ number_by (x && y) (value (word r)) (p + 1 + length (word r))
             → line_in most [] (suc k) (space ∷ r) ≡ none
         go true true f d h = absurd (true≢false cc)
         go true false f d h = space_stray k r d
@@ -232,19 +232,19 @@ module _ (most : ℕ) where
       one_left low = omega arith
 
       -- a number more in the list
-      pub still_turns : (v next : ℕ) → j < size → base + j < length into → Sees Space (drop p text) → GoodNumber v next ≡ number_in most (p + 1) (drop (p + 1) text)
-          → still text (set into (base + j) v) base size (j + 1) next ≡ still text into base size j p
+      pub still_turns : (r : Number) → j < size → base + j < length into → Sees Space (drop p text) → Some r ≡ number_in most (p + 1) (drop (p + 1) text)
+          → still text (set into (base + j) r.value) base size (j + 1) r.next ≡ still text into base size j p
       unfolding still
-      still_turns v next low room spaced e =
+      still_turns r low room spaced e =
           let one : base + (j + 1) ≡ suc (base + j) = omega arith in
-          rw (one, take-suc-set into (base + j) v room, one_left low) (number_passed text p (size - (j + 1)) spaced (take (base + j) into) v next e)
+          rw (one, take-suc-set into (base + j) r.value room, one_left low) (number_passed text p (size - (j + 1)) spaced (take (base + j) into) r e)
 
       -- no space; no number behind it
-      pub still_unspaced : {x : Byte} → j < size → Sees x (drop p text) → OneOf (0 ∷ 1 ∷ 3 ∷ 4 ∷ 5 ∷ []) (tag x) → none ≡ still text into base size j p
+      pub still_unspaced : {x : Byte} → j < size → Sees x (drop p text) → (x ≡ Space → ⊥) → none ≡ still text into base size j p
       unfolding still
       still_unspaced low e h = rw (one_left low, no_number (size - (j + 1)) e h)
 
-      pub still_missing : j < size → Sees Space (drop p text) → BadNumber ≡ number_in most (p + 1) (drop (p + 1) text) → none ≡ still text into base size j p
+      pub still_missing : j < size → Sees Space (drop p text) → None ≡ number_in most (p + 1) (drop (p + 1) text) → none ≡ still text into base size j p
       unfolding still
       still_missing low spaced e = rw (one_left low, number_missing text p (size - (j + 1)) spaced e)
 
@@ -253,7 +253,7 @@ module _ (most : ℕ) where
       unfolding still
       still_ends full e = rw (full, sub_self size, line_ends e, append-nil (take (base + size) into))
 
-      pub still_unended : {x : Byte} → j ≡ size → Sees x (drop p text) → OneOf (0 ∷ 1 ∷ 2 ∷ 4 ∷ 5 ∷ []) (tag x) → none ≡ still text into base size j p
+      pub still_unended : {x : Byte} → j ≡ size → Sees x (drop p text) → (x ≡ Lf → ⊥) → none ≡ still text into base size j p
       unfolding still
       still_unended full e h = rw (full, sub_self size, no_end e h)
 
@@ -266,9 +266,9 @@ module _ (most : ℕ) where
     other_letter (letter b more h) e = byte_other b (letter_goes b h) size more c [] (ne_eqb b c e)
 
     -- no letter stands first
-    pub no_letter : {x : Byte} {s : List ℕ} → is_letter c ≡ true → Sees x s → OneOf (1 ∷ 2 ∷ 3 ∷ 4 ∷ 5 ∷ []) (tag x) → line_in most (c ∷ []) size s ≡ none
+    pub no_letter : {x : Byte} {s : List ℕ} → is_letter c ≡ true → Sees x s → ((b : ℕ) → x ≡ Letter b → ⊥) → line_in most (c ∷ []) size s ≡ none
     unfolding line_in first_piece other_pieces line_is
-    no_letter l (letter b more h) e = absurd (miss (1 ∷ 2 ∷ 3 ∷ 4 ∷ 5 ∷ []) 0 tt e)
+    no_letter l (letter b more h) e = absurd (e b refl)
     no_letter l (digit d more h) e = byte_other (48 + d) (digit_goes d) size more c [] (ne_eqb (48 + d) c (omega (arith, letter_high c l)))
     no_letter l (blank more) e = rw (and-false (is_more (other_pieces lf more)))
     no_letter l (newline more) e = refl

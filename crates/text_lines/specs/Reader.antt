@@ -1,13 +1,10 @@
 -- What the line reader's functions find in the bytes from a position on.
-use Rattle.std.specs.Prelude.{Bool, true, false, ◌&&◌, ◌||◌, List, [], ◌∷◌, ◌++◌, ◌≡◌, ℕ, suc, ◌+◌, eqb, leb, length, take}
+use Rattle.std.specs.Prelude.{Bool, true, false, ◌&&◌, ◌||◌, List, [], ◌∷◌, ◌++◌, ◌≡◌, Option, Some, None, ℕ, suc, ◌+◌, eqb, leb, length, take}
 use Prim.Native.Char.{code}
 use Rattle.lineage.specs.Lists.{all_of}
 use Rattle.text_lines.specs.declared.Byte.{Byte}
 use Rattle.text_lines.specs.declared.Byte.TheVariants.{Letter, Digit, Space, Lf, Other, End}
 use Rattle.text_lines.specs.declared.Number.{Number}
-use Rattle.text_lines.specs.declared.Number.TheVariants.{Good as GoodNumber, Bad as BadNumber}
-use Rattle.text_lines.specs.declared.Line.{Line as LineRead}
-use Rattle.text_lines.specs.declared.Line.TheVariants.{Good as GoodLine, Bad as BadLine}
 use Rattle.text_lines.specs.Lines.{space, lf, is_digit, digit_of, keep, first_piece, other_pieces, pieces, is_decimal, value_from, value, Line, line_is, numbers_in}
 
 -- a letter that begins a line
@@ -46,18 +43,18 @@ is_ended [] = false
 is_ended (b ∷ more) = is_break b || is_ended more
 
 -- a number, or none
-abbrev pub number_by : Bool → ℕ → ℕ → Number
-number_by true value next = GoodNumber value next
-number_by false value next = BadNumber
+abbrev pub number_by : Bool → ℕ → ℕ → Option Number
+number_by true value next = Some (record { value = value; next = next })
+number_by false value next = None
 
 -- at most `left` digits behind those that make v, and where they end
-unfoldable pub digits_in : ℕ → ℕ → ℕ → List ℕ → Number
+unfoldable pub digits_in : ℕ → ℕ → ℕ → List ℕ → Option Number
 unfolding word is_ended
 digits_in left v at s =
     number_by (is_ended s && (all_of is_digit (word s) && leb (length (word s)) left)) (value_from v (word s)) (at + length (word s))
 
 -- a decimal of at most `most` digits, and where it ends
-unfoldable pub number_in : ℕ → ℕ → List ℕ → Number
+unfoldable pub number_in : ℕ → ℕ → List ℕ → Option Number
 unfolding word is_ended is_decimal
 number_in most at s = number_by (is_ended s && is_decimal most (word s)) (value (word s)) (at + length (word s))
 
@@ -91,11 +88,11 @@ unfolding first_piece other_pieces line_is
 line_in most first size s = found_if (is_more (other_pieces lf s) && line_is most first size (words_in s)) (words_in s) (suc (length (first_piece lf s)))
 
 -- what a call that reads a line gives, with the numbers that it left in the list
-abbrev pub found_by : LineRead → List ℕ → Found
-found_by (GoodLine next) numbers = found numbers next
-found_by BadLine numbers = none
+abbrev pub found_by : Option ℕ → List ℕ → Found
+found_by (Some next) numbers = found numbers next
+found_by None numbers = none
 
 -- a line read into a list from `base` on: what stands in front is kept, and the line's numbers follow it
-pub record Into (r : LineRead) (line : Found) (at base size : ℕ) (entry exit : List ℕ) : Type 0 where
+pub record Into (r : Option ℕ) (line : Found) (at base size : ℕ) (entry exit : List ℕ) : Type 0 where
   pub kept : take base exit ≡ take base entry
   pub read : found_by r (take (base + size) exit) ≡ after (take base entry) at line

@@ -8,7 +8,7 @@ ghost use Rattle.text_lines.specs.Reader.{is_letter, byte_in, digits_in, number_
 pub const MOST_DIGITS: usize = 5;
 
 // What stands at a position: a letter that begins a line, a digit's value, a space, LF, another byte, or the text's end.
-#[derive(Clone, Copy)]
+#[derive(Clone, Copy, Debug, PartialEq, Eq)]
 pub enum Byte {
     Letter(u8),
     Digit(u32),
@@ -16,12 +16,6 @@ pub enum Byte {
     Lf,
     Other,
     End,
-}
-
-fn wide(b: u8) -> u32
-    ensures { result ≡ b }
-{
-    b as u32
 }
 
 pub fn byte_at(text: &[u8], at: usize) -> Byte
@@ -33,7 +27,7 @@ pub fn byte_at(text: &[u8], at: usize) -> Byte
     let b = text[at];
     match b {
         b'v' | b'e' | b'o' | b'q' => Byte::Letter(b),
-        b'0'..=b'9' => Byte::Digit(wide(b - b'0')),
+        b'0'..=b'9' => Byte::Digit(u32::from(b - b'0')),
         b' ' => Byte::Space,
         b'\n' => Byte::Lf,
         _ => Byte::Other,
@@ -41,42 +35,44 @@ pub fn byte_at(text: &[u8], at: usize) -> Byte
 }
 
 // A number that was read, and where it ends.
-#[derive(Clone, Copy)]
-pub enum Number {
-    Good { value: u32, next: usize },
-    Bad,
+#[derive(Clone, Copy, Debug, PartialEq, Eq)]
+pub struct Number {
+    pub value: u32,
+    pub next: usize,
 }
 
 // At most `left` digits behind those that made `value`, up to a space or LF.
-fn read_digits(text: &[u8], at: usize, value: u32, left: usize) -> Number
-    requires { (value + 1) * 10 ^ left ≤ 10 ^ 9 }
+fn read_digits(text: &[u8], at: usize, value: u32, left: usize) -> Option<Number>
+    requires room { (value + 1) * 10 ^ left ≤ 10 ^ 9 }
+    requires at_in_bounds { at ≤ length text.now }
     ensures { result ≡ digits_in left value at (drop at text.now) }
 {
-    let mut i = at;
     let mut v = value;
-    let mut l = left;
-    loop {
-        match byte_at(text, i) {
-            Byte::Digit(d) => {
-                if l == 0 {
-                    return Number::Bad;
-                }
-                v = 10 * v + d;
-                l -= 1;
-                i += 1;
-            }
+    for i in 0..left {
+        match byte_at(text, at + i) {
+            Byte::Digit(d) => v = 10 * v + d,
             Byte::Space | Byte::Lf => {
-                return Number::Good { value: v, next: i };
+                return Some(Number {
+                    value: v,
+                    next: at + i,
+                });
             }
             _ => {
-                return Number::Bad;
+                return None;
             }
         }
+    }
+    match byte_at(text, at + left) {
+        Byte::Space | Byte::Lf => Some(Number {
+            value: v,
+            next: at + left,
+        }),
+        _ => None,
     }
 }
 
 // A decimal of 1 to `most` digits without needless zeros, up to a space or LF.
-pub fn read_number(text: &[u8], at: usize, most: usize) -> Number
+pub fn read_number(text: &[u8], at: usize, most: usize) -> Option<Number>
     requires { (1 ≤ most) × (most ≤ 9) }
     ensures { result ≡ number_in most at (drop at text.now) }
 {
@@ -88,18 +84,18 @@ pub fn read_number(text: &[u8], at: usize, most: usize) -> Number
                 read_digits(text, at + 1, d, most - 1)
             }
         }
-        _ => Number::Bad,
+        _ => None,
     }
 }
 
-// A line that was read: where the next begins.
-#[derive(Clone, Copy)]
-pub enum Line {
-    Good(usize),
-    Bad,
+// Lines that stood first: how many, and where the text goes on.
+#[derive(Clone, Copy, Debug, PartialEq, Eq)]
+pub struct Block {
+    pub count: usize,
+    pub at: usize,
 }
 
-// Exactly `size` numbers of at most `most` digits, each behind a single space, then LF. They go into the list from `base` on.
+// Exactly `size` numbers of at most `most` digits, each behind a single space, then LF: where the next line begins. They go into the list from `base` on.
 pub fn read_numbers(
     text: &[u8],
     at: usize,
@@ -107,26 +103,22 @@ pub fn read_numbers(
     size: usize,
     into: &mut [u32],
     base: usize,
-) -> Line
+) -> Option<usize>
     requires { ((1 ≤ most) × (most ≤ 9)) × (base + size ≤ length into.old) }
     ensures { Into result (line_in most [] size (drop at text.now)) at base size into.old into.new }
 {
-    let mut j = 0;
     let mut p = at;
-    while j < size {
+    for j in 0..size {
         let Byte::Space = byte_at(text, p) else {
-            return Line::Bad;
+            return None;
         };
-        let Number::Good { value, next } = read_number(text, p + 1, most) else {
-            return Line::Bad;
-        };
-        into[base + j] = value;
-        p = next;
-        j += 1;
+        let number = read_number(text, p + 1, most)?;
+        into[base + j] = number.value;
+        p = number.next;
     }
     match byte_at(text, p) {
-        Byte::Lf => Line::Good(p + 1),
-        _ => Line::Bad,
+        Byte::Lf => Some(p + 1),
+        _ => None,
     }
 }
 
@@ -138,7 +130,7 @@ pub fn read_line(
     size: usize,
     into: &mut [u32],
     base: usize,
-) -> Line
+) -> Option<usize>
     requires { (is_letter letter ≡ true) × (base + size ≤ length into.old) }
     ensures { Into result (line_in most_digits (letter ∷ []) size (drop at text.now)) at base size into.old into.new }
 {
@@ -147,9 +139,9 @@ pub fn read_line(
             if b == letter {
                 read_numbers(text, at + 1, MOST_DIGITS, size, into, base)
             } else {
-                Line::Bad
+                None
             }
         }
-        _ => Line::Bad,
+        _ => None,
     }
 }

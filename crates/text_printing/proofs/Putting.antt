@@ -3,16 +3,14 @@ use mathlib.Core.Bool.{Bool, true, false, cond}
 use mathlib.Core.List.{List, [], ◌∷◌, ◌++◌}
 use mathlib.Core.Path.{◌≡◌, refl, sym, ap, ap₂, ◌∙◌, subst}
 use Prim.Native.Nat.{ℕ, zero, suc, ◌+◌, ◌/◌, ◌%◌, ◌^◌, ◌≤◌, ◌<◌}
-use native.Mathlib.Numerals.{add-one}
 use native.Mathlib.Omega.{arith}
 use lib.Dec.{ltb}
-use lib.ListN.{length, get_or, take, set, length-append}
-use lib.Seq.{take_all, take-suc}
+use lib.ListN.{length, set, length-append}
 use borrow.Author.Tests.{lt-ltb, le-ltb}
 use Rattle.lineage.specs.Calls.{Outcome, refused, answered, Said}
 use Rattle.text_lines.specs.Lines.{bytes, digits, decimal_by, decimal}
 use Rattle.text_lines.proofs.Digits.{tenth_low}
-use Rattle.text.specs.Output.{two_numbers, three_numbers, said, told, question, question_line}
+use Rattle.text.specs.Output.{two_numbers, three_numbers, told, question, question_line}
 use Rattle.numbers.specs.Put.{put}
 use Rattle.numbers.proofs.Put.{put_none, put_next, put_sets}
 use Rattle.text_printing.specs.Printer.{Put}
@@ -20,6 +18,10 @@ use Rattle.text_printing.specs.Printer.{Put}
 -- one byte is put
 pub put_one : (out : List ℕ) (at b : ℕ) → at < length out → Put out at (b ∷ []) (at + 1) (set out at b)
 put_one out at b low = record { behind = refl; whole = put_sets out at (b ∷ []) (omega arith) }
+
+-- nothing is put
+pub put_empty : (out : List ℕ) (at : ℕ) → Put out at [] (at + 0) out
+put_empty out at = record { behind = refl; whole = sym (put_none out at) }
 
 -- bytes are put behind bytes
 pub put_put : {out mid exit : List ℕ} {at next last : ℕ} {xs ys : List ℕ} → Put out at xs next mid → Put mid next ys last exit → at ≤ length out → Put out at (xs ++ ys) last exit
@@ -83,25 +85,6 @@ module _ {out mid : List ℕ} {at p : ℕ} (x : ℕ) (low : 10 ≤ x) (fits : x 
   -- and the last digit behind it
   pub number_more : {exit : List ℕ} {next b : ℕ} → b ≡ 48 + x % 10 → Put mid p (b ∷ []) next exit → at ≤ length out → Put out at (decimal x) next exit
   number_more {exit} {next} {b} e q front = put_same (ap (λ (d : ℕ). decimal (x / 10) ++ (d ∷ [])) e ∙ sym (decimal_more x low (omega arith))) (put_put tenth q front)
-
--- a word is put byte by byte
-pub word_begins : (out : List ℕ) (at : ℕ) → Put out at [] (at + 0) out
-word_begins out at = record { behind = refl; whole = sym (put_none out at) }
-
-pub word_turns : (out mid word : List ℕ) (at j : ℕ) → Put out at (take j word) (at + j) mid → at + j < length mid → j < length word → at ≤ length out
-    → Put out at (take (j + 1) word) (at + (j + 1)) (set mid (at + j) (get_or word j 0))
-word_turns out mid word at j p room low front =
-    let more : take (j + 1) word ≡ take j word ++ (get_or word j 0 ∷ []) = rw (add-one j) (take-suc word j 0 low) in
-    let next : at + (j + 1) ≡ at + j + 1 = omega arith in
-    rw (more, next) (put_put p (put_one mid (at + j) (get_or word j 0) room) front)
-
-pub word_ends : (out mid word : List ℕ) (at j : ℕ) → j ≡ length word → Put out at (take j word) (at + j) mid → Put out at word (at + j) mid
-word_ends out mid word at j e p = put_same (take_all j word (omega arith)) p
-
--- yes or no, by the test that was made
-pub said_is : (says t : Bool) (reason opened deciding : ℕ) → says ≡ t
-    → said (record { says = t; reason = reason; opened = opened; deciding = deciding }) ≡ said (record { says = says; reason = reason; opened = opened; deciding = deciding })
-said_is says t reason opened deciding e = ap (λ (b : Bool). said (record { says = b; reason = reason; opened = opened; deciding = deciding })) (sym e)
 
 -- How long a line is at most: any number has at most ten digits.
 pub two_short : (x y : ℕ) → length (two_numbers x y) ≤ 21

@@ -18,12 +18,9 @@ pub fn put_word(out: &mut [u8], at: usize, word: &[u8]) -> usize
     requires { at + length word.now ≤ length out.old }
     ensures { Put out.old at word.now result out.new }
 {
-    let mut j = 0;
-    while j < word.len() {
-        out[at + j] = word[j];
-        j += 1;
-    }
-    at + j
+    let end = at + word.len();
+    out[at..end].copy_from_slice(word);
+    end
 }
 
 // The byte of a number's last digit.
@@ -52,7 +49,7 @@ pub fn decimal_length(x: u32) -> usize
     let mut n = 1;
     let mut y = x;
     while 10 <= y {
-        y = y / 10;
+        y /= 10;
         n += 1;
     }
     n
@@ -108,11 +105,7 @@ pub fn put_said(
     requires { at + 36 ≤ length out.old }
     ensures { Put out.old at (said (record { says = says; reason = reason; opened = opened; deciding = deciding })) result out.new }
 {
-    if says {
-        let a = put_word(out, at, b"yes ");
-        put_three(out, a, reason, opened, deciding)
-    } else {
-        let a = put_word(out, at, b"no ");
-        put_three(out, a, reason, opened, deciding)
-    }
+    let word: &[u8] = if says { b"yes " } else { b"no " };
+    let a = put_word(out, at, word);
+    put_three(out, a, reason, opened, deciding)
 }

@@ -7,7 +7,8 @@ use native.Mathlib.Omega.{arith}
 use lib.ListN.{length, take, length-take}
 use Rattle.lineage.specs.Stored.{form1}
 use Rattle.lineage.specs.Calls.{answered, Input, build_answer, build_call}
-use Rattle.build.specs.declared.Built.{Built}
+use Rattle.std.specs.Prelude.{Result}
+use Rattle.refusals.specs.declared.Refusal.{Refusal}
 use Rattle.build.specs.Answers.{built_of}
 use Rattle.build.proofs.Theorems.{Finished, Allowed, finished, total_right, build_stores}
 use Rattle.text.specs.Text.{Text}
@@ -18,7 +19,7 @@ pub call_form1 : (B : Input) (work out : ℕ) → build_call 1 B work out ≡ bu
 unfolding build_call
 call_form1 B work out = refl
 
-module _ (t : Text) {work index work' index' : List ℕ} {r : Built} (X : Allowed 1 (input_of t) work index r work' index') {total : ℕ} (done : built_of r ≡ answered total) where
+module _ (t : Text) {work index work' index' : List ℕ} {r : Result ℕ Refusal} (X : Allowed 1 (input_of t) work index r work' index') {total : ℕ} (done : built_of r ≡ answered total) where
   abbrev D : Finished form1 (input_of t)
   D = finished X done
 

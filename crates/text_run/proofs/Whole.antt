@@ -10,6 +10,7 @@ use Rattle.lineage.specs.Stored.{most_labellings}
 use Rattle.numbers.specs.Put.{put}
 use Rattle.text_lines.specs.Lines.{bytes}
 use Rattle.text.specs.Text.{most_bytes, most_vertices}
+use Rattle.std.specs.Prelude.{Result}
 use Rattle.text.specs.declared.Reading.{Reading as ReadingRead}
 use Rattle.text.specs.Blocks.{reading_of, TextInto}
 use Rattle.text.specs.Output.{refusal, after_reading, output}
@@ -21,11 +22,10 @@ unfolding output
 many_bytes text h = rw (lt-ltb most_bytes (length text) h)
 
 -- otherwise what was read decides
-pub read_prints : {text sources targets orders asked : List ℕ} {r s : ReadingRead} → length text ≤ most_bytes → TextInto r text sources targets orders asked → r ≡ s
-    → after_reading (reading_of s sources targets orders asked) ≡ output text
+pub read_prints : {text sources targets orders asked : List ℕ} {r : Result ReadingRead ℕ} → length text ≤ most_bytes → TextInto r text sources targets orders asked
+    → after_reading (reading_of r sources targets orders asked) ≡ output text
 unfolding output
-read_prints {text} {sources} {targets} {orders} {asked} h R e =
-    rw (le-ltb most_bytes (length text) h, ← e) (ap after_reading R.read)
+read_prints {text} {sources} {targets} {orders} {asked} h R = rw (le-ltb most_bytes (length text) h) (ap after_reading R.read)
 
 -- what is put at the start of the output is all that is printed, and the output behind it keeps its contents
 pub printed : (text : List ℕ) {out exit xs : List ℕ} {r : ℕ} → xs ≡ output text → Put out 0 xs r exit → (r ≡ length (output text)) × (exit ≡ output text ++ drop r out)

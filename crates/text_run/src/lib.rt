@@ -6,10 +6,10 @@ ghost use Rattle.text_lines.specs.Lines.{bytes};
 ghost use Rattle.text.specs.Text.{says};
 ghost use Rattle.text.specs.Output.{refusal, after_reading, output};
 ghost use Rattle.text_printing.specs.Printer.{Put};
+ghost use Rattle.refusals.specs.Refusals.{number_of, extra_of};
 
-use build::Built;
-use refusals::BAD_TEXT;
-use text::{MOST_BYTES, MOST_EDGES, MOST_ORDERS, MOST_QUESTIONS, MOST_VERTICES, Reading};
+use refusals::Refusal;
+use text::{MOST_BYTES, MOST_EDGES, MOST_ORDERS, MOST_QUESTIONS, MOST_VERTICES};
 
 // The most bytes of output: 62 for the line of each question.
 pub const MOST_OUTPUT: usize = 62 * MOST_QUESTIONS;
@@ -24,11 +24,11 @@ const INDEX: usize = 50
     + 8 * MOST_ORDERS * MOST_VERTICES;
 
 // A refusal that is printed alone.
-fn put_refused(out: &mut [u8], number: u32, extra: u32) -> usize
+fn put_refused(out: &mut [u8], why: Refusal) -> usize
     requires { 30 ≤ length out.old }
-    ensures { Put out.old 0 (refusal number extra ++ bytes "\n") result out.new }
+    ensures { Put out.old 0 (refusal (number_of why) (extra_of why) ++ bytes "\n") result out.new }
 {
-    let a = text_printing::put_refusal(out, 0, number, extra);
+    let a = text_printing::put_refusal(out, 0, why.number(), why.extra());
     text_printing::put_byte(out, a, b'\n')
 }
 
@@ -48,8 +48,8 @@ fn put_built(
     let mut work = [0u32; WORK];
     let mut index = [0u8; INDEX];
     match build::build(1, n, sources, targets, orders, d, &mut work, &mut index) {
-        Built::Refused { number, extra } => put_refused(out, number, extra),
-        Built::Total(total) => text_answering::put_answers(out, &index[..total as usize], asked),
+        Ok(total) => text_answering::put_answers(out, &index[..total as usize], asked),
+        Err(why) => put_refused(out, why),
     }
 }
 
@@ -59,27 +59,22 @@ pub fn run(text: &[u8], out: &mut [u8; MOST_OUTPUT]) -> usize
     ensures out_after { out.new ≡ output text.now ++ drop result out.old }
 {
     if MOST_BYTES < text.len() {
-        return put_refused(out, BAD_TEXT, 0);
+        return put_refused(out, Refusal::BadText(0));
     }
     let mut sources = [0u32; MOST_EDGES];
     let mut targets = [0u32; MOST_EDGES];
     let mut orders = [0u32; MOST_ORDERS * MOST_VERTICES];
     let mut asked = [0u32; 2 * (MOST_QUESTIONS + 1)];
     match text::read_text(text, &mut sources, &mut targets, &mut orders, &mut asked) {
-        Reading::BadLine(line) => put_refused(out, BAD_TEXT, line as u32),
-        Reading::Says {
-            n,
-            edges,
-            orders: d,
-            questions,
-        } => put_built(
+        Ok(read) => put_built(
             out,
-            n as u32,
-            &sources[..edges],
-            &targets[..edges],
-            d as u32,
-            &orders[..d * n],
-            &asked[..questions * 2],
+            read.n as u32,
+            &sources[..read.edges],
+            &targets[..read.edges],
+            read.orders as u32,
+            &orders[..read.orders * read.n],
+            &asked[..read.questions * 2],
         ),
+        Err(line) => put_refused(out, Refusal::BadText(line as u32)),
     }
 }

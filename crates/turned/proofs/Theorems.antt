@@ -7,6 +7,7 @@ use mathlib.Core.Path.{◌≡◌, refl, sym, ap, subst, ◌∙◌}
 use mathlib.Core.List.{List}
 use Prim.Native.Nat.{ℕ, ◌≤◌}
 use lib.ListN.{length, take}
+use Rattle.std.specs.Prelude.{Result}
 use Rattle.lineage.specs.Lists.{among, Every}
 use Rattle.lineage.specs.Graph.{Graph, turned_graph, Ends, Reaches}
 use Rattle.lineage.specs.Labels.{Order}
@@ -15,7 +16,7 @@ use Rattle.lineage.specs.Stored.{Form, form3}
 use Rattle.lineage.specs.Calls.{answered, outcome, FormsTaken, turned, Input, turned_input, orders_of, built, work_needed, length_of, build_early, build_answer, build_work, build_output, index_in, Said, ask_answer, list_answer, list_output}
 use Rattle.laws.proofs.Tests.{clash}
 use Rattle.open.proofs.Fits.{form_wide}
-use Rattle.build.specs.declared.Built.{Built}
+use Rattle.refusals.specs.declared.Refusal.{Refusal}
 use Rattle.build.specs.Admitted.{Admitted}
 use Rattle.build.specs.Answers.{built_of}
 use Rattle.build.proofs.Theorems.{Finished, built_one, answers_finish, build_made}
@@ -28,13 +29,13 @@ use Rattle.laws_turned.proofs.Refused.{early_turned}
 use Rattle.laws_turned.proofs.Answers.{downstream_turned}
 
 -- What `build_turned` may answer and leave, by its contract.
-pub record Allowed (B : Input) (work out : List ℕ) (r : Built) (work' out' : List ℕ) : Type 0 where
+pub record Allowed (B : Input) (work out : List ℕ) (r : Result ℕ Refusal) (work' out' : List ℕ) : Type 0 where
   pub answers : built_of r ≡ build_answer form3 (turned_input B) (length work) (length out)
   pub leaves : work' ≡ build_work form3 (turned_input B) work
   pub writes : out' ≡ build_output form3 (turned_input B) (length work) out
 
 -- two results are equal
-pub turned_once : {B : Input} {work out : List ℕ} {r r' : Built} {w w' o o' : List ℕ} → Allowed B work out r w o → Allowed B work out r' w' o' → (r ≡ r') × ((w ≡ w') × (o ≡ o'))
+pub turned_once : {B : Input} {work out : List ℕ} {r r' : Result ℕ Refusal} {w w' o o' : List ℕ} → Allowed B work out r w o → Allowed B work out r' w' o' → (r ≡ r') × ((w ≡ w') × (o ≡ o'))
 turned_once X Y = (built_one _ _ (X.answers ∙ sym Y.answers), (X.leaves ∙ sym Y.leaves, X.writes ∙ sym Y.writes))
 
 -- checks 1 to 7 come to the same as those of a build of the edge list as given, at form 3's bounds: 7 names the same edge
@@ -42,7 +43,7 @@ pub turned_refused : (B : Input) (work : ℕ) → outcome (build_early form3 (tu
 turned_refused B work = early_turned form3 B work (work_needed B.graph)
 
 -- turned edges and orders within form 3's bounds, with room for work and output, are built
-pub turned_finishes : {B : Input} {work out : List ℕ} {r : Built} {work' out' : List ℕ} → Allowed B work out r work' out'
+pub turned_finishes : {B : Input} {work out : List ℕ} {r : Result ℕ Refusal} {work' out' : List ℕ} → Allowed B work out r work' out'
     → Admitted form3 (turned_input B) (length work)
     → Every (Order B.graph.n) (orders_of B)
     → length_of form3 (built (turned_input B)) ≤ length out
@@ -50,7 +51,7 @@ pub turned_finishes : {B : Input} {work out : List ℕ} {r : Built} {work' out' 
 turned_finishes {B} {work} {out} X A permuted = answers_finish form3 (turned_input B) work out (X.answers, (X.leaves, X.writes)) A permuted (λ t. clash t refl)
 
 -- a turned build that finishes is a finished build of the turned edge list
-abbrev pub finished_turned : {B : Input} {work out : List ℕ} {r : Built} {work' out' : List ℕ} {total : ℕ} → Allowed B work out r work' out' → built_of r ≡ answered total → Finished form3 (turned_input B)
+abbrev pub finished_turned : {B : Input} {work out : List ℕ} {r : Result ℕ Refusal} {work' out' : List ℕ} {total : ℕ} → Allowed B work out r work' out' → built_of r ≡ answered total → Finished form3 (turned_input B)
 finished_turned {B} {work} {out} {r} {work'} {out'} {total} X done = record {
   wide = form_wide 3;
   work = work;

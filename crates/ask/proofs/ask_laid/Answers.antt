@@ -67,30 +67,30 @@ slice_bounds-question-end c = omega (arith, c.requires.u_lt_n.1.1.0, c.contents_
 pub slice_bounds-question-end-2 : goal.slice_bounds-question-end-2
 slice_bounds-question-end-2 c = sym (ap length (cleared_front _ _ c.contents_sound.ensures.marks_after) ∙ length-replicate _ 0)
 
-pub question-r-requires : goal.question-r-requires
-question-r-requires c =
+pub question-requires : goal.question-requires
+question-requires c =
     let p = c.requires in
     let n : ℕ = c.args.l.n in
     let front = cleared_front _ _ c.contents_sound.ensures.marks_after in record {
       in_triples = record {
-        lent = lent p.laid (six (goal.at.question-r-requires c).After-labels) (sym c.contents_sound.ensures.value ∙ c.if-not-contents_sound.false);
+        lent = lent p.laid (six (goal.at.question-requires c).After-labels) (sym c.contents_sound.ensures.value ∙ c.if-not-contents_sound.false);
         triples = p.stride_value;
       };
       u_lt_n = (p.u_lt_n.0, (p.u_lt_n.1.0, (ap length front ∙ length-replicate n 0, (zero_under _ n _ (omega arith) front, p.u_lt_n.1.1.1))));
     }
 
 pub shape_of-marks : goal.shape_of-marks
-shape_of-marks c = simp (length-append, length-drop, c.question-r.auto.marks, length-take) (omega (arith, c.contents_sound.auto.marks, c.requires.u_lt_n.1.1.0))
+shape_of-marks c = simp (length-append, length-drop, c.question.auto.marks, length-take) (omega (arith, c.contents_sound.auto.marks, c.requires.u_lt_n.1.1.0))
 
 pub returns : goal.returns
 returns c =
     let L = c.requires.laid in
     let (o, k) =
     replies_answered _ c.args.u c.args.v _ L c.contents_sound.ensures.marks_after
-    (contents_applies L c.contents_sound.ensures.value ∙ (ap not c.if-not-contents_sound.false)) c.question-r.result _
-    (ap (answer_by c.question-r.result) (sym (seen_own _ c.question-r.ensures.under)) ∙ c.question-r.ensures.marks_after ∙ ap (λ (I : Index). answer I c.args.u c.args.v)
+    (contents_applies L c.contents_sound.ensures.value ∙ (ap not c.if-not-contents_sound.false)) c.question.result _
+    (ap (answer_by c.question.result) (sym (seen_own _ c.question.ensures.under)) ∙ c.question.ensures.marks_after ∙ ap (λ (I : Index). answer I c.args.u c.args.v)
     (index_at_lem L (six (goal.at.returns c).After-labels))) in record {
       result_value = o;
       marks_after = k;
-      kept = c.question-r.ensures.kept;
+      kept = c.question.ensures.kept;
     }

@@ -3,6 +3,7 @@
 use mathlib.Core.Path.{sym, ap, ◌∙◌}
 use native.Mathlib.Omega.{arith}
 use lib.ListN.{length}
+use Rattle.std.proofs.lemmas.Result.{err_from_is_err_and}
 use Rattle.lineage.specs.Calls.{forms_taken}
 use Rattle.stored_header.specs.Header.{header_outcome}
 use Rattle.stored_header.proofs.Laid.{vertex_out, vertex_in}
@@ -10,24 +11,25 @@ use Rattle.stored_header.proofs.Admitted.{Admits, admitted_laid, admitted_room, 
 use Rattle.sound_places.proofs.Triples.{admitted_triples}
 use Rattle.ask.proofs.Refusals.{stack_fits, asks_refused, asks_source, asks_target, asks_rest}
 use Rattle.ask.proofs.ask_taking.Goals as goal
-use Rattle.ask.proofs.ask_taking.Goals.{In-Passed}
+use Rattle.ask.proofs.ask_taking.Goals.{In_ok-l}
 
-admits : (a : In-Passed) → let s = a.args in
-    Admits (forms_taken s.least s.most) s.index.now (length s.marks.now) (length s.work.now) a.in-Passed.l
-admits a = record { passes = sym (ap header_outcome a.in-Passed.is) ∙ a.admit.ensures }
+admits : (a : In_ok-l) → let s = a.args in
+    Admits (forms_taken s.least s.most) s.index.now (length s.marks.now) (length s.work.now) a.in_ok-l.l
+admits a = record { passes = sym (ap header_outcome a.in_ok-l.was) ∙ a.admit.ensures }
 
-pub returns-in-Refused : goal.returns-in-Refused
-returns-in-Refused c =
+pub returns-in_err-l : goal.returns-in_err-l
+returns-in_err-l c =
     let s = c.args in
-    let both = asks_refused _ _ _ s.marks.now (forms_taken s.least s.most) s.work.now (sym (ap header_outcome c.in-Refused.is) ∙ c.admit.ensures) in record {
-      result_value = both.0;
+    let from = err_from_is_err_and c.from_residual.result c.from_residual.ensures.1 in
+    let both = asks_refused _ _ _ s.marks.now (forms_taken s.least s.most) s.work.now (sym (ap header_outcome c.in_err-l.was) ∙ c.admit.ensures) in record {
+      result_value = rw (from.1, from.2) both.0;
       marks_after = both.1.0;
       work_after = both.1.1;
     }
 
 pub returns-then-l-u : goal.returns-then-l-u
 returns-then-l-u c =
-    let A = admits (goal.at.returns-then-l-u c).In-Passed in
+    let A = admits (goal.at.returns-then-l-u c).In_ok-l in
     let both = asks_source _ _ _ _ _ _ A (vertex_out (admitted_laid A) c.if-l-u.true) in record {
       result_value = both.0;
       marks_after = both.1.0;
@@ -36,7 +38,7 @@ returns-then-l-u c =
 
 pub returns-then-l-v : goal.returns-then-l-v
 returns-then-l-v c =
-    let A = admits (goal.at.returns-then-l-v c).In-Passed in
+    let A = admits (goal.at.returns-then-l-v c).In_ok-l in
     let both = asks_target _ _ _ _ _ _ A (vertex_in (admitted_laid A) c.if-l-u.false) (vertex_out (admitted_laid A) c.if-l-v.true) in record {
       result_value = both.0;
       marks_after = both.1.0;
@@ -45,23 +47,23 @@ returns-then-l-v c =
 
 pub ask_laid-r-requires : goal.ask_laid-r-requires
 ask_laid-r-requires c =
-    let A = admits (goal.at.ask_laid-r-requires c).In-Passed in record {
+    let A = admits (goal.at.ask_laid-r-requires c).In_ok-l in record {
       laid = admitted_laid A;
-      u_lt_n = (c.if-l-u.false, (c.if-l-v.false, (admitted_room A, omega (arith, admitted_words A, stack_fits c.in-Passed.l))));
+      u_lt_n = (c.if-l-u.false, (c.if-l-v.false, (admitted_room A, omega (arith, admitted_words A, stack_fits c.in_ok-l.l))));
       stride_value = admitted_triples A c.requires;
     }
 
 pub words_needed-requires : goal.words_needed-requires
 words_needed-requires c =
-    let L = admitted_laid (admits (goal.at.words_needed-requires c).In-Passed) in
+    let L = admitted_laid (admits (goal.at.words_needed-requires c).In_ok-l) in
     (L.vertices, (L.groups, L.entries))
 
 pub clear_words-requires : goal.clear_words-requires
-clear_words-requires c = omega (arith, c.words_needed.ensures.0, admitted_words (admits (goal.at.clear_words-requires c).In-Passed), c.ask_laid-r.ensures.kept.long)
+clear_words-requires c = omega (arith, c.words_needed.ensures.0, admitted_words (admits (goal.at.clear_words-requires c).In_ok-l), c.ask_laid-r.ensures.kept.long)
 
 pub returns : goal.returns
 returns c =
-    let A = admits (goal.at.returns c).In-Passed in
+    let A = admits (goal.at.returns c).In_ok-l in
     let L = admitted_laid A in
     let both = asks_rest _ _ _ _ _ _ A (vertex_in L c.if-l-u.false) (vertex_in L c.if-l-v.false) (c.ask_laid-r.ensures.result_value, c.ask_laid-r.ensures.marks_after)
     c.ask_laid-r.ensures.kept c.words_needed.ensures.0 c.clear_words.ensures in record {

@@ -18,6 +18,7 @@ returns-then-not-contents_sound c =
     let L = c.requires.laid.0 in
     let (o, (m, a)) = replies_at _ c.args.sources.now c.args.targets.now _ c.args.answers.now L c.contents_sound.ensures.marks_after 0 (omega arith)
     (contents_applies L c.contents_sound.ensures.value ∙ (ap not c.if-not-contents_sound.true)) in record {
+      own = λ e. omega (arith, e);
       result_value = o;
       marks_after = m;
       answers_after = a;
@@ -30,6 +31,7 @@ returns-then-pairs-targets c =
     let (o, (m, a)) =
     replies_at _ c.args.sources.now c.args.targets.now _ c.args.answers.now L c.contents_sound.ensures.marks_after 1 (omega arith)
     (contents_applies L c.contents_sound.ensures.value ∙ (ap not c.if-not-contents_sound.false), ap not (ne_eqb _ _ c.if-pairs-targets.true)) in record {
+      own = λ e. omega (arith, e);
       result_value = o;
       marks_after = m;
       answers_after = a;
@@ -48,6 +50,7 @@ returns-then-answers-pairs c =
             (six_short _ _ c.if-answers-pairs.true),
       ),
     ) in record {
+      own = tt;
       result_value = o;
       marks_after = m;
       answers_after = a;
@@ -78,4 +81,4 @@ returns c =
       contents_applies L c.contents_sound.ensures.value ∙ (ap not c.if-not-contents_sound.false),
       (ap not (eq-eqb _ _ c.if-pairs-targets.false), (le-ltb _ _ (six_room _ _ c.if-answers-pairs.false), tt)),
     )
-    f.marks_after f.answers_after in record { result_value = o; marks_after = m; answers_after = a; kept = f.kept }
+    f.marks_after f.answers_after in record { own = tt; result_value = o; marks_after = m; answers_after = a; kept = f.kept }

@@ -1,18 +1,11 @@
 -- `ask_intervals::judge` meets its contract, by the invariant beside this file.
 use native.Mathlib.Omega.{arith}
-use mathlib.Core.Path.{refl}
 use Rattle.ask_intervals.proofs.Labellings.{in_triples, one_more, is_inside, is_outside, is_neither}
-use Rattle.ask_intervals.proofs.Labellings.{judging_none, judging_more, judging_inside, judging_outside, judging_all}
+use Rattle.ask_intervals.proofs.Labellings.{judging_more, judging_inside, judging_outside, judging_all}
 use Rattle.ask_intervals.proofs.judge.Goals as goal
 
-pub labellings-init : goal.labellings-init
-labellings-init c = (refl, (refl, judging_none _ _ _ _ _ _))
-
-pub tuples-triples-requires : goal.tuples-triples-requires
-tuples-triples-requires c = record { labellings = c.requires.labellings; j_lt_d = c.labellings-test.true }
-
 pub loop-b-init : goal.loop-b-init
-loop-b-init c = let v = c.labellings.invariant in (v.0, (v.1.0, (omega arith, λ j h. absurd (omega arith))))
+loop-b-init c = (c.labellings.invariant.0, λ j h. absurd (omega arith))
 
 pub undecided_by-requires : goal.undecided_by-requires
 undecided_by-requires c =
@@ -23,27 +16,24 @@ undecided_by-requires c =
     }
 
 pub loop-b-preserved : goal.loop-b-preserved
-loop-b-preserved c =
-    let v = c.loop-b.invariant in
-    (v.0, (v.1.0, (omega arith, one_more _ _ _ v.1.1.1 c.undecided_by.ensures (c.if-not-undecided_by.false))))
+loop-b-preserved c = (c.loop-b.invariant.0, one_more _ _ _ c.loop-b.invariant.1 c.undecided_by.ensures (c.if-not-undecided_by.false))
 
 pub labellings-preserved : goal.labellings-preserved
 labellings-preserved c =
-    let v = c.loop-b.invariant in
-    let neither = is_neither _ _ _ _ _ _ _ c.requires.x_lt_k.0 c.requires.x_lt_k.1 c.tuples-triples.ensures (λ b h. v.1.1.1 b (omega arith)) in
-    (v.0, (v.1.0, judging_more _ _ _ _ _ _ _ c.labellings.invariant.1.1 c.labellings-test.true neither))
+    let neither = is_neither _ _ _ _ _ _ _ c.requires.x_lt_k.0 c.requires.x_lt_k.1 c.tuples-triples.ensures (λ b h. c.loop-b.invariant.1 b (omega arith)) in
+    (c.loop-b.invariant.0, judging_more _ _ _ _ _ _ _ c.labellings.invariant.1 c.labellings-test.true neither)
 
 pub returns-after-labellings : goal.returns-after-labellings
-returns-after-labellings c = let v = c.labellings.invariant in rw (v.0, v.1.0) (judging_all _ _ _ _ _ _ _ v.1.1 (omega arith))
+returns-after-labellings c = rw c.labellings.invariant.0 (judging_all _ _ _ _ _ _ _ c.labellings.invariant.1 c.labellings-test.false)
 
 pub returns-then-b-eq1 : goal.returns-then-b-eq1
 returns-then-b-eq1 c =
-    let hit = is_inside _ _ _ _ _ _ _ c.requires.x_lt_k.0 c.requires.x_lt_k.1 c.tuples-triples.ensures _ _ c.loop-b.invariant.1.1.1 c.undecided_by.ensures
-    (c.if-not-undecided_by.true) c.if-b-eq1.true in
-    rw c.loop-b.invariant.1.0 (judging_inside _ _ _ _ _ _ _ c.labellings.invariant.1.1 c.labellings-test.true hit)
+    judging_inside _ _ _ _ _ _ _ c.labellings.invariant.1 c.labellings-test.true
+    (is_inside _ _ _ _ _ _ _ c.requires.x_lt_k.0 c.requires.x_lt_k.1 c.tuples-triples.ensures _ _ c.loop-b.invariant.1 c.undecided_by.ensures
+    (c.if-not-undecided_by.true) c.if-b-eq1.true)
 
 pub returns-else-b-eq1 : goal.returns-else-b-eq1
 returns-else-b-eq1 c =
-    let cut = is_outside _ _ _ _ _ _ _ c.requires.x_lt_k.0 c.requires.x_lt_k.1 c.tuples-triples.ensures _ _ c.loop-b.invariant.1.1.1 c.undecided_by.ensures
-    (c.if-not-undecided_by.true) c.loop-b-test.true c.if-b-eq1.false in
-    rw c.loop-b.invariant.0 (judging_outside _ _ _ _ _ _ _ c.labellings.invariant.1.1 c.labellings-test.true cut)
+    judging_outside _ _ _ _ _ _ _ c.labellings.invariant.1 c.labellings-test.true
+    (is_outside _ _ _ _ _ _ _ c.requires.x_lt_k.0 c.requires.x_lt_k.1 c.tuples-triples.ensures _ _ c.loop-b.invariant.1 c.undecided_by.ensures
+    (c.if-not-undecided_by.true) c.loop-b-test.true c.if-b-eq1.false)

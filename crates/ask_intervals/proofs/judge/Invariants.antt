@@ -2,19 +2,14 @@
 -- bound that decides makes labelling l the first; where none does, labelling l decides neither way.
 use mathlib.Core.Path.{◌≡◌}
 use mathlib.Core.Bool.{true}
-use Prim.Native.Nat.{ℕ, ◌-◌, ◌≤◌, ◌<◌}
+use Prim.Native.Nat.{ℕ, ◌<◌}
+use Rattle.ask_intervals.specs.declared.Judged.TheVariants.{Neither}
 use Rattle.ask_intervals.specs.Intervals.{undecided_by}
 use Rattle.ask_intervals.proofs.Labellings.{Judging}
 use Rattle.ask_intervals.proofs.judge.Given as goal
 
 abbrev pub invariant-loop-b : goal.invariant-loop-b
-invariant-loop-b l = (l.inside ≡ 0) × ((l.outside ≡ 0) × ((l.b ≤ 3) × ((j : ℕ) → j < l.b → undecided_by l.w l.triples l.x l.t j ≡ true)))
-
-abbrev pub decreases-loop-b : goal.decreases-loop-b
-decreases-loop-b l = 3 - l.b
+invariant-loop-b l = (l.told ≡ Neither) × ((j : ℕ) → j < l.b → undecided_by l.w l.triples l.x l.t j ≡ true)
 
 abbrev pub invariant-labellings : goal.invariant-labellings
-invariant-labellings l = (l.inside ≡ 0) × ((l.outside ≡ 0) × Judging l.w l.k l.labels l.x l.t l.d l.l)
-
-abbrev pub decreases-labellings : goal.decreases-labellings
-decreases-labellings l = l.d - l.l
+invariant-labellings l = (l.told ≡ Neither) × Judging l.w l.k l.labels l.x l.t l.d l.l

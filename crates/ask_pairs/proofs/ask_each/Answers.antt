@@ -12,7 +12,7 @@ use Rattle.ask_pairs.specs.Places.{table_in}
 use Rattle.ask_pairs.proofs.Placing.{table_at}
 use Rattle.ask_pairs.proofs.Pairs.{asking_none, asking_source, asking_target, asking_answer, asking_long, asking_all}
 use Rattle.ask_pairs.proofs.ask_each.Goals as goal
-use Rattle.ask_pairs.proofs.ask_each.Goals.{At-loop-i, Start}
+use Rattle.ask_pairs.proofs.ask_each.Goals.{At-loop-i, Start, then-n-u, else-n-u+then-n-v, else-n-u+else-n-v}
 
 abbrev index : (s : Start) → Index
 index s = groups_in s.args.w s.args.k s.args.d s.args.groups.now s.args.levels.now s.args.starts.now s.args.children.now s.args.labels.now
@@ -45,32 +45,11 @@ overflow_cast-v c = Fits-32_64 (c.type_inv.targets _)
 pub overflow_mul-at : goal.overflow_mul-at
 overflow_mul-at c = omega (arith, room (goal.at.overflow_mul-at c).At-loop-i c.loop-i-test.true)
 
-pub overflow_add-i : goal.overflow_add-i
-overflow_add-i c = omega (arith, c.loop-i-test.true)
+pub put_refused-requires : goal.put_refused-requires
+put_refused-requires c = room (goal.at.put_refused-requires c).At-loop-i c.loop-i-test.true
 
-pub put_six-requires : goal.put_six-requires
-put_six-requires c = room (goal.at.put_six-requires c).At-loop-i c.loop-i-test.true
-
-pub loop-i-smaller-then-n-u : goal.loop-i-smaller-then-n-u
-loop-i-smaller-then-n-u c = omega (arith, c.loop-i-test.true)
-
-pub loop-i-preserved-then-n-u : goal.loop-i-preserved-then-n-u
-loop-i-preserved-then-n-u c = (
-  asking_source _ _ _ _ _ c.loop-i.invariant.0 c.requires.marks_value.1.1 c.loop-i-test.true _ _ refl refl c.if-n-u.true c.put_six.ensures,
-  c.loop-i.invariant.1,
-)
-
-pub put_six-requires-then-n-v : goal.put_six-requires-then-n-v
-put_six-requires-then-n-v c = room (goal.at.put_six-requires-then-n-v c).At-loop-i c.loop-i-test.true
-
-pub loop-i-smaller-then-n-v : goal.loop-i-smaller-then-n-v
-loop-i-smaller-then-n-v c = omega (arith, c.loop-i-test.true)
-
-pub loop-i-preserved-then-n-v : goal.loop-i-preserved-then-n-v
-loop-i-preserved-then-n-v c = (
-  asking_target _ _ _ _ _ c.loop-i.invariant.0 c.requires.marks_value.1.1 c.loop-i-test.true _ _ refl refl c.if-n-u.false c.if-n-v.true c.put_six-then-n-v.ensures,
-  c.loop-i.invariant.1,
-)
+pub put_refused-requires-then-n-v : goal.put_refused-requires-then-n-v
+put_refused-requires-then-n-v c = room (goal.at.put_refused-requires-then-n-v c).At-loop-i c.loop-i-test.true
 
 pub overflow_add-x : goal.overflow_add-x
 overflow_add-x c = omega (arith, (word (goal.at.overflow_add-x c).At-loop-i _ c.if-n-u.false).0)
@@ -109,20 +88,27 @@ next_reply-a-requires c =
 pub put_reply-requires : goal.put_reply-requires
 put_reply-requires c = room (goal.at.put_reply-requires c).At-loop-i c.loop-i-test.true
 
-pub loop-i-smaller : goal.loop-i-smaller
-loop-i-smaller c = omega (arith, c.loop-i-test.true)
-
 pub loop-i-preserved : goal.loop-i-preserved
 loop-i-preserved c =
     let A = c.loop-i.invariant.0 in
-    let e = c.next_reply-a.ensures in
-    let x = (word (goal.at.loop-i-preserved c).At-loop-i _ c.if-n-u.false).1 in
-    let t = (word (goal.at.loop-i-preserved c).At-loop-i _ c.if-n-v.false).1 in (
-      asking_answer _ _ _ _ _ A c.requires.marks_value.1.1 c.loop-i-test.true _ _ refl refl c.if-n-u.false c.if-n-v.false c.next_reply-a.result.reply _ _ _
-          (e.marks_after ∙ λ i. between (index (goal.at.loop-i-preserved c).Start) (x i) (t i) (replicate (A.long i) 0)) e.under (c.next_reply-a.auto.marks ∙ A.long)
-          c.put_reply.ensures,
-      kept_then c.loop-i.invariant.1 (rw A.long at e.kept),
-    )
+    elim c.if-n-u.branch [
+      | then-n-u w ↦
+          rw (w.marks-is, w.work-is, w.answers-is, w.used-is, w.last-is)
+          (asking_source _ _ _ _ _ A c.requires.marks_value.1.1 c.loop-i-test.true _ _ refl refl w.if-n-u.true w.put_refused.ensures, c.loop-i.invariant.1)
+      | else-n-u+then-n-v w ↦
+          rw (w.marks-is, w.work-is, w.answers-is, w.used-is, w.last-is)
+          (asking_target _ _ _ _ _ A c.requires.marks_value.1.1 c.loop-i-test.true _ _ refl refl w.if-n-u.false w.if-n-v.true w.put_refused-then-n-v.ensures, c.loop-i.invariant.1)
+      | else-n-u+else-n-v w ↦
+          let e = w.next_reply-a.ensures in
+          let x = (word (goal.at.loop-i-preserved c).At-loop-i _ w.if-n-u.false).1 in
+          let t = (word (goal.at.loop-i-preserved c).At-loop-i _ w.if-n-v.false).1 in
+          rw (w.marks-is, w.work-is, w.answers-is, w.used-is, w.last-is) (
+            asking_answer _ _ _ _ _ A c.requires.marks_value.1.1 c.loop-i-test.true _ _ refl refl w.if-n-u.false w.if-n-v.false w.next_reply-a.result.reply _ _ _
+                (e.marks_after ∙ λ i. between (index (goal.at.loop-i-preserved c).Start) (x i) (t i) (replicate (A.long i) 0)) e.under (w.next_reply-a.auto.marks ∙ A.long)
+                w.put_reply.ensures,
+            kept_then c.loop-i.invariant.1 (rw A.long at e.kept),
+          )
+    ]
 
 pub shape_of-marks : goal.shape_of-marks
 shape_of-marks c = c.loop-i.invariant.0.long ∙ sym (ap length c.requires.marks_value.0 ∙ length-replicate c.args.n 0)

@@ -43,15 +43,8 @@ decide-reply-requires c =
       x_lt_k = (p.0, (omega (arith, e.1.1, p.1.0), (e.1.0, rw e.1.1 p.1.1.1)));
     }
 
-pub returns-then-reply-eq0 : goal.returns-then-reply-eq0
-returns-then-reply-eq0 c =
-    let both = told (goal.at.returns-then-reply-eq0 c).After-decide-reply in
-    let e = c.next_stamp-stamp.ensures in record {
-      marks_after = both.0;
-      under = unused _ _ _ e.0 (c.decide-reply.ensures.marks_unchanged c.if-reply-eq0.true) e.1.0;
-      kept = both.1;
-    }
+pub returns-then-reply-eq0-clause-marks_after : goal.returns-then-reply-eq0-clause-marks_after
+returns-then-reply-eq0-clause-marks_after c = (told (goal.at.returns-then-reply-eq0-clause-marks_after c).After-decide-reply).0
 
-pub returns : goal.returns
-returns c =
-    let both = told (goal.at.returns c).After-decide-reply in record { marks_after = both.0; under = c.decide-reply.ensures.under; kept = both.1 }
+pub returns-else-reply-eq0-clause-marks_after : goal.returns-else-reply-eq0-clause-marks_after
+returns-else-reply-eq0-clause-marks_after c = (told (goal.at.returns-else-reply-eq0-clause-marks_after c).After-decide-reply).0

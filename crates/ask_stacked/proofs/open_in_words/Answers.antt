@@ -2,7 +2,6 @@
 use mathlib.Core.Path.{◌≡◌, refl, sym, ◌∙◌}
 use mathlib.Core.List.{List}
 use Prim.Native.Nat.{ℕ, suc, ◌+◌, ◌-◌, ◌*◌, ◌^◌, ◌<◌}
-use native.Mathlib.Nat.{pos_of_ne-zero}
 use native.Mathlib.Omega.{arith}
 use lib.ListN.{length}
 use borrow.Author.Tests.{ne_eqb}
@@ -18,7 +17,7 @@ use Rattle.ask_stacked.proofs.Walking.{opening, count_fits, frame_room, child_ro
 use Rattle.ask_stacked.proofs.Opening.{enter_asks, walking_first, opening_is}
 use Rattle.ask_stacked.proofs.Turns.{Turn, turn_low, turn_room, turn_skip, turn_cut, past_less, turn_hit, turn_in, in_less}
 use Rattle.ask_stacked.proofs.open_in_words.Goals as goal
-use Rattle.ask_stacked.proofs.open_in_words.Goals.{After-num-h, At-loop-row, Then-depth-gt0, Then-j-eq0}
+use Rattle.ask_stacked.proofs.open_in_words.Goals.{After-num-h, At-loop-row, Then-depth-gt0, In-Neither}
 
 -- the marks where the loop begins, the net, and the level of the first group
 abbrev begun : (c : At-loop-row) → List ℕ
@@ -58,13 +57,10 @@ turn c = record {
 named : (c : After-num-h) → num_at c.args.w c.args.groups.now c.num-h.result < length c.loop-row.marks
 named c = omega (arith, c.requires.fit.name_low _ (turn_low (turn c)), sym (seen_long c.args.stamp c.loop-row.marks) ∙ c.loop-row.invariant.0.long ∙ c.enter-row.auto.marks)
 
-untold : (c : Then-j-eq0) → let s = c.args in
+untold : (c : In-Neither) → let s = c.args in
     Untold s.w s.k s.d s.t s.groups.now s.levels.now s.labels.now (seen_as s.stamp c.loop-row.marks) c.num-h.result
 untold c = record {
-  j = c.judge-j.result;
-  told = c.judge-j.ensures;
-  none = c.if-j-gt0.false;
-  uncut = omega (arith, c.if-j-eq0.true);
+  told = c.in-Neither.ensures;
   r = c.skipped.result;
   is = c.skipped.ensures;
   passes = c.if-not-skipped.true;
@@ -114,18 +110,18 @@ skipped-requires c =
       h_in_bounds = named (goal.at.skipped-requires c).After-num-h;
     }
 
-pub judge-j-requires : goal.judge-j-requires
-judge-j-requires c = let C = turn (goal.at.judge-j-requires c).After-num-h in record { labellings = C.fit.labelled; x_lt_k = (turn_low C, C.fit.target_low) }
+pub judge-requires : goal.judge-requires
+judge-requires c = let C = turn (goal.at.judge-requires c).After-num-h in record { labellings = C.fit.labelled; x_lt_k = (turn_low C, C.fit.target_low) }
 
-pub shape_of-marks-then-j-gt0 : goal.shape_of-marks-then-j-gt0
-shape_of-marks-then-j-gt0 c = kept (goal.at.shape_of-marks-then-j-gt0 c).At-loop-row
+pub shape_of-marks-in-Inside : goal.shape_of-marks-in-Inside
+shape_of-marks-in-Inside c = kept (goal.at.shape_of-marks-in-Inside c).At-loop-row
 
-pub shape_of-work-then-j-gt0 : goal.shape_of-work-then-j-gt0
-shape_of-work-then-j-gt0 c = (turn (goal.at.shape_of-work-then-j-gt0 c).After-num-h).walking.kept.long
+pub shape_of-work-in-Inside : goal.shape_of-work-in-Inside
+shape_of-work-in-Inside c = (turn (goal.at.shape_of-work-in-Inside c).After-num-h).walking.kept.long
 
-pub returns-then-j-gt0 : goal.returns-then-j-gt0
-returns-then-j-gt0 c =
-    let both = ended (goal.at.returns-then-j-gt0 c).At-loop-row (turn_hit (turn (goal.at.returns-then-j-gt0 c).After-num-h) c.judge-j.ensures c.if-j-gt0.true) in
+pub returns-in-Inside : goal.returns-in-Inside
+returns-in-Inside c =
+    let both = ended (goal.at.returns-in-Inside c).At-loop-row (turn_hit (turn (goal.at.returns-in-Inside c).After-num-h) c.in-Inside.ensures) in
     record {
       marks_after = both.0;
       under = both.1.0;
@@ -140,9 +136,9 @@ push-requires c =
       next_bound = (omega (arith, C.within, C.walking.top.small), C.walking.top.small);
     }
 
-pub enter-row-requires-then-j-eq0 : goal.enter-row-requires-then-j-eq0
-enter-row-requires-then-j-eq0 c =
-    let both = enter_asks c.requires.fit _ (turn_low (turn (goal.at.enter-row-requires-then-j-eq0 c).After-num-h)) _ (kept (goal.at.enter-row-requires-then-j-eq0 c).At-loop-row) c.loop-row.invariant.1 in
+pub enter-row-requires-in-Neither : goal.enter-row-requires-in-Neither
+enter-row-requires-in-Neither c =
+    let both = enter_asks c.requires.fit _ (turn_low (turn (goal.at.enter-row-requires-in-Neither c).After-num-h)) _ (kept (goal.at.enter-row-requires-in-Neither c).At-loop-row) c.loop-row.invariant.1 in
     record {
       width = both.0;
       w_in_bounds = both.1.0;
@@ -156,18 +152,18 @@ overflow_add-depth c = omega (arith, few (goal.at.overflow_add-depth c).At-loop-
 pub overflow_add-opened : goal.overflow_add-opened
 overflow_add-opened c = omega (arith, few (goal.at.overflow_add-opened c).At-loop-row)
 
-pub loop-row-preserved-then-j-eq0 : goal.loop-row-preserved-then-j-eq0
-loop-row-preserved-then-j-eq0 c = (turn_in (turn (goal.at.loop-row-preserved-then-j-eq0 c).After-num-h) (untold (goal.at.loop-row-preserved-then-j-eq0 c).Then-j-eq0) c.enter-row-then-j-eq0.ensures.entered c.push.ensures, c.enter-row-then-j-eq0.ensures.under_2)
+pub loop-row-preserved-in-Neither : goal.loop-row-preserved-in-Neither
+loop-row-preserved-in-Neither c = (turn_in (turn (goal.at.loop-row-preserved-in-Neither c).After-num-h) (untold (goal.at.loop-row-preserved-in-Neither c).In-Neither) c.enter-row-in-Neither.ensures.entered c.push.ensures, c.enter-row-in-Neither.ensures.under_2)
 
-pub loop-row-smaller-then-j-eq0 : goal.loop-row-smaller-then-j-eq0
-loop-row-smaller-then-j-eq0 c = in_less (turn (goal.at.loop-row-smaller-then-j-eq0 c).After-num-h) (untold (goal.at.loop-row-smaller-then-j-eq0 c).Then-j-eq0) c.enter-row-then-j-eq0.ensures.entered c.push.ensures
+pub loop-row-smaller-in-Neither : goal.loop-row-smaller-in-Neither
+loop-row-smaller-in-Neither c = in_less (turn (goal.at.loop-row-smaller-in-Neither c).After-num-h) (untold (goal.at.loop-row-smaller-in-Neither c).In-Neither) c.enter-row-in-Neither.ensures.entered c.push.ensures
 
 -- it is passed over
-pub loop-row-preserved-else-j-eq0 : goal.loop-row-preserved-else-j-eq0
-loop-row-preserved-else-j-eq0 c = (turn_cut (turn (goal.at.loop-row-preserved-else-j-eq0 c).After-num-h) c.judge-j.ensures (pos_of_ne-zero c.if-j-eq0.false), c.loop-row.invariant.1)
+pub loop-row-preserved-in-Outside : goal.loop-row-preserved-in-Outside
+loop-row-preserved-in-Outside c = (turn_cut (turn (goal.at.loop-row-preserved-in-Outside c).After-num-h) c.in-Outside.ensures, c.loop-row.invariant.1)
 
-pub loop-row-smaller-else-j-eq0 : goal.loop-row-smaller-else-j-eq0
-loop-row-smaller-else-j-eq0 c = past_less (turn (goal.at.loop-row-smaller-else-j-eq0 c).After-num-h)
+pub loop-row-smaller-in-Outside : goal.loop-row-smaller-in-Outside
+loop-row-smaller-in-Outside c = past_less (turn (goal.at.loop-row-smaller-in-Outside c).After-num-h)
 
 pub loop-row-preserved-else-not-skipped : goal.loop-row-preserved-else-not-skipped
 loop-row-preserved-else-not-skipped c = (turn_skip (turn (goal.at.loop-row-preserved-else-not-skipped c).After-num-h) c.skipped.ensures (c.if-not-skipped.false), c.loop-row.invariant.1)

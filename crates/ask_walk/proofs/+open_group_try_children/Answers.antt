@@ -1,6 +1,5 @@
 -- `ask_walk::open_group` and `ask_walk::try_children` meet their contracts, by the measures and the invariant beside this file.
 use Rattle.std.proofs.Common.{◌≡◌, ◌<◌, length, List, ℕ, ap, ◌∙◌, arith, set, length-set}
-use native.Mathlib.Nat.{pos_of_ne-zero}
 use Rattle.lineage.specs.Numbers.{num_at}
 use Rattle.lineage.specs.Walk.{Net, Walked, try_at}
 use Rattle.numbers.proofs.Numbers.{room}
@@ -9,9 +8,10 @@ use Rattle.ask_walk.specs.Stamps.{seen_as}
 use Rattle.ask_walk.proofs.Stamped.{seen_long, seen_kept, seen_not, seen_set, seen_other, under_set}
 use Rattle.ask_walk.proofs.Rows.{row_below}
 use Rattle.ask_walk.proofs.Nets.{net_marked, open_done, open_count}
-use Rattle.ask_walk.proofs.Turns.{turns_over, turns_within, child_room, Turn, turn_within, turn_step, turn_low, turn_level, turn_skip, turn_hit, turn_cut}
+use Rattle.ask_walk.proofs.Turns.{turns_over, Turn, turn_low, turn_level, turn_skip, turn_hit, turn_cut}
 use Rattle.ask_walk.proofs.Turns.{Untold, turn_missed, turn_free, turn_count, turn_found, turn_safe, turn_next}
-use Rattle.ask_walk.proofs.+open_group_try_children.Goals.{try_children-After-num-h, try_children-Then-j-eq0}
+use Rattle.ask_walk.proofs.+open_group_try_children.Goals.{try_children-After-num-h, try_children-In-Neither}
+use Rattle.ask_walk.proofs.+open_group_try_children.Goals.{try_children-then-not-skipped+in-Outside, try_children-then-not-skipped+in-Neither+else-a, try_children-else-not-skipped}
 use Rattle.ask_walk.proofs.+open_group_try_children.Goals as goal
 
 -- a stamp set is a mark set
@@ -66,20 +66,17 @@ turn t c = record {
   below = c.requires.below;
   tried = c.loop-i.invariant.tried;
   long = seen_long _ c.args.marks.now;
-  within = c.loop-i-test.true;
+  within = omega (arith, c.count-i-end.ensures);
   child = c.num-h.ensures.0;
   safe = c.loop-i.invariant.marked.safe;
 }
 
 -- a child that no test decides
 untold :
-    (t : ℕ) (c : try_children-Then-j-eq0 t)
+    (t : ℕ) (c : try_children-In-Neither t)
     → Untold c.args.w c.args.k c.args.d c.args.t c.args.groups.now c.args.levels.now c.args.labels.now (seen_as c.args.stamp c.loop-i.marks) c.num-h.result
 untold t c = record {
-  j = c.judge-j.result;
-  told = c.judge-j.ensures;
-  none = c.if-j-gt0.false;
-  uncut = omega arith;
+  told = c.in-Neither.ensures;
   r = c.skipped.result;
   is = c.skipped.ensures;
   passes = c.if-not-skipped.true;
@@ -89,43 +86,23 @@ untold t c = record {
 named : (t : ℕ) (c : try_children-After-num-h t) → num_at c.args.w c.args.groups.now c.num-h.result < length c.loop-i.marks
 named t c = omega (arith, (turn t c).fit.name_low _ (turn_low (turn t c)), kept t c)
 
-pub try_children-overflow_mul-w : goal.try_children-overflow_mul-w
-try_children-overflow_mul-w t c = omega (arith, turns_within c.requires.fit c.requires.below c.loop-i.invariant.tried)
-
-pub try_children-num-h-requires-clause-w_in_bounds : goal.try_children-num-h-requires-clause-w_in_bounds
-try_children-num-h-requires-clause-w_in_bounds t c = child_room c.requires.fit c.requires.below c.loop-i.invariant.tried c.loop-i-test.true
-
-pub try_children-overflow_add-i : goal.try_children-overflow_add-i
-try_children-overflow_add-i t c = omega (arith, turn_step (turn t (goal.at.try_children-overflow_add-i t c).After-num-h))
-
-pub try_children-skipped-requires : goal.try_children-skipped-requires
-try_children-skipped-requires t c =
-    let n = (goal.at.try_children-skipped-requires t c).After-num-h in
-    let C = turn t n in
+pub try_children-skipped-requires-clause-w_in_bounds : goal.try_children-skipped-requires-clause-w_in_bounds
+try_children-skipped-requires-clause-w_in_bounds t c =
+    let C = turn t (goal.at.try_children-skipped-requires-clause-w_in_bounds t c).After-num-h in
     let F = C.fit in
     let low = turn_low C in
-    record {
-      width = F.labelled.width;
-      w_in_bounds = (room _ _ _ _ low F.groups_long, (room _ _ _ _ low F.levels_long, room _ _ _ _ F.target_low F.levels_long));
-      h_in_bounds = named t n;
-    }
+    (room _ _ _ _ low F.groups_long, (room _ _ _ _ low F.levels_long, room _ _ _ _ F.target_low F.levels_long))
 
-pub try_children-judge-j-requires-clause-x_lt_k : goal.try_children-judge-j-requires-clause-x_lt_k
-try_children-judge-j-requires-clause-x_lt_k t c = (turn_low (turn t (goal.at.try_children-judge-j-requires-clause-x_lt_k t c).After-num-h), c.requires.fit.target_low)
-
-pub try_children-returns-then-j-gt0-clause-marks_after : goal.try_children-returns-then-j-gt0-clause-marks_after
-try_children-returns-then-j-gt0-clause-marks_after t c =
-    turn_hit (turn t (goal.at.try_children-returns-then-j-gt0-clause-marks_after t c).After-num-h) c.judge-j.ensures c.if-j-gt0.true
-
-pub try_children-overflow_sub-lev : goal.try_children-overflow_sub-lev
-try_children-overflow_sub-lev t c = omega (arith, turn_level (turn t (goal.at.try_children-overflow_sub-lev t c).After-num-h))
+pub try_children-returns-in-Inside-clause-marks_after : goal.try_children-returns-in-Inside-clause-marks_after
+try_children-returns-in-Inside-clause-marks_after t c =
+    turn_hit (turn t (goal.at.try_children-returns-in-Inside-clause-marks_after t c).After-num-h) c.in-Inside.ensures
 
 pub try_children-open_group-a-requires : goal.try_children-open_group-a-requires
 try_children-open_group-a-requires t c =
     let P = goal.at.try_children-open_group-a-requires t c in
     let n = P.After-num-h in
     let C = turn t n in
-    let U = untold t P.Then-j-eq0 in (
+    let U = untold t P.In-Neither in (
       omega (arith, turn_level C),
       (
         rw (kept t n) C.fit,
@@ -144,43 +121,32 @@ try_children-open_group-a-requires t c =
 pub try_children-overflow_add-opened : goal.try_children-overflow_add-opened
 try_children-overflow_add-opened t c =
     let P = goal.at.try_children-overflow_add-opened t c in
-    omega (arith, turn_count (turn t P.After-num-h) (untold t P.Then-j-eq0) c.open_group-a.ensures.marks_after)
+    omega (arith, turn_count (turn t P.After-num-h) (untold t P.In-Neither) c.open_group-a.ensures.marks_after)
 
 pub try_children-returns-then-a-clause-marks_after : goal.try_children-returns-then-a-clause-marks_after
 try_children-returns-then-a-clause-marks_after t c =
     let P = goal.at.try_children-returns-then-a-clause-marks_after t c in
-    turn_found (turn t P.After-num-h) (untold t P.Then-j-eq0) c.open_group-a.ensures.marks_after c.if-a.true
-
-pub try_children-loop-i-smaller-else-a : goal.try_children-loop-i-smaller-else-a
-try_children-loop-i-smaller-else-a t c = omega (arith, turn_within (turn t (goal.at.try_children-loop-i-smaller-else-a t c).After-num-h))
-
-pub try_children-loop-i-preserved-else-a : goal.try_children-loop-i-preserved-else-a
-try_children-loop-i-preserved-else-a t c =
-    let P = goal.at.try_children-loop-i-preserved-else-a t c in
-    let C = turn t P.After-num-h in
-    let U = untold t P.Then-j-eq0 in
-    record {
-      tried = turn_next C U c.open_group-a.ensures.marks_after c.if-a.false;
-      marked = record { under = c.open_group-a.ensures.under; safe = turn_safe C U c.open_group-a.ensures.marks_after };
-    }
-
-pub try_children-loop-i-smaller-else-j-eq0 : goal.try_children-loop-i-smaller-else-j-eq0
-try_children-loop-i-smaller-else-j-eq0 t c = omega (arith, turn_within (turn t (goal.at.try_children-loop-i-smaller-else-j-eq0 t c).After-num-h))
-
-pub try_children-loop-i-preserved-else-j-eq0 : goal.try_children-loop-i-preserved-else-j-eq0
-try_children-loop-i-preserved-else-j-eq0 t c = record {
-  tried = turn_cut (turn t (goal.at.try_children-loop-i-preserved-else-j-eq0 t c).After-num-h) c.judge-j.ensures (pos_of_ne-zero c.if-j-eq0.false);
-  marked = c.loop-i.invariant.marked;
-}
-
-pub try_children-loop-i-smaller : goal.try_children-loop-i-smaller
-try_children-loop-i-smaller t c = omega (arith, turn_within (turn t (goal.at.try_children-loop-i-smaller t c).After-num-h))
+    turn_found (turn t P.After-num-h) (untold t P.In-Neither) c.open_group-a.ensures.marks_after c.if-a.true
 
 pub try_children-loop-i-preserved : goal.try_children-loop-i-preserved
-try_children-loop-i-preserved t c = record {
-  tried = turn_skip (turn t (goal.at.try_children-loop-i-preserved t c).After-num-h) c.skipped.ensures c.if-not-skipped.false;
-  marked = c.loop-i.invariant.marked;
-}
+try_children-loop-i-preserved t c =
+    let n = (goal.at.try_children-loop-i-preserved t c).After-num-h in
+    let C = turn t n in
+    elim c.if-not-skipped.branch [
+      | try_children-else-not-skipped w ↦ rw (w.marks-is, w.opened-is) (record { tried = turn_skip C c.skipped.ensures w.if-not-skipped.false; marked = c.loop-i.invariant.marked })
+      | try_children-then-not-skipped+in-Outside w ↦ rw (w.marks-is, w.opened-is) (record { tried = turn_cut C w.in-Outside.ensures; marked = c.loop-i.invariant.marked })
+      | try_children-then-not-skipped+in-Neither+else-a w ↦
+          let U : Untold c.args.w c.args.k c.args.d c.args.t c.args.groups.now c.args.levels.now c.args.labels.now (seen_as c.args.stamp c.loop-i.marks) c.num-h.result =
+          record { told = w.in-Neither.ensures; r = c.skipped.result; is = c.skipped.ensures; passes = w.if-not-skipped.true } in
+          rw (w.marks-is, w.opened-is)
+          (
+          record {
+            tried = turn_next C U w.open_group-a.ensures.marks_after w.if-a.false;
+            marked = record { under = w.open_group-a.ensures.under; safe = turn_safe C U w.open_group-a.ensures.marks_after };
+          }
+          )
+    ]
 
 pub try_children-returns-clause-marks_after : goal.try_children-returns-clause-marks_after
-try_children-returns-clause-marks_after t c = turns_over c.requires.fit c.requires.below c.loop-i.invariant.tried c.loop-i-test.false
+try_children-returns-clause-marks_after t c =
+    turns_over c.requires.fit c.requires.below c.loop-i.invariant.tried (omega (arith, c.count-i-end.ensures))

@@ -1,6 +1,6 @@
 -- `ask_walk::open_group` and `ask_walk::try_children` meet their contracts, as one cycle of calls: opening at a level tries children at that level, and trying
 -- at a level opens groups one level lower. Each contract is the definition's own equation; the row's loop takes the children one by one (Turns).
-use Rattle.std.proofs.Common.{◌+◌, ◌-◌, ◌*◌, length}
+use Rattle.std.proofs.Common.{◌+◌, ◌*◌}
 use Rattle.ask_walk.specs.Fit.{all, net_in, Marks}
 use Rattle.ask_walk.specs.Stamps.{seen_as}
 use Rattle.ask_walk.proofs.Trying.{Tried}
@@ -21,6 +21,3 @@ invariant-try_children-loop-i l = record {
       l.i l.opened;
   marked : Marks (net_in l.w l.k l.d l.t l.groups l.levels l.starts l.children l.labels) l.k l.stamp l.marks;
 }
-
-abbrev pub decreases-try_children-loop-i : goal.decreases-try_children-loop-i
-decreases-try_children-loop-i l = length (all l.w l.row) - l.i

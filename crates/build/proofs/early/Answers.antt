@@ -3,21 +3,17 @@ use mathlib.Core.Bool.{not}
 use mathlib.Core.List.{List}
 use mathlib.Core.Path.{◌≡◌, sym, ap, ◌∙◌}
 use Prim.Native.Nat.{ℕ, zero, suc, ◌*◌, ◌≤◌}
-use native.Mathlib.Omega.{arith}
-use native.Mathlib.Nat.{mul-le-mul}
 use lib.Dec.{eqb}
 use lib.ListN.{length, drop}
 use borrow.Author.Tests.{lt-ltb, le-ltb, eq-eqb, ne_eqb}
-use Rattle.lineage.specs.Stored.{most_labellings}
 use Rattle.lineage.specs.Calls.{Check, refused, outcome, Input, bad_edge, work_needed, build_early}
 use Rattle.laws.proofs.Tests.{or_left, or_right}
 use Rattle.laws.specs.Checks.{Stops, stopped}
 use Rattle.laws.proofs.Checks.{stops_outcome}
-use Rattle.numbers.specs.Bounds.{vertex_bound}
 use Rattle.build.specs.Input.{input_of, form_by}
 use Rattle.build.proofs.Checks.{any_found, none_found, first_found}
 use Rattle.build.proofs.early.Goals as goal
-use Rattle.build.proofs.early.Goals.{Start}
+use Rattle.build.proofs.early.Goals.{Start, then-d-eq0-via-then-d-eq0, then-d-eq0-via-else-d-eq0+then-most_labellings-d}
 
 -- what is lent, and the checks of it
 abbrev input : (s : Start) → Input
@@ -83,21 +79,11 @@ returns-then-d-eq0 c =
     let p₁ = past₁ s c.if-most_vertices-n.false in
     let p₂ = past₂ s p₁ c.if-edges-targets.false in
     let p₃ = past₃ s p₂ c.if-most_edges-edges.false in
-    stop s 3 (p₃ 0 (or_left _ (eq-eqb _ _ c.if-d-eq0.true)))
-
-pub returns-then-most_labellings-d : goal.returns-then-most_labellings-d
-returns-then-most_labellings-d c =
-    let s = (goal.at.returns-then-most_labellings-d c).Start in
-    let p₁ = past₁ s c.if-most_vertices-n.false in
-    let p₂ = past₂ s p₁ c.if-edges-targets.false in
-    let p₃ = past₃ s p₂ c.if-most_edges-edges.false in
-    stop s 3 (p₃ 0 (or_right (eqb c.args.d 0) (lt-ltb _ _ c.if-most_labellings-d.true)))
-
-pub overflow_mul-d : goal.overflow_mul-d
-overflow_mul-d c =
-    let few : c.args.d ≤ most_labellings = omega (arith, c.if-most_labellings-d.false, c.requires.labellings) in
-    let low : c.args.n ≤ vertex_bound = omega (arith, c.if-most_vertices-n.false, c.requires.vertices) in
-    omega (arith, mul-le-mul few low)
+    stop s 3
+    (p₃ 0 (elim c.then-d-eq0.branch [
+      | then-d-eq0-via-then-d-eq0 w ↦ or_left _ (eq-eqb _ _ w.if-d-eq0.true)
+      | then-d-eq0-via-else-d-eq0+then-most_labellings-d w ↦ or_right (eqb c.args.d 0) (lt-ltb _ _ w.if-most_labellings-d.true)
+    ]))
 
 pub returns-then-orders-d : goal.returns-then-orders-d
 returns-then-orders-d c =

@@ -1,5 +1,5 @@
--- `build_children::children` meets its contract. Each pass finds what the passes before it laid out: the two areas and the words between them lie apart, so none touches what
--- the next one reads.
+-- `build_children::children` meets its contract. Each pass finds what the passes before it laid out: the two areas and the words between them lie apart, so
+-- none touches what the next one reads.
 use native.Mathlib.Omega.{arith}
 use Rattle.build_children.proofs.Window.{edges_fit, strip_fits, turn_fits, found}
 use Rattle.build_children.proofs.children.Goals as goal
@@ -7,17 +7,8 @@ use Rattle.build_children.proofs.children.Goals as goal
 pub rows-requires : goal.rows-requires
 rows-requires c = edges_fit c.requires
 
-pub clear_part-requires : goal.clear_part-requires
-clear_part-requires c = omega (arith, c.requires.room, c.rows.ensures.kept.long)
-
 pub strip-c-requires : goal.strip-c-requires
 strip-c-requires c = strip_fits c.requires c.rows.ensures.kept c.rows.ensures.rows_at c.clear_part.ensures.kept c.clear_part.ensures.n_after
-
-pub count_up-requires : goal.count_up-requires
-count_up-requires c = record {
-  n_in_bounds = omega (arith, c.requires.room, c.rows.ensures.kept.long, c.clear_part.ensures.kept.long, c.strip-c.ensures.kept.long);
-  n_bound = omega (arith, c.requires.few_groups);
-}
 
 pub turn-requires : goal.turn-requires
 turn-requires c =

@@ -1,5 +1,5 @@
--- `build_condense::condense` meets its contract. Each step finds what the steps before it left: the numbers, the rows and the regions of the traversal lie side by side, and none
--- writes what a later one still reads.
+-- `build_condense::condense` meets its contract. Each step finds what the steps before it left: the numbers, the rows and the regions of the traversal lie side
+-- by side, and none writes what a later one still reads.
 use Rattle.build_condense.proofs.Found.{rows_fit, names_fit, list_fit, groups_found}
 use Rattle.build_condense.proofs.condense.Goals as goal
 

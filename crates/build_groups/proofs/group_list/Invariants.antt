@@ -1,10 +1,6 @@
 -- `build_groups::group_list` meets its contract. The invariant: the names passed are copied and listed, and each vertex passed has the place of its group.
-use Prim.Native.Nat.{◌-◌, ◌≤◌}
 use Rattle.build_groups.proofs.Listing.{Listing}
 use Rattle.build_groups.proofs.group_list.Given as goal
 
 abbrev pub invariant-loop-v : goal.invariant-loop-v
-invariant-loop-v l = (l.v ≤ l.n) × Listing l.initial.work l.work l.names l.n l.base l.v l.v l.k
-
-abbrev pub decreases-loop-v : goal.decreases-loop-v
-decreases-loop-v l = l.n - l.v
+invariant-loop-v l = Listing l.initial.work l.work l.names l.n l.base l.v l.v l.k

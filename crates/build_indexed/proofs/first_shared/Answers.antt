@@ -1,7 +1,7 @@
 -- `build_indexed::first_shared` meets its contract, by the invariant beside this file.
 use Prim.Native.Nat.{ℕ, ◌+◌}
 use native.Mathlib.Omega.{arith}
-use Rattle.build_orders.proofs.First.{none_begin, none_more, none_found, none_all}
+use Rattle.build_orders.proofs.First.{none_begin, none_more, found_here, found_nowhere}
 use Rattle.build_indexed.proofs.Shared.{row_many, row_few}
 use Rattle.build_indexed.proofs.first_shared.Goals as goal
 use Rattle.build_indexed.proofs.first_shared.Goals.{At-loop-p}
@@ -11,26 +11,17 @@ abbrev row : (l : At-loop-p) → ℕ
 row l = l.args.parents + l.loop-p.p
 
 pub loop-p-init : goal.loop-p-init
-loop-p-init c = (omega arith, none_begin)
-
-pub overflow_cast-work : goal.overflow_cast-work
-overflow_cast-work c = omega (arith, c.type_inv.work (row (goal.at.overflow_cast-work c).At-loop-p))
-
-pub overflow_add-work : goal.overflow_add-work
-overflow_add-work c = omega (arith, c.type_inv.work (row (goal.at.overflow_add-work c).At-loop-p))
-
-pub overflow_cast-work-in-loop-p : goal.overflow_cast-work-in-loop-p
-overflow_cast-work-in-loop-p c = omega (arith, c.type_inv.work (row (goal.at.overflow_cast-work-in-loop-p c).At-loop-p + 1))
+loop-p-init c = none_begin
 
 pub returns-then-work-row : goal.returns-then-work-row
 returns-then-work-row c =
     let a = c.args in
-    (none_found a.k c.loop-p.invariant.1 (omega arith) (row_many a.work.now a.parents a.k c.loop-p.p (omega arith) c.if-work-row.true), c.loop-p.invariant.0)
+    found_here a.k c.loop-p.invariant (omega arith) (row_many a.work.now a.parents a.k c.loop-p.p (omega arith) c.if-work-row.true)
 
 pub loop-p-preserved : goal.loop-p-preserved
 loop-p-preserved c =
     let a = c.args in
-    (omega arith, none_more c.loop-p.invariant.1 (row_few a.work.now a.parents a.k c.loop-p.p (omega arith) c.if-work-row.false))
+    none_more c.loop-p.invariant (row_few a.work.now a.parents a.k c.loop-p.p (omega arith) c.if-work-row.false)
 
 pub returns : goal.returns
-returns c = (none_all c.args.k c.loop-p.invariant.1 (omega arith) (omega arith), c.loop-p.invariant.0)
+returns c = found_nowhere c.args.k c.loop-p.invariant (omega arith)

@@ -1,10 +1,6 @@
 -- `build_indexed::write_order` meets its contract: the labelling that is left in its window is the one under order j, and it is written from there.
-use native.Mathlib.Omega.{arith}
-use Rattle.build_indexed.proofs.Orders.{order_small, label_fits, order_labelled, labelling_fits, order_written}
+use Rattle.build_indexed.proofs.Orders.{label_fits, order_labelled, labelling_fits, order_written}
 use Rattle.build_indexed.proofs.write_order.Goals as goal
-
-pub overflow_mul-j : goal.overflow_mul-j
-overflow_mul-j c = omega (arith, order_small c.requires.ready c.args.j c.requires.j_lt_d.0)
 
 pub label-requires : goal.label-requires
 label-requires c = label_fits c.requires.ready c.children_from-children.ensures c.labels_from-base.ensures c.walk_from-walk.ensures c.args.j c.requires.j_lt_d.0

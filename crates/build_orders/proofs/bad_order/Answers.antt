@@ -3,22 +3,19 @@ use Prim.Native.Nat.{◌+◌, ◌*◌, ◌≤◌}
 use native.Mathlib.Omega.{arith}
 use lib.ListN.{length}
 use Rattle.numbers.proofs.Regions.{kept_then}
-use Rattle.build_orders.proofs.First.{none_found, none_all}
+use Rattle.build_orders.proofs.First.{found_here, found_nowhere}
 use Rattle.build_orders.proofs.Permutations.{order_room, tried_none, tried_bad, tried_more}
 use Rattle.build_orders.proofs.bad_order.Goals as goal
 use Rattle.build_orders.proofs.bad_order.Goals.{At-loop-i, In-loop-i}
 
 room : (l : At-loop-i) → l.args.base + l.args.n ≤ length l.loop-i.work
-room l = omega (arith, l.clear_part.ensures.kept.long, l.loop-i.invariant.1.kept.long)
+room l = omega (arith, l.clear_part.ensures.kept.long, l.loop-i.invariant.kept.long)
 
 inside : (c : In-loop-i) → let a = c.args in c.loop-i.i * a.n + a.n ≤ length a.orders.now
 inside c = omega (arith, order_room c.loop-i.i c.args.d c.args.n c.loop-i-test.true)
 
 pub loop-i-init : goal.loop-i-init
-loop-i-init c = (omega arith, tried_none _ _ _ _ c.clear_part.ensures.n_after)
-
-pub overflow_mul-i : goal.overflow_mul-i
-overflow_mul-i c = omega (arith, inside (goal.at.overflow_mul-i c).In-loop-i)
+loop-i-init c = tried_none _ _ _ _ c.clear_part.ensures.n_after
 
 pub stamp_order-requires : goal.stamp_order-requires
 stamp_order-requires c = record {
@@ -30,21 +27,19 @@ pub returns-then-one_lacks : goal.returns-then-one_lacks
 returns-then-one_lacks c =
     let s = c.stamp_order in
     record {
-      value = none_found c.args.d c.loop-i.invariant.1.passed (omega arith)
-          (tried_bad (room (goal.at.returns-then-one_lacks c).At-loop-i) c.loop-i.invariant.1 s.ensures.kept s.ensures.stamped _ c.one_lacks.ensures
+      value = found_here c.args.d c.loop-i.invariant.passed (omega arith)
+          (tried_bad (room (goal.at.returns-then-one_lacks c).At-loop-i) c.loop-i.invariant s.ensures.kept s.ensures.stamped _ c.one_lacks.ensures
           c.if-one_lacks.true);
-      kept = kept_then c.clear_part.ensures.kept (kept_then c.loop-i.invariant.1.kept s.ensures.kept);
+      kept = kept_then c.clear_part.ensures.kept (kept_then c.loop-i.invariant.kept s.ensures.kept);
     }
 
 pub loop-i-preserved : goal.loop-i-preserved
 loop-i-preserved c =
-    let s = c.stamp_order in (
-      omega arith,
-      tried_more (room (goal.at.loop-i-preserved c).At-loop-i) c.loop-i.invariant.1 s.ensures.kept s.ensures.stamped _ c.one_lacks.ensures c.if-one_lacks.false,
-    )
+    let s = c.stamp_order in
+    tried_more (room (goal.at.loop-i-preserved c).At-loop-i) c.loop-i.invariant s.ensures.kept s.ensures.stamped _ c.one_lacks.ensures c.if-one_lacks.false
 
 pub returns : goal.returns
 returns c = record {
-  value = none_all c.args.d c.loop-i.invariant.1.passed (omega arith) (omega arith);
-  kept = kept_then c.clear_part.ensures.kept c.loop-i.invariant.1.kept;
+  value = found_nowhere c.args.d c.loop-i.invariant.passed (omega arith);
+  kept = kept_then c.clear_part.ensures.kept c.loop-i.invariant.kept;
 }

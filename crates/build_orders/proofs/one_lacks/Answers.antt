@@ -5,7 +5,7 @@ use Rattle.build_orders.proofs.Lacking.{word_lacks, word_has}
 use Rattle.build_orders.proofs.one_lacks.Goals as goal
 
 pub loop-v-init : goal.loop-v-init
-loop-v-init c = (omega arith, none_begin)
+loop-v-init c = none_begin
 
 pub returns-then-work-base : goal.returns-then-work-base
 returns-then-work-base c =
@@ -15,7 +15,7 @@ returns-then-work-base c =
 pub loop-v-preserved : goal.loop-v-preserved
 loop-v-preserved c =
     let a = c.args in
-    (omega arith, none_more c.loop-v.invariant.1 (word_has a.work.now a.base a.n a.stamp c.loop-v.v (omega arith) c.if-work-base.false))
+    none_more c.loop-v.invariant (word_has a.work.now a.base a.n a.stamp c.loop-v.v (omega arith) c.if-work-base.false)
 
 pub returns : goal.returns
-returns c = none_not_any c.args.n c.loop-v.invariant.1 (omega arith)
+returns c = none_not_any c.args.n c.loop-v.invariant (omega arith)

@@ -1,10 +1,6 @@
 -- `build_orders::ranked` meets its contract. The invariant: of the vertices passed those that are their own name are written, as places.
-use Prim.Native.Nat.{◌-◌, ◌≤◌}
 use Rattle.build_orders.proofs.Ranking.{Ranking}
 use Rattle.build_orders.proofs.ranked.Given as goal
 
 abbrev pub invariant-loop-j : goal.invariant-loop-j
-invariant-loop-j l = (l.j ≤ l.n) × Ranking l.orders l.initial.work l.work l.at l.n l.names l.base l.j l.k
-
-abbrev pub decreases-loop-j : goal.decreases-loop-j
-decreases-loop-j l = l.n - l.j
+invariant-loop-j l = Ranking l.orders l.initial.work l.work l.at l.n l.names l.base l.j l.k

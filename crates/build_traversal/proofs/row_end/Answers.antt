@@ -2,7 +2,6 @@
 use Prim.Native.Nat.{ℕ, ◌+◌, ◌-◌, ◌<◌}
 use native.Mathlib.Omega.{arith}
 use borrow.Author.Rules.{rules}
-use mir.Facts.{Fits-32_64}
 use lib.ListN.{get_or}
 use Rattle.lineage.specs.Lists.{part}
 use Rattle.build_traversal.proofs.Regions.{vertex_is, end_above}
@@ -19,23 +18,8 @@ frame_low c = c.requires.by_index _ (search rules)
 vertex_low : (c : Else-d-eq0) → vertex c < c.args.n
 vertex_low c = let a = c.args in rw (vertex_is a.work.now a.starts a.base a.n a.d c.if-d-eq0.false (search rules)) (frame_low c)
 
-pub overflow_cast-v : goal.overflow_cast-v
-overflow_cast-v c = omega (arith, vertex_low (goal.at.overflow_cast-v c).Else-d-eq0)
-
-pub overflow_add-result : goal.overflow_add-result
-overflow_add-result c = omega (arith, vertex_low (goal.at.overflow_add-result c).Else-d-eq0)
-
-pub overflow_add-result-2 : goal.overflow_add-result-2
-overflow_add-result-2 c = omega (arith, vertex_low (goal.at.overflow_add-result-2 c).Else-d-eq0)
-
-pub offset_bounds-work-starts : goal.offset_bounds-work-starts
-offset_bounds-work-starts c = omega (arith, vertex_low (goal.at.offset_bounds-work-starts c).Else-d-eq0)
-
 pub bounds-work-starts : goal.bounds-work-starts
 bounds-work-starts c = omega (arith, vertex_low (goal.at.bounds-work-starts c).Else-d-eq0)
-
-pub overflow_cast-result : goal.overflow_cast-result
-overflow_cast-result c = Fits-32_64 (c.type_inv.work _)
 
 pub returns : goal.returns
 returns c =

@@ -2,7 +2,6 @@
 use mathlib.Core.Path.{◌≡◌, refl}
 use Prim.Native.Nat.{ℕ, suc, ◌+◌, ◌*◌, ◌-◌, ◌^◌, ◌≤◌, ◌<◌}
 use native.Mathlib.Omega.{arith}
-use mir.Facts.{Fits-32_64}
 use lib.ListN.{length, get_or}
 use Rattle.build_traversal.proofs.Frames.{in_less, out_less, room_now, entry_inside, next_fits, entry_low, past_less, end_fits}
 use Rattle.build_traversal.proofs.Going.{going_none, going_past, space, fewer_now, going_in, leave_fits, kept_out, frames_same, no_more, going_out, held}
@@ -17,53 +16,35 @@ vertex c = get_or c.loop-e.work (c.loop-e.at + c.loop-e.e) 0
 inside : (c : Then-e-end) → c.loop-e.at + c.loop-e.e < length c.loop-e.work
 inside c = entry_inside c.requires.traverse_fit c.loop-e.invariant.frames c.if-e-end.true
 
-vertex_low : (c : Then-e-end) → vertex c < c.args.n
+vertex_low : (c : Then-e-end) → vertex c < c.args.rows.k
 vertex_low c = entry_low c.requires.traverse_fit c.loop-e.invariant.frames c.if-e-end.true
 
 small : (c : Then-e-end) → c.loop-e.e + 1 < 2 ^ 32
 small c = next_fits c.requires.traverse_fit c.loop-e.invariant.frames c.if-e-end.true
 
-room : (c : At-loop-e) → c.args.base + 7 * c.args.n ≤ length c.loop-e.work
+room : (c : At-loop-e) → c.args.base + 7 * c.args.rows.k ≤ length c.loop-e.work
 room c = room_now c.requires.traverse_fit c.loop-e.invariant.frames
 
 -- it is new: there is a frame for it
-frame : (c : Then-mark-eq0) → c.loop-e.d + c.loop-e.k < c.args.n
+frame : (c : Then-mark-eq0) → c.loop-e.d + c.loop-e.k < c.args.rows.k
 frame c = space c.requires.traverse_fit c.loop-e.invariant c.if-e-end.true c.if-mark-eq0.true
 
 -- where the row of the vertex entered lies
-row_fits : (c : Then-e-end) → c.args.starts + vertex c + 1 < length c.args.work.now
+row_fits : (c : Then-e-end) → c.args.rows.starts + vertex c + 1 < length c.args.work.now
 row_fits c = omega (arith, vertex_low c, c.requires.traverse_fit.starts_there.fits)
 
 -- the top frame
 top : (c : Then-d-gt0) → c.loop-e.d ≡ suc (c.loop-e.d - 1)
 top c = omega arith
 
-both : (c : At-loop-e) → c.loop-e.d + c.loop-e.k ≤ c.args.n
+both : (c : At-loop-e) → c.loop-e.d + c.loop-e.k ≤ c.args.rows.k
 both c = held c.requires.traverse_fit c.loop-e.invariant
 
 pub loop-e-init : goal.loop-e-init
 loop-e-init c = going_none c.requires.traverse_fit
 
-pub overflow_add-v : goal.overflow_add-v
-overflow_add-v c = omega (arith, inside (goal.at.overflow_add-v c).Then-e-end)
-
-pub offset_bounds-work-at : goal.offset_bounds-work-at
-offset_bounds-work-at c = omega (arith, inside (goal.at.offset_bounds-work-at c).Then-e-end, c.loop-e.invariant.frames.kept.long)
-
 pub bounds-work-at : goal.bounds-work-at
 bounds-work-at c = inside (goal.at.bounds-work-at c).Then-e-end
-
-pub overflow_add-e : goal.overflow_add-e
-overflow_add-e c = omega (arith, small (goal.at.overflow_add-e c).Then-e-end)
-
-pub overflow_cast-i : goal.overflow_cast-i
-overflow_cast-i c = omega (arith, vertex_low (goal.at.overflow_cast-i c).Then-e-end)
-
-pub overflow_add-mark : goal.overflow_add-mark
-overflow_add-mark c = omega (arith, vertex_low (goal.at.overflow_add-mark c).Then-e-end, c.requires.traverse_fit.room)
-
-pub offset_bounds-work-base : goal.offset_bounds-work-base
-offset_bounds-work-base c = omega (arith, vertex_low (goal.at.offset_bounds-work-base c).Then-e-end, c.requires.traverse_fit.room)
 
 pub bounds-work-base : goal.bounds-work-base
 bounds-work-base c = omega (arith, vertex_low (goal.at.bounds-work-base c).Then-e-end, room (goal.at.bounds-work-base c).At-loop-e)
@@ -83,39 +64,12 @@ enter-requires c =
       n_bound = omega (arith, c.requires.traverse_fit.few);
     }
 
-pub overflow_cast-s : goal.overflow_cast-s
-overflow_cast-s c = omega (arith, c.requires.traverse_fit.few)
+pub bounds-work-rows : goal.bounds-work-rows
+bounds-work-rows c = omega (arith, row_fits (goal.at.bounds-work-rows c).Then-e-end, c.loop-e.invariant.frames.kept.long, c.enter.auto.work)
 
-pub overflow_add-d : goal.overflow_add-d
-overflow_add-d c = omega (arith, frame (goal.at.overflow_add-d c).Then-mark-eq0)
-
-pub overflow_add-e-then-mark-eq0 : goal.overflow_add-e-then-mark-eq0
-overflow_add-e-then-mark-eq0 c = omega (arith, row_fits (goal.at.overflow_add-e-then-mark-eq0 c).Then-e-end)
-
-pub offset_bounds-work-starts : goal.offset_bounds-work-starts
-offset_bounds-work-starts c = omega (arith, row_fits (goal.at.offset_bounds-work-starts c).Then-e-end)
-
-pub bounds-work-starts : goal.bounds-work-starts
-bounds-work-starts c = omega (arith, row_fits (goal.at.bounds-work-starts c).Then-e-end, c.loop-e.invariant.frames.kept.long, c.enter.auto.work)
-
-pub overflow_cast-e-then-mark-eq0 : goal.overflow_cast-e-then-mark-eq0
-overflow_cast-e-then-mark-eq0 c = Fits-32_64 (c.type_inv.work _)
-
-pub overflow_add-end : goal.overflow_add-end
-overflow_add-end c = omega (arith, row_fits (goal.at.overflow_add-end c).Then-e-end)
-
-pub overflow_add-end-then-mark-eq0 : goal.overflow_add-end-then-mark-eq0
-overflow_add-end-then-mark-eq0 c = omega (arith, row_fits (goal.at.overflow_add-end-then-mark-eq0 c).Then-e-end)
-
-pub offset_bounds-work-starts-then-mark-eq0 : goal.offset_bounds-work-starts-then-mark-eq0
-offset_bounds-work-starts-then-mark-eq0 c = omega (arith, row_fits (goal.at.offset_bounds-work-starts-then-mark-eq0 c).Then-e-end)
-
-pub bounds-work-starts-then-mark-eq0 : goal.bounds-work-starts-then-mark-eq0
-bounds-work-starts-then-mark-eq0 c =
-    omega (arith, row_fits (goal.at.bounds-work-starts-then-mark-eq0 c).Then-e-end, c.loop-e.invariant.frames.kept.long, c.enter.auto.work)
-
-pub overflow_cast-end : goal.overflow_cast-end
-overflow_cast-end c = Fits-32_64 (c.type_inv.work _)
+pub bounds-work-rows-then-mark-eq0 : goal.bounds-work-rows-then-mark-eq0
+bounds-work-rows-then-mark-eq0 c =
+    omega (arith, row_fits (goal.at.bounds-work-rows-then-mark-eq0 c).Then-e-end, c.loop-e.invariant.frames.kept.long, c.enter.auto.work)
 
 pub loop-e-smaller-then-mark-eq0 : goal.loop-e-smaller-then-mark-eq0
 loop-e-smaller-then-mark-eq0 c =
@@ -128,13 +82,7 @@ pub loop-e-smaller-else-mark-eq0 : goal.loop-e-smaller-else-mark-eq0
 loop-e-smaller-else-mark-eq0 c = past_less c.requires.traverse_fit c.loop-e.invariant.frames c.if-e-end.true
 
 pub loop-e-preserved-else-mark-eq0 : goal.loop-e-preserved-else-mark-eq0
-loop-e-preserved-else-mark-eq0 c = going_past c.requires.traverse_fit c.loop-e.invariant c.if-e-end.true c.if-mark-eq0.false c.lesser_word-s.ensures
-
-pub overflow_add-k : goal.overflow_add-k
-overflow_add-k c = omega (arith, both (goal.at.overflow_add-k c).At-loop-e)
-
-pub overflow_cast-k : goal.overflow_cast-k
-overflow_cast-k c = omega (arith, both (goal.at.overflow_cast-k c).At-loop-e, c.requires.traverse_fit.few)
+loop-e-preserved-else-mark-eq0 c = going_past c.requires.traverse_fit c.loop-e.invariant c.if-e-end.true c.if-mark-eq0.false c.min-s.ensures
 
 pub leave-requires : goal.leave-requires
 leave-requires c =
@@ -147,124 +95,29 @@ leave-requires c =
       n_bound = omega (arith, c.requires.traverse_fit.few);
     }
 
-pub overflow_add-k-then-d-gt0 : goal.overflow_add-k-then-d-gt0
-overflow_add-k-then-d-gt0 c = omega (arith, both (goal.at.overflow_add-k-then-d-gt0 c).At-loop-e)
-
-pub overflow_mul-n : goal.overflow_mul-n
-overflow_mul-n c = omega (arith, room (goal.at.overflow_mul-n c).At-loop-e, c.leave.auto.work)
-
-pub overflow_add-base : goal.overflow_add-base
-overflow_add-base c =
-    omega (
-      arith,
-      room (goal.at.overflow_add-base c).At-loop-e,
-      c.leave.auto.work,
-      top (goal.at.overflow_add-base c).Then-d-gt0,
-      both (goal.at.overflow_add-base c).At-loop-e,
-    )
-
-pub overflow_add-base-then-d-gt0 : goal.overflow_add-base-then-d-gt0
-overflow_add-base-then-d-gt0 c =
-    omega (
-      arith,
-      room (goal.at.overflow_add-base-then-d-gt0 c).At-loop-e,
-      c.leave.auto.work,
-      top (goal.at.overflow_add-base-then-d-gt0 c).Then-d-gt0,
-      both (goal.at.overflow_add-base-then-d-gt0 c).At-loop-e,
-    )
-
-pub offset_bounds-work-base-then-d-gt0 : goal.offset_bounds-work-base-then-d-gt0
-offset_bounds-work-base-then-d-gt0 c =
-    omega (
-      arith,
-      room (goal.at.offset_bounds-work-base-then-d-gt0 c).At-loop-e,
-      c.leave.auto.work,
-      top (goal.at.offset_bounds-work-base-then-d-gt0 c).Then-d-gt0,
-      both (goal.at.offset_bounds-work-base-then-d-gt0 c).At-loop-e,
-    )
-
-pub bounds-work-base-then-d-gt0 : goal.bounds-work-base-then-d-gt0
-bounds-work-base-then-d-gt0 c =
-    omega (
-      arith,
-      room (goal.at.bounds-work-base-then-d-gt0 c).At-loop-e,
-      c.leave.auto.work,
-      top (goal.at.bounds-work-base-then-d-gt0 c).Then-d-gt0,
-      both (goal.at.bounds-work-base-then-d-gt0 c).At-loop-e,
-    )
-
-pub overflow_mul-e : goal.overflow_mul-e
-overflow_mul-e c = omega (arith, room (goal.at.overflow_mul-e c).At-loop-e, c.leave.auto.work)
-
-pub overflow_add-e-then-d-gt0 : goal.overflow_add-e-then-d-gt0
-overflow_add-e-then-d-gt0 c =
-    omega (
-      arith,
-      room (goal.at.overflow_add-e-then-d-gt0 c).At-loop-e,
-      c.leave.auto.work,
-      top (goal.at.overflow_add-e-then-d-gt0 c).Then-d-gt0,
-      both (goal.at.overflow_add-e-then-d-gt0 c).At-loop-e,
-    )
-
-pub overflow_add-e-then-d-gt0-2 : goal.overflow_add-e-then-d-gt0-2
-overflow_add-e-then-d-gt0-2 c =
-    omega (
-      arith,
-      room (goal.at.overflow_add-e-then-d-gt0-2 c).At-loop-e,
-      c.leave.auto.work,
-      top (goal.at.overflow_add-e-then-d-gt0-2 c).Then-d-gt0,
-      both (goal.at.overflow_add-e-then-d-gt0-2 c).At-loop-e,
-    )
-
-pub offset_bounds-work-base-then-d-gt0-2 : goal.offset_bounds-work-base-then-d-gt0-2
-offset_bounds-work-base-then-d-gt0-2 c =
-    omega (
-      arith,
-      room (goal.at.offset_bounds-work-base-then-d-gt0-2 c).At-loop-e,
-      c.leave.auto.work,
-      top (goal.at.offset_bounds-work-base-then-d-gt0-2 c).Then-d-gt0,
-      both (goal.at.offset_bounds-work-base-then-d-gt0-2 c).At-loop-e,
-    )
-
-pub bounds-work-base-then-d-gt0-2 : goal.bounds-work-base-then-d-gt0-2
-bounds-work-base-then-d-gt0-2 c =
-    omega (
-      arith,
-      room (goal.at.bounds-work-base-then-d-gt0-2 c).At-loop-e,
-      c.leave.auto.work,
-      top (goal.at.bounds-work-base-then-d-gt0-2 c).Then-d-gt0,
-      both (goal.at.bounds-work-base-then-d-gt0-2 c).At-loop-e,
-    )
-
-pub overflow_cast-e-then-d-gt0 : goal.overflow_cast-e-then-d-gt0
-overflow_cast-e-then-d-gt0 c = Fits-32_64 (c.type_inv.work _)
-
 pub row_end-end-requires : goal.row_end-end-requires
 row_end-end-requires c =
     let fit = c.requires.traverse_fit in
     let over = c.if-e-end.false in
-    let same = frames_same fit c.loop-e.invariant over _ (top (goal.at.row_end-end-requires c).Then-d-gt0) c.lesser_word-s-then-d-gt0.ensures c.leave.ensures in
+    let same = frames_same fit c.loop-e.invariant over _ (top (goal.at.row_end-end-requires c).Then-d-gt0) c.min-s-then-d-gt0.ensures c.leave.ensures in
     let both = end_fits fit c.loop-e.invariant.frames over _ (top (goal.at.row_end-end-requires c).Then-d-gt0)
     (omega (arith, both (goal.at.row_end-end-requires c).At-loop-e))
-    (kept_out fit c.loop-e.invariant over _ (top (goal.at.row_end-end-requires c).Then-d-gt0) c.lesser_word-s-then-d-gt0.ensures c.leave.ensures)
+    (kept_out fit c.loop-e.invariant over _ (top (goal.at.row_end-end-requires c).Then-d-gt0) c.min-s-then-d-gt0.ensures c.leave.ensures)
     (same _ (omega arith) (omega arith)) (same _ (omega arith) (omega arith)) (same _ (omega arith) (omega arith)) in
     record { n_in_bounds = both.0; n_in_bounds_2 = both.1.0; d_le_n = both.1.1.0; by_index = both.1.1.1 }
 
 pub loop-e-smaller : goal.loop-e-smaller
 loop-e-smaller c =
     out_less _ _ _ _ _ _ _ _ _ (top (goal.at.loop-e-smaller c).Then-d-gt0)
-    (no_more c.requires.traverse_fit c.loop-e.invariant c.if-e-end.false _ (top (goal.at.loop-e-smaller c).Then-d-gt0) c.lesser_word-s-then-d-gt0.ensures
+    (no_more c.requires.traverse_fit c.loop-e.invariant c.if-e-end.false _ (top (goal.at.loop-e-smaller c).Then-d-gt0) c.min-s-then-d-gt0.ensures
     c.leave.ensures) _
 
 pub loop-e-preserved : goal.loop-e-preserved
 loop-e-preserved c =
-    let place : ℕ = c.args.base + 2 * c.args.n + (c.loop-e.d - 1) in
+    let place : ℕ = c.args.base + 2 * c.args.rows.k + (c.loop-e.d - 1) in
     let fits : get_or c.leave.new.work place 0 < 2 ^ 32 = omega arith in
-    going_out c.requires.traverse_fit c.loop-e.invariant c.if-e-end.false _ (top (goal.at.loop-e-preserved c).Then-d-gt0) c.lesser_word-s-then-d-gt0.ensures
-    c.leave.ensures c.lesser_word-s-then-d-gt0-2.ensures refl fits c.row_place-at.ensures c.row_end-end.ensures
-
-pub shape_of-work-else-d-gt0 : goal.shape_of-work-else-d-gt0
-shape_of-work-else-d-gt0 c = c.loop-e.invariant.frames.kept.long
+    going_out c.requires.traverse_fit c.loop-e.invariant c.if-e-end.false _ (top (goal.at.loop-e-preserved c).Then-d-gt0) c.min-s-then-d-gt0.ensures
+    c.leave.ensures c.min-s-then-d-gt0-2.ensures refl fits c.row_place-at.ensures c.row_end-end.ensures
 
 pub returns-else-d-gt0 : goal.returns-else-d-gt0
 returns-else-d-gt0 c =

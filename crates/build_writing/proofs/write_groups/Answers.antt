@@ -16,9 +16,6 @@ write_words-requires-2 c = let fit = c.requires in record { width = fit.width; c
 pub write_words-requires-3 : goal.write_words-requires-3
 write_words-requires-3 c = let fit = c.requires in record { width = fit.width; count_in_bounds = (omega (arith, fit_sited fit, fit.room), fit.levels_in) }
 
-pub overflow_add-l : goal.overflow_add-l
-overflow_add-l c = omega (arith, c.requires.small.1.1.0)
-
 pub write_words-requires-4 : goal.write_words-requires-4
 write_words-requires-4 c = let fit = c.requires in record { width = fit.width; count_in_bounds = (omega (arith, fit_sited fit, fit.room), fit.starts_in) }
 

@@ -14,9 +14,6 @@ three : (c : Else-z-eq2) → let a = c.args in a.at + a.w * 3 ≤ length a.out.n
 three c = let a = c.args in
     three_fit a.w a.at a.z a.s a.m a.e a.out.now c.requires.stride c.requires.z_in_bounds c.if-z-eq2.false
 
-pub overflow_add-second : goal.overflow_add-second
-overflow_add-second c = omega (arith, two (goal.at.overflow_add-second c).Start)
-
 pub put_at-requires : goal.put_at-requires
 put_at-requires c = record { width = c.requires.width; w_in_bounds = omega (arith, two (goal.at.put_at-requires c).Start) }
 
@@ -27,9 +24,6 @@ pub returns-then-z-eq2 : goal.returns-then-z-eq2
 returns-then-z-eq2 c =
     let a = c.args in
     label_pair a.w a.at a.z a.s a.m a.e a.out.now c.requires.stride c.requires.z_in_bounds _ _ c.if-z-eq2.true c.put_at.ensures c.put_at-then-z-eq2.ensures
-
-pub overflow_add-third : goal.overflow_add-third
-overflow_add-third c = omega (arith, three (goal.at.overflow_add-third c).Else-z-eq2)
 
 pub put_at-requires-2 : goal.put_at-requires-2
 put_at-requires-2 c = record { width = c.requires.width; w_in_bounds = omega (arith, two (goal.at.put_at-requires-2 c).Start, c.put_at.auto.out) }

@@ -11,9 +11,6 @@ use Rattle.build_writing.proofs.write_labelling.Goals.{Start}
 few : (s : Start) → s.args.z * s.args.k ≤ 3 * s.args.k
 few s = mul-le-mul_right s.args.k s.requires.stride.high
 
-pub overflow_mul-z : goal.overflow_mul-z
-overflow_mul-z c = omega (arith, few (goal.at.overflow_mul-z c).Start, c.requires.few)
-
 pub bytes_of-requires : goal.bytes_of-requires
 bytes_of-requires c = record { width = c.requires.width; count_bound = omega (arith, few (goal.at.bytes_of-requires c).Start, c.requires.few) }
 

@@ -1,11 +1,12 @@
 -- `chain::trace` meets its contract: the mark at the source's name says what a question says; on a yes the steps down marked groups are the chain.
-use mathlib.Core.Path.{sym, ◌∙◌}
+use mathlib.Core.Path.{refl, sym, ◌∙◌}
 use native.Mathlib.Omega.{arith}
 use borrow.Author.Tests.{eq-eqb, ne_eqb}
 use Rattle.stored.specs.Sections.{Six}
 use Rattle.stored.proofs.Contents.{stretch_of}
 use Rattle.stored.proofs.Read.{can_read}
-use Rattle.reach.proofs.Fitted.{names_fit, spots}
+use Rattle.reach.proofs.Fitted.{names_fit, spots, spot_low}
+use Rattle.chain_steps.specs.Steps.{next_in}
 use Rattle.chain.proofs.Shown.{shows_no, shows_yes}
 use Rattle.chain.proofs.Fitted.{Ways, but_labels, can_place, can_level, mark_says, trail_in, level_few, steps_are}
 use Rattle.chain.proofs.trace.Goals as goal
@@ -65,16 +66,29 @@ place_of-t-requires c = can_place c.requires.sound_bytes (given (goal.at.place_o
 pub num-lev-requires : goal.num-lev-requires
 num-lev-requires c = can_level c.requires.sound_bytes (given (goal.at.num-lev-requires c).After-children-children) c.requires.n_in_bounds.1.0 c.num-name.ensures.0 c.place_of-x.ensures
 
+pub invariant_of-rows : goal.invariant_of-rows
+invariant_of-rows c =
+    record { held = (spots c.requires.sound_bytes (given (goal.at.invariant_of-rows c).After-children-children) c.args.l.n (omega arith)).below.entries }
+
+pub invariant_of-show : goal.invariant_of-show
+invariant_of-show c =
+    record {
+      many = refl;
+      passed = (spots c.requires.sound_bytes (given (goal.at.invariant_of-show c).After-children-children) c.args.l.n (omega arith)).below.passed;
+    }
+
 pub show-requires : goal.show-requires
+unfolding next_in
 show-requires c =
     let yes = c.if-marks-name-ne1.false in
     record {
-      spots = spots c.requires.sound_bytes (given (goal.at.show-requires c).After-children-children) _ c.requires.n_in_bounds.0;
+      spots = record { name_low = spot_low c.requires.sound_bytes (given (goal.at.show-requires c).After-children-children) _ c.requires.n_in_bounds.0 };
       trail_in = trail_in c.requires.sound_bytes (given (goal.at.show-requires c).After-children-children) c.requires.n_in_bounds.1.0 c.requires.n_in_bounds.1.1 c.requires.exact (ways (goal.at.show-requires c).After-num-lev) yes;
       lev_le_vertex_bound = level_few c.requires.sound_bytes (given (goal.at.show-requires c).After-children-children) c.requires.n_in_bounds.1.0 c.requires.n_in_bounds.1.1 c.requires.exact (ways (goal.at.show-requires c).After-num-lev) yes;
     }
 
 pub returns : goal.returns
+unfolding next_in
 returns c =
     let yes = c.if-marks-name-ne1.false in
     shows_yes (sym (mark_says c.requires.sound_bytes (given (goal.at.returns c).After-children-children) c.requires.n_in_bounds.1.0 c.requires.n_in_bounds.1.1 c.requires.exact c.num-name.ensures.0) ∙ eq-eqb _ 1 yes)

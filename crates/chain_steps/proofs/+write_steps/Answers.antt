@@ -1,42 +1,33 @@
 -- `chain_steps::write_steps` meets its contract, by the measure beside this file.
-use Rattle.std.proofs.Common.{◌≡◌, ◌<◌, ℕ, length, get_or, arith}
-use Rattle.lineage.specs.Numbers.{numbers}
-use Rattle.stored.proofs.Read.{can_read, was_read}
+use Rattle.std.proofs.Common.{◌≡◌, ◌<◌, ℕ, length, arith}
 use Rattle.chain_steps.specs.Steps.{next_in}
 use Rattle.chain_steps.proofs.Steps.{room_one, trail_on, stopped_here, room_on, stopped_on}
-use Rattle.chain_steps.proofs.+write_steps.Goals.{After-num-name, After-lowest_marked-q}
+use Rattle.chain_steps.proofs.+write_steps.Goals.{After-get-name, After-lowest_marked-q}
 use Rattle.chain_steps.proofs.+write_steps.Goals as goal
 
--- the name that was read, for which there is room
-named : (t : ℕ) (c : After-num-name t) → (let a = c.args in c.num-name.result ≡ get_or (numbers a.w a.groups.now a.k) a.p 0)
-named t c = was_read c.requires.spots.groups_held c.requires.trail_in.low c.num-name.ensures.0
-
-fits : (t : ℕ) (c : After-num-name t) → c.args.at < length c.args.out.now
+-- there is room for the name that was read
+fits : (t : ℕ) (c : After-get-name t) → c.args.at < length c.args.out.now
 fits t c = room_one _ _ _ _ _ _ _ c.requires.p_in_bounds
 
 -- the lowest marked child
 chosen :
     (t : ℕ) (c : After-lowest_marked-q t)
-    → (let a = c.args in c.lowest_marked-q.result ≡ next_in a.w a.k a.c a.groups.now a.starts.now a.children.now a.marks.now a.p)
+    → (let a = c.args in c.lowest_marked-q.result ≡ next_in a.groups.now a.marks.now a.p)
 unfolding next_in
 chosen t c = c.lowest_marked-q.ensures
 
-pub num-name-requires : goal.num-name-requires
-num-name-requires t c = can_read c.requires.spots.groups_held c.requires.trail_in.low
+pub get-name-requires : goal.get-name-requires
+get-name-requires t c = omega (arith, c.requires.trail_in.low, c.args.groups.now.many)
 
 pub bounds-out-at : goal.bounds-out-at
-bounds-out-at t c = fits t (goal.at.bounds-out-at t c).After-num-name
+bounds-out-at t c = fits t (goal.at.bounds-out-at t c).After-get-name
 
 pub overflow_add-behind : goal.overflow_add-behind
-overflow_add-behind t c = omega (arith, fits t (goal.at.overflow_add-behind t c).After-num-name)
+overflow_add-behind t c = omega (arith, fits t (goal.at.overflow_add-behind t c).After-get-name)
 
 pub returns-then-p-t : goal.returns-then-p-t
 returns-then-p-t t c =
-    stopped_here c.requires.trail_in _ _ _ _ (named t (goal.at.returns-then-p-t t c).After-num-name) c.requires.p_in_bounds
-
-pub returns-then-lev-floor : goal.returns-then-lev-floor
-returns-then-lev-floor t c =
-    stopped_here c.requires.trail_in _ _ _ _ (named t (goal.at.returns-then-lev-floor t c).After-num-name) c.requires.p_in_bounds
+    stopped_here c.requires.trail_in _ _ _ _ c.get-name.ensures.0 c.requires.p_in_bounds
 
 pub write_steps-requires : goal.write_steps-requires
 write_steps-requires t c =
@@ -48,7 +39,7 @@ write_steps-requires t c =
         c.requires.spots,
         (
           trail_on T c.if-p-t.false is (omega arith),
-          room_on T _ c.args.floor _ c.args.out.now (named t P.After-num-name) c.requires.p_in_bounds c.if-p-t.false is (omega arith),
+          room_on T _ c.args.floor _ c.args.out.now c.get-name.ensures.0 c.requires.p_in_bounds c.if-p-t.false is (omega arith),
         ),
       ),
     )
@@ -56,5 +47,5 @@ write_steps-requires t c =
 pub returns : goal.returns
 returns t c =
     let P = goal.at.returns t c in
-    stopped_on c.requires.trail_in _ _ _ _ (named t P.After-num-name) c.requires.p_in_bounds c.if-p-t.false (chosen t P.After-lowest_marked-q) (omega arith) (omega arith)
+    stopped_on c.requires.trail_in _ _ _ _ c.get-name.ensures.0 c.requires.p_in_bounds c.if-p-t.false (chosen t P.After-lowest_marked-q) (omega arith) (omega arith)
     c.write_steps.ensures

@@ -7,7 +7,7 @@ use Rattle.chain_steps.proofs.count_steps.Goals as goal
 use Rattle.chain_steps.proofs.count_steps.Goals.{After-lowest_marked-place}
 
 chosen : (c : After-lowest_marked-place) → (let a = c.args in
-    c.lowest_marked-place.result ≡ next_in a.w a.k a.c a.groups.now a.starts.now a.children.now a.marks.now c.loop-place.place)
+    c.lowest_marked-place.result ≡ next_in a.groups.now a.marks.now c.loop-place.place)
 unfolding next_in
 chosen c = c.lowest_marked-place.ensures
 

@@ -8,15 +8,12 @@ use Rattle.chain_steps.proofs.write_chain.Goals.{After-lowest_marked-place}
 
 -- the lowest marked child of the place where the run stopped
 chosen : (m : After-lowest_marked-place) → (let a = m.args in
-    m.lowest_marked-place.result ≡ next_in a.w a.k a.c a.groups.now a.starts.now a.children.now a.marks.now m.write_steps-stop.result.place)
+    m.lowest_marked-place.result ≡ next_in a.groups.now a.marks.now m.write_steps-stop.result.place)
 unfolding next_in
 chosen m = m.lowest_marked-place.ensures
 
 pub loop-stop-init : goal.loop-stop-init
 loop-stop-init c = (c.requires.trail_in, left_all _ _)
-
-pub floor_of-requires : goal.floor_of-requires
-floor_of-requires c = tt
 
 pub write_steps-stop-requires : goal.write_steps-stop-requires
 write_steps-stop-requires c =

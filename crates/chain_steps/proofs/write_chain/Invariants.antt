@@ -5,8 +5,8 @@ use Rattle.chain_steps.specs.Steps.{TrailIn, steps_in, Left}
 use Rattle.chain_steps.proofs.write_chain.Given as goal
 
 abbrev pub invariant-loop-stop : goal.invariant-loop-stop
-invariant-loop-stop l = TrailIn l.w l.k l.c l.groups l.starts l.children l.marks l.t l.place l.level
-    × Left l.initial.out 0 (steps_in l.w l.k l.c l.groups l.starts l.children l.marks l.t (suc l.lev) l.x) l.out l.at (steps_in l.w l.k l.c l.groups l.starts l.children l.marks l.t (suc l.level) l.place)
+invariant-loop-stop l = TrailIn l.groups l.marks l.t l.place l.level
+    × Left l.initial.out 0 (steps_in l.groups l.marks l.t (suc l.lev) l.x) l.out l.at (steps_in l.groups l.marks l.t (suc l.level) l.place)
 
 abbrev pub decreases-loop-stop : goal.decreases-loop-stop
 decreases-loop-stop l = l.level

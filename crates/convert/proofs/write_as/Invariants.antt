@@ -1,12 +1,7 @@
 -- `convert::write_as` meets its contract. The invariant: the header and the first i sections stand written, each where the other layout has it.
 use mathlib.Core.Path.{◌≡◌}
-use Prim.Native.Nat.{◌-◌, ◌≤◌}
-use lib.ListN.{length}
 use Rattle.convert.proofs.Written.{sections_put}
 use Rattle.convert.proofs.write_as.Given as goal
 
 abbrev pub invariant-loop-i : goal.invariant-loop-i
-invariant-loop-i l = (l.i ≤ 6) × ((length l.out ≡ length l.initial.out) × (l.out ≡ sections_put l.index l.to l.initial.out l.i))
-
-abbrev pub decreases-loop-i : goal.decreases-loop-i
-decreases-loop-i l = 6 - l.i
+invariant-loop-i l = l.out ≡ sections_put l.index l.to l.initial.out l.i

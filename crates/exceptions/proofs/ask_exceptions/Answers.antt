@@ -1,114 +1,57 @@
--- `exceptions::ask_exceptions` meets its contract: each return is where its checks stop, and behind 14 the question by lists that belong decides.
-use mathlib.Core.Bool.{not}
+-- `exceptions::ask_exceptions` meets its contract: one of the checks up to 20 stops it, or 14, or the question by lists that belong decides.
 use mathlib.Core.Path.{sym, ap, ◌∙◌}
-use mathlib.Core.List.{List}
-use Prim.Native.Nat.{ℕ, ◌≤◌}
-use native.Mathlib.Omega.{arith}
 use lib.ListN.{length}
-use Rattle.lineage.specs.Calls.{answered, host}
-use Rattle.numbers.proofs.Cleared.{cleared_again}
+use Rattle.std.proofs.lemmas.Result.{err_from_is_err_and}
+use Rattle.lineage.specs.Calls.{answered}
 use Rattle.stored_header.specs.Header.{header_outcome}
 use Rattle.stored_header.proofs.Laid.{vertex_out, vertex_in}
-use Rattle.stored_header.proofs.Admitted.{Admits, admitted_laid, admitted_room}
-use Rattle.open.proofs.Checks.{contents_applies}
-use Rattle.sound_places.specs.Lent.{SoundBytes}
-use Rattle.exceptions.proofs.Refusals.{asks_refused, asks_at, belongs_not, belongs, belonging, vertices_few}
+use Rattle.exceptions.proofs.Refusals.{AdmitsLists, asks_refused, asks_at, sound_given, groups_few, listed_passed, listed_sound, listed_belong}
 use Rattle.exceptions.proofs.ask_exceptions.Goals as goal
-use Rattle.exceptions.proofs.ask_exceptions.Goals.{After-exceptions_match, Else-not-contents_sound, In-Passed}
+use Rattle.exceptions.proofs.ask_exceptions.Goals.{In_ok-l}
 
-admits : (a : In-Passed) → let s = a.args in Admits host s.index.now (length s.marks.now) 0 a.in-Passed.l
-admits a = record { passes = sym (ap header_outcome a.in-Passed.is) ∙ a.admit.ensures }
+admits : (a : In_ok-l) → let s = a.args in AdmitsLists s.index.now s.lists.now (length s.marks.now) a.in_ok-l.l
+admits a = record { passes = sym (ap header_outcome a.in_ok-l.was) ∙ a.admit_lists.ensures.result_value }
 
-sound : (e : Else-not-contents_sound) → SoundBytes e.args.index.now e.in-Passed.l
-sound e = record {
-  laid = admitted_laid (record { passes = sym (ap header_outcome e.in-Passed.is) ∙ e.admit.ensures });
-  contents = sym e.contents_sound.ensures.value ∙ e.if-not-contents_sound.false;
-}
-
-abbrev bytes : (m : After-exceptions_match) → List ℕ
-bytes m = m.args.index.now
-
-abbrev lists : (m : After-exceptions_match) → List ℕ
-lists m = m.args.lists.now
-
-groups_few : (e : Else-not-contents_sound) → e.in-Passed.l.k ≤ 4096
-groups_few e =
-    let A : Admits host e.args.index.now (length e.args.marks.now) 0 e.in-Passed.l = record { passes = sym (ap header_outcome e.in-Passed.is) ∙ e.admit.ensures } in
-    omega (arith, vertices_few A, (admitted_laid A).groups)
-
-pub returns-in-Refused : goal.returns-in-Refused
-returns-in-Refused c =
-    let both = asks_refused _ c.args.marks.now _ _ _ (sym (ap header_outcome c.in-Refused.is) ∙ c.admit.ensures) in
+pub returns-in_err-l : goal.returns-in_err-l
+returns-in_err-l c =
+    let from = err_from_is_err_and c.from_residual.result c.from_residual.ensures.1 in
     record {
-      result_value = both.0;
-      marks_after = both.1;
-    }
-
-pub contents_sound-requires : goal.contents_sound-requires
-contents_sound-requires c = let A = admits (goal.at.contents_sound-requires c).In-Passed in record { laid = admitted_laid A; n_in_bounds = admitted_room A }
-
-pub returns-then-not-contents_sound : goal.returns-then-not-contents_sound
-returns-then-not-contents_sound c =
-    let A = admits (goal.at.returns-then-not-contents_sound c).In-Passed in
-    let both = asks_at _ _ _ _ _ A 0 (contents_applies (admitted_laid A) c.contents_sound.ensures.value ∙ (ap not c.if-not-contents_sound.true)) c.contents_sound.ensures.marks_after in
-    record {
-      result_value = both.0;
-      marks_after = both.1;
-    }
-
-pub exceptions_match-requires : goal.exceptions_match-requires
-exceptions_match-requires c =
-    let A = admits (goal.at.exceptions_match-requires c).In-Passed in
-    record {
-      sound_bytes = sound (goal.at.exceptions_match-requires c).Else-not-contents_sound;
-      n_in_bounds = (omega (arith, admitted_room A), cleared_again _ _ c.contents_sound.ensures.marks_after);
-      k_bound = groups_few (goal.at.exceptions_match-requires c).Else-not-contents_sound;
-    }
-
-pub returns-then-not-exceptions_match : goal.returns-then-not-exceptions_match
-returns-then-not-exceptions_match c =
-    let A = admits (goal.at.returns-then-not-exceptions_match c).In-Passed in
-    let both = asks_at _ _ _ _ _ A 1 (contents_applies (admitted_laid A) c.contents_sound.ensures.value ∙ (ap not c.if-not-contents_sound.false), belongs_not (bytes (goal.at.returns-then-not-exceptions_match c).After-exceptions_match) (lists (goal.at.returns-then-not-exceptions_match c).After-exceptions_match) c.exceptions_match.ensures.value (ap not c.if-not-exceptions_match.true)) (c.exceptions_match.ensures.marks_unchanged ∙ c.contents_sound.ensures.marks_after) in
-    record {
-      result_value = both.0;
-      marks_after = both.1;
+      result_value =
+          rw (from.1, from.2) (asks_refused _ c.args.marks.now _ _ _ (sym (ap header_outcome c.in_err-l.was) ∙ c.admit_lists.ensures.result_value));
+      marks_after = c.admit_lists.ensures.marks_after;
     }
 
 pub returns-then-l-u : goal.returns-then-l-u
 returns-then-l-u c =
-    let A = admits (goal.at.returns-then-l-u c).In-Passed in
-    let L = admitted_laid A in
-    let both = asks_at _ _ _ _ _ A 2 (contents_applies L c.contents_sound.ensures.value ∙ (ap not c.if-not-contents_sound.false), (belongs (bytes (goal.at.returns-then-l-u c).After-exceptions_match) (lists (goal.at.returns-then-l-u c).After-exceptions_match) c.exceptions_match.ensures.value (ap not c.if-not-exceptions_match.false), vertex_out L c.if-l-u.true)) (c.exceptions_match.ensures.marks_unchanged ∙ c.contents_sound.ensures.marks_after) in
+    let A = admits (goal.at.returns-then-l-u c).In_ok-l in
     record {
-      result_value = both.0;
-      marks_after = both.1;
+      result_value = asks_at _ c.args.marks.now _ _ _ (listed_passed A) 0 (vertex_out (sound_given (listed_sound A)).laid c.if-l-u.true);
+      marks_after = c.admit_lists.ensures.marks_after;
     }
 
 pub returns-then-l-v : goal.returns-then-l-v
 returns-then-l-v c =
-    let A = admits (goal.at.returns-then-l-v c).In-Passed in
-    let L = admitted_laid A in
-    let both = asks_at _ _ _ _ _ A 3 (contents_applies L c.contents_sound.ensures.value ∙ (ap not c.if-not-contents_sound.false), (belongs (bytes (goal.at.returns-then-l-v c).After-exceptions_match) (lists (goal.at.returns-then-l-v c).After-exceptions_match) c.exceptions_match.ensures.value (ap not c.if-not-exceptions_match.false), (vertex_in L c.if-l-u.false, vertex_out L c.if-l-v.true))) (c.exceptions_match.ensures.marks_unchanged ∙ c.contents_sound.ensures.marks_after) in
+    let A = admits (goal.at.returns-then-l-v c).In_ok-l in
+    let L = (sound_given (listed_sound A)).laid in
     record {
-      result_value = both.0;
-      marks_after = both.1;
+      result_value = asks_at _ c.args.marks.now _ _ _ (listed_passed A) 1 (vertex_in L c.if-l-u.false, vertex_out L c.if-l-v.true);
+      marks_after = c.admit_lists.ensures.marks_after;
     }
 
 pub says-requires : goal.says-requires
 says-requires c =
+    let A = admits (goal.at.says-requires c).In_ok-l in
     record {
-      sound_bytes = sound (goal.at.says-requires c).Else-not-contents_sound;
-      u_lt_n = (c.if-l-u.false, (c.if-l-v.false, groups_few (goal.at.says-requires c).Else-not-contents_sound));
-      lists_value = belonging (bytes (goal.at.says-requires c).After-exceptions_match) (lists (goal.at.says-requires c).After-exceptions_match) c.exceptions_match.ensures.value (ap not c.if-not-exceptions_match.false);
+      sound_bytes = sound_given (listed_sound A);
+      u_lt_n = (c.if-l-u.false, (c.if-l-v.false, groups_few (listed_sound A)));
+      lists_value = listed_belong A;
     }
 
 pub returns : goal.returns
 returns c =
-    let A = admits (goal.at.returns c).In-Passed in
-    let L = admitted_laid A in
-    let (a, left) =
-    asks_at _ _ _ _ _ A 4 (
-      contents_applies L c.contents_sound.ensures.value ∙ (ap not c.if-not-contents_sound.false),
-      (belongs (bytes (goal.at.returns c).After-exceptions_match) (lists (goal.at.returns c).After-exceptions_match) c.exceptions_match.ensures.value (ap not c.if-not-exceptions_match.false), (vertex_in L c.if-l-u.false, (vertex_in L c.if-l-v.false, tt))),
-    )
-    (c.exceptions_match.ensures.marks_unchanged ∙ c.contents_sound.ensures.marks_after) in record { result_value = ap answered c.says.ensures ∙ a; marks_after = left }
+    let A = admits (goal.at.returns c).In_ok-l in
+    let L = (sound_given (listed_sound A)).laid in
+    record {
+      result_value = ap answered c.says.ensures ∙ asks_at _ c.args.marks.now _ _ _ (listed_passed A) 2 (vertex_in L c.if-l-u.false, (vertex_in L c.if-l-v.false, tt));
+      marks_after = c.admit_lists.ensures.marks_after;
+    }

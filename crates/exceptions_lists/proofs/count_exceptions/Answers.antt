@@ -1,5 +1,5 @@
 -- `exceptions_lists::count_exceptions` meets its contract, by the invariant beside this file.
-use mathlib.Core.Path.{◌≡◌, refl, ap, ◌∙◌}
+use mathlib.Core.Path.{◌≡◌, refl, ◌∙◌}
 use Prim.Native.Nat.{◌+◌, ◌≤◌}
 use native.Mathlib.Omega.{arith}
 use lib.ListN.{length}
@@ -7,25 +7,16 @@ use Rattle.lineage.specs.Calls.{index_in}
 use Rattle.numbers.specs.Bounds.{vertex_bound}
 use Rattle.exceptions_marks.proofs.Fitted.{groups_many}
 use Rattle.exceptions_lists.specs.Lists.{entries_to}
-use Rattle.exceptions_lists.proofs.Ends.{entries_none, entries_more, entries_count, entries_few, marks_still}
+use Rattle.exceptions_lists.proofs.Ends.{entries_none, entries_more, entries_count, entries_few}
 use Rattle.exceptions_lists.proofs.count_exceptions.Goals as goal
 use Rattle.exceptions_lists.proofs.count_exceptions.Goals.{After-count_row-count}
 
 -- one list more
 more : (c : After-count_row-count) → c.loop-x.count + c.count_row-count.result ≡ entries_to (index_in c.args.index.now) (c.loop-x.x + 1)
-more c = omega (arith, c.count_row-count.ensures.value, c.loop-x.invariant.1.0, entries_more (index_in c.args.index.now) c.loop-x.x)
+more c = omega (arith, c.count_row-count.ensures.value, c.loop-x.invariant.0, entries_more (index_in c.args.index.now) c.loop-x.x)
 
 pub loop-x-init : goal.loop-x-init
-loop-x-init c = (omega arith, (omega (arith, entries_none (index_in c.args.index.now)), refl))
-
-pub count_row-count-requires : goal.count_row-count-requires
-count_row-count-requires c =
-    let m = marks_still _ _ c.loop-x.invariant.1.1 c.requires.n_in_bounds in
-    record {
-      sound_bytes = c.requires.sound_bytes;
-      n_in_bounds = (m.0, c.loop-x-test.true);
-      marks_value = m.1;
-    }
+loop-x-init c = (omega (arith, entries_none (index_in c.args.index.now)), refl)
 
 pub overflow_add-count : goal.overflow_add-count
 overflow_add-count c =
@@ -38,22 +29,10 @@ overflow_add-count c =
       entries_few (index_in c.args.index.now) (omega (arith, groups_many c.requires.sound_bytes, few)) (c.loop-x.x + 1),
     )
 
-pub overflow_add-x : goal.overflow_add-x
-overflow_add-x c = omega (arith, c.loop-x-test.true, c.requires.sound_bytes.laid)
-
-pub loop-x-smaller : goal.loop-x-smaller
-loop-x-smaller c = omega (arith, c.loop-x-test.true)
-
 pub loop-x-preserved : goal.loop-x-preserved
-loop-x-preserved c = (omega (arith, c.loop-x-test.true), (more (goal.at.loop-x-preserved c).After-count_row-count, c.count_row-count.ensures.marks_unchanged ∙ c.loop-x.invariant.1.1))
+loop-x-preserved c = (more (goal.at.loop-x-preserved c).After-count_row-count, c.count_row-count.ensures.marks_unchanged ∙ c.loop-x.invariant.1)
 
-pub shape_of-marks : goal.shape_of-marks
-shape_of-marks c = ap length c.loop-x.invariant.1.1
-
-pub returns : goal.returns
-returns c =
-    let end : c.loop-x.x ≡ length (index_in c.args.index.now).groups = omega (arith, c.loop-x.invariant.0, c.loop-x-test.false, groups_many c.requires.sound_bytes) in
-    record {
-      value = c.loop-x.invariant.1.0 ∙ entries_count (index_in c.args.index.now) c.loop-x.x end;
-      marks_unchanged = c.loop-x.invariant.1.1;
-    }
+pub returns-clause-value : goal.returns-clause-value
+returns-clause-value c =
+    let end : c.loop-x.x ≡ length (index_in c.args.index.now).groups = omega (arith, c.loop-x.auto.x-end, c.loop-x-test.false, groups_many c.requires.sound_bytes) in
+    c.loop-x.invariant.0 ∙ entries_count (index_in c.args.index.now) c.loop-x.x end

@@ -1,11 +1,7 @@
 -- `exceptions_marks::contains` meets its contract. The invariant: y's outer interval lies in x's in every labelling passed.
-use Prim.Native.Nat.{◌-◌}
 use Rattle.laws.proofs.Passed.{Passed}
 use Rattle.exceptions_marks.proofs.Containment.{lies}
 use Rattle.exceptions_marks.proofs.contains.Given as goal
 
 abbrev pub invariant-loop-l : goal.invariant-loop-l
 invariant-loop-l l = Passed (lies l.w l.z l.k l.labels l.x l.y) l.d l.l
-
-abbrev pub decreases-loop-l : goal.decreases-loop-l
-decreases-loop-l l = l.d - l.l

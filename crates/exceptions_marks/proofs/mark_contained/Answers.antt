@@ -9,8 +9,7 @@ use Rattle.stored.specs.Sections.{Six}
 use Rattle.stored.proofs.Contents.{stretch_of}
 use Rattle.reach.specs.Marks.{first_labels}
 use Rattle.reach.proofs.Fitted.{index_sound}
-use Rattle.exceptions_marks.proofs.Containment.{tuples_held}
-use Rattle.exceptions_marks.proofs.Fitted.{with_labels_lem, first_in, places_many, room_there, test_was, labelled, name_read, name_low, name_was, s_was, s_least, e_was, ranks_rise, e_low, place_read, place_low, place_was}
+use Rattle.exceptions_marks.proofs.Fitted.{with_labels_lem, first_in, places_many, room_there, test_was, name_read, name_low, name_was, s_was, s_least, e_was, ranks_rise, e_low, place_read, place_low, place_was}
 use Rattle.exceptions_marks.proofs.Looking.{looking_none, looking_over, looking_more, looking_count, looking_all}
 use Rattle.exceptions_marks.proofs.mark_contained.Goals as goal
 use Rattle.exceptions_marks.proofs.mark_contained.Goals.{After-by_rank-places, After-e_of, After-loop-i, After-num-name, After-num-y, After-s_of-from, In-loop-i, then-is_exception, else-is_exception}
@@ -57,7 +56,7 @@ named_low : (n : After-num-name) → n.num-y.result < n.args.l.k → n.num-name.
 named_low n b =
     let O = n.requires.sound_bytes in
     name_low O (with_labels_lem O.laid n.groups-groups.ensures n.labels-labels.ensures) b n.num-name.ensures.0
-    (omega (arith, n.requires.n_in_bounds.0, n.loop-i.invariant.1.1.long))
+    (omega (arith, n.requires.n_in_bounds.0, n.loop-i.invariant.1.long))
 
 -- all ranks are passed
 starts : (a : After-e_of) → let s = a.args in
@@ -81,35 +80,18 @@ ends c =
       e_was O G T b c.e_of.ensures.0,
       ranks_rise O G T b c.s_of-from.ensures.0 c.e_of.ensures.0,
       s_least O G T b c.s_of-from.ensures.0,
-      c.loop-i.invariant.0,
+      c.loop-i.auto.i-end,
       c.loop-i-test.false,
     )
 
-pub s_of-from-requires : goal.s_of-from-requires
-s_of-from-requires c =
-    record {
-      tuples = tuples_held (labelled c.requires.sound_bytes (given (goal.at.s_of-from-requires c).After-by_rank-places)) 0 c.tuples-tuples.ensures;
-      p_lt_k = c.requires.n_in_bounds.1;
-    }
-
 pub overflow_sub-from : goal.overflow_sub-from
 overflow_sub-from c = some_rank (goal.at.overflow_sub-from c).After-s_of-from
-
-pub e_of-requires : goal.e_of-requires
-e_of-requires c =
-    record {
-      tuples = tuples_held (labelled c.requires.sound_bytes (given (goal.at.e_of-requires c).After-by_rank-places)) 0 c.tuples-tuples.ensures;
-      p_lt_k = c.requires.n_in_bounds.1;
-    }
 
 pub overflow_sub-ranks : goal.overflow_sub-ranks
 overflow_sub-ranks c = omega (arith, rise (goal.at.overflow_sub-ranks c).After-e_of, some_rank (goal.at.overflow_sub-ranks c).After-s_of-from)
 
 pub loop-i-init : goal.loop-i-init
-loop-i-init c = (omega arith, (omega arith, looking_none _ _ _ _ _))
-
-pub overflow_add-from : goal.overflow_add-from
-overflow_add-from c = omega (arith, in_rank (goal.at.overflow_add-from c).In-loop-i, c.requires.sound_bytes.laid)
+loop-i-init c = (omega arith, looking_none _ _ _ _ _)
 
 pub num-y-requires : goal.num-y-requires
 num-y-requires c = place_read c.requires.sound_bytes (given (goal.at.num-y-requires c).After-by_rank-places) c.by_rank-places.ensures (in_rank (goal.at.num-y-requires c).In-loop-i)
@@ -120,24 +102,12 @@ num-name-requires c = name_read c.requires.sound_bytes (given (goal.at.num-name-
 pub bounds-marks-name : goal.bounds-marks-name
 bounds-marks-name c = named_low (goal.at.bounds-marks-name c).After-num-name (low (goal.at.bounds-marks-name c).After-num-y (in_rank (goal.at.bounds-marks-name c).In-loop-i))
 
-pub is_exception-requires : goal.is_exception-requires
-is_exception-requires c =
-    record {
-      labellings = labelled c.requires.sound_bytes (given (goal.at.is_exception-requires c).After-by_rank-places);
-      x_lt_k = (c.requires.n_in_bounds.1, low (goal.at.is_exception-requires c).After-num-y (in_rank (goal.at.is_exception-requires c).In-loop-i));
-    }
+pub is_exception-requires-clause-x_lt_k : goal.is_exception-requires-clause-x_lt_k
+is_exception-requires-clause-x_lt_k c =
+    (c.requires.n_in_bounds.1, low (goal.at.is_exception-requires-clause-x_lt_k c).After-num-y (in_rank (goal.at.is_exception-requires-clause-x_lt_k c).In-loop-i))
 
 pub bounds-marks-name-then-is_exception : goal.bounds-marks-name-then-is_exception
 bounds-marks-name-then-is_exception c = named_low (goal.at.bounds-marks-name-then-is_exception c).After-num-name (low (goal.at.bounds-marks-name-then-is_exception c).After-num-y (in_rank (goal.at.bounds-marks-name-then-is_exception c).In-loop-i))
-
-pub overflow_add-count : goal.overflow_add-count
-overflow_add-count c = omega (arith, c.loop-i.invariant.1.0, in_rank (goal.at.overflow_add-count c).In-loop-i, c.requires.sound_bytes.laid)
-
-pub overflow_add-i : goal.overflow_add-i
-overflow_add-i c = omega (arith, in_rank (goal.at.overflow_add-i c).In-loop-i, c.requires.sound_bytes.laid)
-
-pub loop-i-smaller : goal.loop-i-smaller
-loop-i-smaller c = omega (arith, c.loop-i-test.true)
 
 pub loop-i-preserved : goal.loop-i-preserved
 loop-i-preserved c =
@@ -145,7 +115,7 @@ loop-i-preserved c =
     let S = index_sound O in
     let m = first_in O in
     let room = room_there O c.requires.n_in_bounds.0 in
-    let K = c.loop-i.invariant.1.1 in
+    let K = c.loop-i.invariant.1 in
     let h = in_rank (goal.at.loop-i-preserved c).In-loop-i in
     let is = place_was O (given (goal.at.loop-i-preserved c).After-by_rank-places) c.by_rank-places.ensures h c.num-y.ensures.0 in
     let named = name_was O (given (goal.at.loop-i-preserved c).After-by_rank-places) (low (goal.at.loop-i-preserved c).After-num-y (in_rank (goal.at.loop-i-preserved c).In-loop-i)) c.num-name.ensures.0 in
@@ -153,19 +123,18 @@ loop-i-preserved c =
     elim c.if-is_exception.branch [
       | then-is_exception w ↦
           rw (w.marks-is, w.count-is)
-          (omega (arith, c.loop-i-test.true), (omega (arith, c.loop-i.invariant.1.0), looking_more S m c.requires.reaching room K (omega (arith, h, places_many O)) is named test w.if-is_exception.true))
+          (omega (arith, c.loop-i.invariant.0), looking_more S m c.requires.reaching room K (omega (arith, h, places_many O)) is named test w.if-is_exception.true)
       | else-is_exception w ↦
           rw (w.marks-is, w.count-is)
-          (omega (arith, c.loop-i-test.true), (omega (arith, c.loop-i.invariant.1.0), looking_over S m c.requires.reaching room K (omega (arith, h, places_many O)) is named test w.if-is_exception.false))
+          (omega (arith, c.loop-i.invariant.0), looking_over S m c.requires.reaching room K (omega (arith, h, places_many O)) is named test w.if-is_exception.false)
     ]
 
-pub shape_of-marks : goal.shape_of-marks
-shape_of-marks c = c.loop-i.invariant.1.1.long
-
-pub returns : goal.returns
-returns c =
+pub returns-clause-value : goal.returns-clause-value
+returns-clause-value c =
     let O = c.requires.sound_bytes in
-    record {
-      value = looking_count (index_sound O) (first_in O) c.requires.reaching (room_there O c.requires.n_in_bounds.0) c.loop-i.invariant.1.1 (omega (arith, c.requires.n_in_bounds.1, places_many O)) (starts (goal.at.returns c).After-e_of) (ends (goal.at.returns c).After-loop-i);
-      excepting = looking_all (index_sound O) (first_in O) c.requires.reaching (room_there O c.requires.n_in_bounds.0) c.loop-i.invariant.1.1 (omega (arith, c.requires.n_in_bounds.1, places_many O)) (starts (goal.at.returns c).After-e_of) (ends (goal.at.returns c).After-loop-i);
-    }
+    looking_count (index_sound O) (first_in O) c.requires.reaching (room_there O c.requires.n_in_bounds.0) c.loop-i.invariant.1 (omega (arith, c.requires.n_in_bounds.1, places_many O)) (starts (goal.at.returns-clause-value c).After-e_of) (ends (goal.at.returns-clause-value c).After-loop-i)
+
+pub returns-clause-excepting : goal.returns-clause-excepting
+returns-clause-excepting c =
+    let O = c.requires.sound_bytes in
+    looking_all (index_sound O) (first_in O) c.requires.reaching (room_there O c.requires.n_in_bounds.0) c.loop-i.invariant.1 (omega (arith, c.requires.n_in_bounds.1, places_many O)) (starts (goal.at.returns-clause-excepting c).After-e_of) (ends (goal.at.returns-clause-excepting c).After-loop-i)

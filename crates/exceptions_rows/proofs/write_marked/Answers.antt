@@ -1,92 +1,44 @@
 -- `exceptions_rows::write_marked` meets its contract, by the invariant beside this file.
-use mathlib.Core.Bool.{true}
-use mathlib.Core.Path.{◌≡◌, refl}
-use Prim.Native.Nat.{◌+◌, ◌*◌, ◌^◌, ◌-◌, ◌≤◌, ◌<◌}
+use Prim.Native.Nat.{◌+◌, ◌*◌, ◌≤◌, ◌<◌}
 use native.Mathlib.Omega.{arith}
 use lib.ListN.{length}
 use Rattle.lineage.specs.Calls.{index_in}
-use Rattle.laws_exceptions.specs.Exceptions.{is_exception}
-use Rattle.stored.specs.Sections.{Six}
-use Rattle.stored.proofs.Contents.{stretch_of, with_rows}
-use Rattle.exceptions_marks.proofs.Fitted.{groups_many, name_read, name_low}
-use Rattle.exceptions_rows.proofs.Given.{telling, entry_here, is_excepted, not_excepted}
+use Rattle.exceptions_marks.proofs.Fitted.{groups_many}
+use Rattle.exceptions_rows.proofs.Given.{told_entry, told_none}
 use Rattle.exceptions_rows.proofs.Putting.{putting_none, putting_over, putting_fits, putting_more, putting_all}
 use Rattle.exceptions_rows.proofs.write_marked.Goals as goal
-use Rattle.exceptions_rows.proofs.write_marked.Goals.{After-labels-labels, In-loop-y, Then-marks-name-eq-EXCEPTED, then-marks-name-eq-EXCEPTED, else-marks-name-eq-EXCEPTED}
-
-given : (a : After-labels-labels) → let L = a.requires.sound_bytes.laid in
-    Six a.args.index.now a.args.l (stretch_of L 0) a.groups-groups.result.now (stretch_of L 2) a.starts-starts.result.now
-    a.children-children.result.now a.labels-labels.result.now
-given a = with_rows a.requires.sound_bytes.laid a.groups-groups.ensures a.labels-labels.ensures a.starts-starts.ensures a.children-children.ensures
-
--- the place at hand is an exception, and there is room for its entry
-excepted : (t : Then-marks-name-eq-EXCEPTED) → let s = t.args in
-    is_exception (index_in s.index.now) s.x t.loop-y.y ≡ true
-excepted t = is_excepted t.requires.sound_bytes ((with_rows t.requires.sound_bytes.laid t.groups-groups.ensures t.labels-labels.ensures t.starts-starts.ensures t.children-children.ensures)) t.loop-y-test.true t.num-name.ensures.0 t.requires.n_in_bounds.1.1 t.if-marks-name-eq-EXCEPTED.true
+use Rattle.exceptions_rows.proofs.write_marked.Goals.{In-loop-y, In-Some, in-Some, in_default}
 
 in_groups : (i : In-loop-y) → i.loop-y.y < length (index_in i.args.index.now).groups
 in_groups i = omega (arith, i.loop-y-test.true, groups_many i.requires.sound_bytes)
 
-fits : (t : Then-marks-name-eq-EXCEPTED) → 4 * t.loop-y.at + 4 ≤ length t.loop-y.out
-fits t = putting_fits t.requires.x_in_bounds t.loop-y.invariant.1 (excepted t) (omega (arith, t.loop-y-test.true, groups_many t.requires.sound_bytes))
-
--- so its number is no more than a length can be
-few : (t : Then-marks-name-eq-EXCEPTED) → 4 * t.loop-y.at < 2 ^ 64 - 4
-few t = omega (arith, fits t, t.loop-y.invariant.1.long)
+-- there is room for the entry at hand, so its number is no more than a length can be
+fits : (t : In-Some) → 4 * t.loop-y.at + 4 ≤ length t.loop-y.out
+fits t =
+    putting_fits t.requires.x_in_bounds t.loop-y.invariant (told_entry _ _ _ t.entry_at.ensures t.in-Some.is).0
+    (omega (arith, t.loop-y-test.true, groups_many t.requires.sound_bytes))
 
 pub loop-y-init : goal.loop-y-init
-loop-y-init c = (omega arith, putting_none _ _ _ _)
-
-pub num-name-requires : goal.num-name-requires
-num-name-requires c = name_read c.requires.sound_bytes (given (goal.at.num-name-requires c).After-labels-labels) c.loop-y-test.true
-
-pub bounds-marks-name : goal.bounds-marks-name
-bounds-marks-name c =
-    name_low c.requires.sound_bytes (given (goal.at.bounds-marks-name c).After-labels-labels) c.loop-y-test.true c.num-name.ensures.0 c.requires.n_in_bounds.0
-
-pub entry_of-v-requires : goal.entry_of-v-requires
-entry_of-v-requires c =
-    record {
-      telling = telling c.requires.sound_bytes (given (goal.at.entry_of-v-requires c).After-labels-labels);
-      x_lt_k = (c.requires.n_in_bounds.1.0, c.loop-y-test.true);
-    }
+loop-y-init c = putting_none _ _ _ _
 
 pub overflow_mul-at : goal.overflow_mul-at
-overflow_mul-at c = omega (arith, few (goal.at.overflow_mul-at c).Then-marks-name-eq-EXCEPTED)
+overflow_mul-at c = omega (arith, fits (goal.at.overflow_mul-at c).In-Some)
 
-pub put_at-requires : goal.put_at-requires
-put_at-requires c =
-    record {
-      width = record { low = omega arith; high = omega arith; even = refl };
-      w_in_bounds = fits (goal.at.put_at-requires c).Then-marks-name-eq-EXCEPTED;
-    }
+pub put_at-requires-clause-w_in_bounds : goal.put_at-requires-clause-w_in_bounds
+put_at-requires-clause-w_in_bounds c = fits (goal.at.put_at-requires-clause-w_in_bounds c).In-Some
 
 pub overflow_add-at : goal.overflow_add-at
-overflow_add-at c = omega (arith, few (goal.at.overflow_add-at c).Then-marks-name-eq-EXCEPTED)
-
-pub overflow_add-y : goal.overflow_add-y
-overflow_add-y c = omega (arith, c.loop-y-test.true, c.requires.sound_bytes.laid)
-
-pub loop-y-smaller : goal.loop-y-smaller
-loop-y-smaller c = omega (arith, c.loop-y-test.true)
+overflow_add-at c = omega (arith, fits (goal.at.overflow_add-at c).In-Some)
 
 pub loop-y-preserved : goal.loop-y-preserved
 loop-y-preserved c =
-    elim c.if-marks-name-eq-EXCEPTED.branch [
-      | then-marks-name-eq-EXCEPTED w ↦ rw (w.out-is, w.at-is) (
-        omega (arith, c.loop-y-test.true),
-        putting_more c.requires.x_in_bounds c.loop-y.invariant.1 (is_excepted c.requires.sound_bytes (given (goal.at.loop-y-preserved c).After-labels-labels) c.loop-y-test.true c.num-name.ensures.0 c.requires.n_in_bounds.1.1 w.if-marks-name-eq-EXCEPTED.true) (in_groups (goal.at.loop-y-preserved c).In-loop-y)
-            (entry_here c.requires.sound_bytes (given (goal.at.loop-y-preserved c).After-labels-labels) _ _ w.entry_of-v.ensures) w.put_at.ensures w.put_at.auto.out,
-      )
-      | else-marks-name-eq-EXCEPTED w ↦ rw (w.out-is, w.at-is) (
-        omega (arith, c.loop-y-test.true),
-        putting_over c.requires.x_in_bounds c.loop-y.invariant.1 (not_excepted c.requires.sound_bytes (given (goal.at.loop-y-preserved c).After-labels-labels) c.loop-y-test.true c.num-name.ensures.0 c.requires.n_in_bounds.1.1 w.if-marks-name-eq-EXCEPTED.false),
-      )
+    elim c.match-entry_at.branch [
+      | in-Some w ↦
+          let (t, is) = told_entry _ _ _ c.entry_at.ensures w.in-Some.is in
+          rw (w.out-is, w.at-is)
+          (putting_more c.requires.x_in_bounds c.loop-y.invariant t (in_groups (goal.at.loop-y-preserved c).In-loop-y) is w.put_at.ensures w.put_at.auto.out)
+      | in_default w ↦ rw (w.out-is, w.at-is) (putting_over c.requires.x_in_bounds c.loop-y.invariant (told_none _ _ _ c.entry_at.ensures w.in_default.not-Some))
     ]
 
-pub shape_of-out : goal.shape_of-out
-shape_of-out c = c.loop-y.invariant.1.long
-
 pub returns : goal.returns
-returns c =
-    putting_all c.requires.x_in_bounds c.loop-y.invariant.1 (omega (arith, c.loop-y.invariant.0, c.loop-y-test.false, groups_many c.requires.sound_bytes))
+returns c = putting_all c.requires.x_in_bounds c.loop-y.invariant (omega (arith, c.loop-y.auto.y-end, c.loop-y-test.false, groups_many c.requires.sound_bytes))

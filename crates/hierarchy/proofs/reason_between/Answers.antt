@@ -1,6 +1,5 @@
 -- `hierarchy::reason_between` meets its contract: the two vertices' names and places are read, and what decides between those places is the question's answer.
 use native.Mathlib.Omega.{arith}
-use Rattle.numbers.proofs.Numbers.{room}
 use Rattle.sound_places.specs.Lent.{Lent}
 use Rattle.sound_places.proofs.Vertices.{list_rises, list_low, name_listed, vertex_low, vertex_placed}
 use Rattle.hierarchy.proofs.Asked.{starts, children, given, fit_pairs, question_is}
@@ -13,14 +12,6 @@ lent_in : (c : After-labels-labels) → Lent c.args.l c.names-names.result.now c
     c.labels-labels.result.now
 lent_in c = given c.requires.sound_bytes c.requires.plain c.names-names.ensures c.groups-groups.ensures c.levels-levels.ensures c.labels-labels.ensures
 
-pub num-requires : goal.num-requires
-num-requires c =
-    let S = lent_in (goal.at.num-requires c).After-labels-labels in
-    record {
-      width = S.width;
-      w_in_bounds = room _ _ _ _ c.requires.u_lt_n.0 (omega (arith, S.names_long));
-    }
-
 pub place_of-x-requires : goal.place_of-x-requires
 place_of-x-requires c =
     let S = lent_in (goal.at.place_of-x-requires c).After-labels-labels in
@@ -30,14 +21,6 @@ place_of-x-requires c =
       rises = list_rises S;
       by_index = list_low S;
       k_value = name_listed S c.requires.u_lt_n.0 c.num.ensures.0;
-    }
-
-pub num-requires-2 : goal.num-requires-2
-num-requires-2 c =
-    let S = lent_in (goal.at.num-requires-2 c).After-labels-labels in
-    record {
-      width = S.width;
-      w_in_bounds = room _ _ _ _ c.requires.u_lt_n.1 (omega (arith, S.names_long));
     }
 
 pub place_of-t-requires : goal.place_of-t-requires

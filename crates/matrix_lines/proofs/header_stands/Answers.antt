@@ -4,4 +4,4 @@ use Rattle.matrix_lines.proofs.Lines.{header_starts}
 use Rattle.matrix_lines.proofs.header_stands.Goals as goal
 
 pub returns : goal.returns
-returns c = c.begins.ensures ∙ header_starts _
+returns c = c.starts_with.ensures.value ∙ header_starts _

@@ -8,16 +8,10 @@ pub loop-i-init : goal.loop-i-init
 loop-i-init c = pass_begins _ _ _ _ c.requires
 
 pub returns-in_default : goal.returns-in_default
-returns-in_default c =
-    let a = c.args in
-    pass_stops a.text.now a.at a.n a.most c.loop-i.i c.loop-i.p c.loop-i.invariant (sym c.in_default.is ∙ c.read_entry.ensures)
+returns-in_default c = pass_stops _ _ _ _ _ _ c.loop-i.invariant (sym c.in_default.is ∙ c.read_entry.ensures)
 
 pub loop-i-preserved : goal.loop-i-preserved
-loop-i-preserved c =
-    let a = c.args in
-    pass_turns a.text.now a.at a.n a.most c.loop-i.i c.loop-i.p c.loop-i.invariant _ _ _ (omega arith) (sym c.in-Good.is ∙ c.read_entry.ensures)
+loop-i-preserved c = pass_turns _ _ _ _ _ _ c.loop-i.invariant _ c.loop-i-test.true (sym c.in-Some.is ∙ c.read_entry.ensures)
 
 pub returns : goal.returns
-returns c =
-    let a = c.args in
-    pass_full a.text.now a.at a.n a.most c.loop-i.i c.loop-i.p c.loop-i.invariant (omega (arith, c.loop-i-test.false))
+returns c = pass_full _ _ _ _ _ _ c.loop-i.invariant (omega arith)

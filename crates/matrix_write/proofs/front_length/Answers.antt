@@ -4,12 +4,6 @@ use Rattle.text_printing.proofs.Putting.{number_short}
 use Rattle.matrix_write.proofs.Rows.{front_long}
 use Rattle.matrix_write.proofs.front_length.Goals as goal
 
-pub overflow_add-result : goal.overflow_add-result
-overflow_add-result c = omega (arith, c.decimal_length.ensures, c.row_length.ensures.1, number_short c.args.n)
-
-pub overflow_add-result-2 : goal.overflow_add-result-2
-overflow_add-result-2 c = omega (arith, c.decimal_length.ensures, c.row_length.ensures.1, number_short c.args.n)
-
 pub returns : goal.returns
 returns c =
     let a = c.args in

@@ -1,11 +1,6 @@
 -- `matrix_write::put_entries` meets its contract. The invariant: the lines that are put, then those of the edges still to come, are the lines of all edges.
-use Prim.Native.Nat.{◌-◌}
-use lib.ListN.{length}
 use Rattle.matrix_write.proofs.Entries.{Entered}
 use Rattle.matrix_write.proofs.put_entries.Given as goal
 
 abbrev pub invariant-loop-i : goal.invariant-loop-i
 invariant-loop-i l = Entered l.sources l.targets l.initial.out l.at l.i l.p l.out
-
-abbrev pub decreases-loop-i : goal.decreases-loop-i
-decreases-loop-i l = length l.sources - l.i

@@ -6,7 +6,7 @@ use Rattle.text_lines.specs.Lines.{decimal}
 use Rattle.text_printing.proofs.Putting.{put_put, put_same}
 use Rattle.matrix_write.proofs.Rows.{pair_parts}
 use Rattle.matrix_write.proofs.put_row.Goals as goal
-use Rattle.matrix_write.proofs.put_row.Goals.{After-put_byte-b, After-put_number-a, After-put_number-c}
+use Rattle.matrix_write.proofs.put_row.Goals.{After-put_byte-b, After-put_number-a}
 
 -- behind each part there is room for the rest
 room₁ : (p : After-put_number-a) → p.put_number-a.result + (length (decimal p.args.y) + 2) ≤ length p.put_number-a.new.out
@@ -14,21 +14,6 @@ room₁ p = omega arith
 
 room₂ : (b : After-put_byte-b) → b.put_byte-b.result + (length (decimal b.args.y) + 1) ≤ length b.put_byte-b.new.out
 room₂ b = omega arith
-
-room₃ : (q : After-put_number-c) → q.put_number-c.result + 1 ≤ length q.put_number-c.new.out
-room₃ q = omega arith
-
-pub put_number-a-requires : goal.put_number-a-requires
-put_number-a-requires c = omega (arith, c.requires)
-
-pub put_byte-b-requires : goal.put_byte-b-requires
-put_byte-b-requires c = omega (arith, room₁ (goal.at.put_byte-b-requires c).After-put_number-a)
-
-pub put_number-c-requires : goal.put_number-c-requires
-put_number-c-requires c = omega (arith, room₂ (goal.at.put_number-c-requires c).After-put_byte-b)
-
-pub put_byte-requires : goal.put_byte-requires
-put_byte-requires c = omega (arith, room₃ (goal.at.put_byte-requires c).After-put_number-c)
 
 pub returns : goal.returns
 returns c =

@@ -47,9 +47,6 @@ returns-then-most-edges c =
     let both = writes_3 (graph p.Start) c.args.out.now (few_vertices p.Else-most-n) c.if-edges-targets.false (omega (arith, c.if-most-edges.true, ap (λ (r : Row). r.edges) c.form_row-most.ensures)) in
     record { result_value = both.0; out_after = both.1 }
 
-pub overflow_cast-result : goal.overflow_cast-result
-overflow_cast-result c = omega (arith, c.if-first-edges.true, (bounded (goal.at.overflow_cast-result c).Else-most-edges).edges)
-
 pub returns-then-first-edges : goal.returns-then-first-edges
 returns-then-first-edges c =
     let p = goal.at.returns-then-first-edges c in
@@ -66,11 +63,6 @@ returns-then-out-size c =
     let p = goal.at.returns-then-out-size c in
     let both = writes_9 (graph p.Start) c.args.out.now (passes p.Else-first-edges (bounded p.Else-most-edges)) c.text_length-size.ensures.0 c.if-out-size.true in
     record { result_value = both.0; out_after = both.1 }
-
-pub overflow_cast-edges : goal.overflow_cast-edges
-overflow_cast-edges c =
-    let p = goal.at.overflow_cast-edges c in
-    omega (arith, (lines_fit (graph p.Start) c.args.out.now (passes p.Else-first-edges (bounded p.Else-most-edges))).edges)
 
 pub put_front-at-requires : goal.put_front-at-requires
 put_front-at-requires c =

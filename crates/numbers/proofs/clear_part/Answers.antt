@@ -1,22 +1,7 @@
--- `numbers::clear_part` meets its contract, by the invariant beside this file.
-use Prim.Native.Nat.{ℕ}
+-- `numbers::clear_part` meets its contract: the n words from word at on are filled with 0.
 use native.Mathlib.Omega.{arith}
-use lib.ListN.{replicate, replicate-append-replicate}
-use Rattle.numbers.proofs.Regions.{written_none, written_more, written_all}
+use Rattle.numbers.proofs.Regions.{filled_mid}
 use Rattle.numbers.proofs.clear_part.Goals as goal
 
-pub loop-i-init : goal.loop-i-init
-loop-i-init c = (omega arith, written_none _ _ _)
-
-pub loop-i-preserved : goal.loop-i-preserved
-loop-i-preserved c = (omega arith, rw (replicate-append-replicate {A = ℕ} c.loop-i.i 1 0) at (written_more 0 (omega arith) (omega arith) c.loop-i.invariant.1))
-
-pub shape_of-words : goal.shape_of-words
-shape_of-words c = c.loop-i.invariant.1.kept.long
-
 pub returns : goal.returns
-returns c =
-    record {
-      kept = (written_all (λ i. replicate i 0) (omega arith) c.loop-i.invariant.1).0;
-      n_after = (written_all (λ i. replicate i 0) (omega arith) c.loop-i.invariant.1).1;
-    }
+returns c = let both = filled_mid c.args.words.now c.args.at _ c.args.n c.requires (omega arith) (c.fill.ensures.after (λ y e. e)) in record { kept = both.0; n_after = both.1 }

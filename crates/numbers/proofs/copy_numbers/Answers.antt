@@ -19,7 +19,7 @@ within c = let a = c.args in
 pub loop-i-init : goal.loop-i-init
 loop-i-init c =
     let a = c.args in
-    (omega arith, (omega arith, (omega arith, numbers_none a.v a.at a.w a.from.now a.out.now)))
+    (omega arith, (omega arith, numbers_none a.v a.at a.w a.from.now a.out.now))
 
 pub num-requires : goal.num-requires
 num-requires c = record { width = c.requires.width_2; w_in_bounds = standing (goal.at.num-requires c).In-loop-i }
@@ -37,22 +37,19 @@ loop-i-preserved c =
       omega arith,
       (
         omega arith,
-        (
-          omega arith,
-          c.put_at.ensures
-              ∙ numbers_more a.v a.at a.w a.from.now a.out.now l.out l.p l.i _
-              l.invariant.1.1.1
-              l.invariant.1.0
-              c.num.ensures.0
-              (within (goal.at.loop-i-preserved c).In-loop-i),
-        ),
+        c.put_at.ensures
+            ∙ numbers_more a.v a.at a.w a.from.now a.out.now l.out l.p l.i _
+            l.invariant.1.1
+            l.invariant.0
+            c.num.ensures.0
+            (within (goal.at.loop-i-preserved c).In-loop-i),
       ),
     )
 
 pub shape_of-out : goal.shape_of-out
-shape_of-out c = c.loop-i.invariant.1.1.0
+shape_of-out c = c.loop-i.invariant.1.0
 
 pub returns : goal.returns
 returns c =
     let a = c.args in
-    c.loop-i.invariant.1.1.1 ∙ ap (numbers_put a.v a.at a.w a.from.now a.out.now) (let e : c.loop-i.i ≡ a.count = omega arith in e)
+    c.loop-i.invariant.1.1 ∙ ap (numbers_put a.v a.at a.w a.from.now a.out.now) (let e : c.loop-i.i ≡ a.count = omega arith in e)

@@ -17,7 +17,7 @@ within c = let a = c.args in
 pub loop-i-init : goal.loop-i-init
 loop-i-init c =
     let a = c.args in
-    (omega arith, (omega arith, (omega arith, words_none a.w a.at a.from a.words.now a.out.now)))
+    (omega arith, (omega arith, words_none a.w a.at a.from a.words.now a.out.now))
 
 pub offset_bounds-words-from : goal.offset_bounds-words-from
 offset_bounds-words-from c = omega (arith, c.well_formed.1.1.1.0)
@@ -37,23 +37,20 @@ loop-i-preserved c =
       omega arith,
       (
         omega arith,
-        (
-          omega arith,
-          c.put_at.ensures
-              ∙ words_more c.args.w c.args.at c.args.from c.args.words.now c.args.out.now l.out l.p l.i _
-              l.invariant.1.1.1
-              l.invariant.1.0
-              refl
-              (omega arith)
-              (within (goal.at.loop-i-preserved c).In-loop-i),
-        ),
+        c.put_at.ensures
+            ∙ words_more c.args.w c.args.at c.args.from c.args.words.now c.args.out.now l.out l.p l.i _
+            l.invariant.1.1
+            l.invariant.0
+            refl
+            (omega arith)
+            (within (goal.at.loop-i-preserved c).In-loop-i),
       ),
     )
 
 pub shape_of-out : goal.shape_of-out
-shape_of-out c = c.loop-i.invariant.1.1.0
+shape_of-out c = c.loop-i.invariant.1.0
 
 pub returns : goal.returns
 returns c =
     let a = c.args in
-    c.loop-i.invariant.1.1.1 ∙ ap (words_put a.w a.at a.from a.words.now a.out.now) (let e : c.loop-i.i ≡ a.count = omega arith in e)
+    c.loop-i.invariant.1.1 ∙ ap (words_put a.w a.at a.from a.words.now a.out.now) (let e : c.loop-i.i ≡ a.count = omega arith in e)

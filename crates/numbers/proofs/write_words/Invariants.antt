@@ -1,13 +1,10 @@
 -- `numbers::write_words` meets its contract. The invariant: the first i words stand written from position at on, everything else is as it was lent, and p is
 -- where the next one goes.
 use mathlib.Core.Path.{◌≡◌}
-use Prim.Native.Nat.{◌+◌, ◌*◌, ◌-◌, ◌≤◌}
+use Prim.Native.Nat.{◌+◌, ◌*◌}
 use lib.ListN.{length}
 use Rattle.numbers.proofs.Written.{words_put}
 use Rattle.numbers.proofs.write_words.Given as goal
 
 abbrev pub invariant-loop-i : goal.invariant-loop-i
-invariant-loop-i l = (l.i ≤ l.count) × ((l.p ≡ l.at + l.w * l.i) × ((length l.out ≡ length l.initial.out) × (l.out ≡ words_put l.w l.at l.from l.words l.initial.out l.i)))
-
-abbrev pub decreases-loop-i : goal.decreases-loop-i
-decreases-loop-i l = l.count - l.i
+invariant-loop-i l = (l.p ≡ l.at + l.w * l.i) × ((length l.out ≡ length l.initial.out) × (l.out ≡ words_put l.w l.at l.from l.words l.initial.out l.i))

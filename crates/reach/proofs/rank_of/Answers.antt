@@ -1,7 +1,6 @@
 -- `reach::rank_of` meets its contract: the group's name and place are found, and e stands among the first labelling's numbers at that place.
 use Prim.Native.Nat.{◌<◌}
 use native.Mathlib.Omega.{arith}
-use Rattle.numbers.proofs.Numbers.{room}
 use Rattle.sound_places.proofs.Vertices.{list_rises, list_low, name_listed, vertex_low, vertex_placed}
 use Rattle.stored.specs.Sections.{Six}
 use Rattle.sound_places.proofs.Lent.{lent}
@@ -18,14 +17,6 @@ given c = with_names c.requires.sound_bytes.laid c.groups-groups.ensures c.label
 -- the place that was found
 place_low : (c : After-place_of-p) → c.place_of-p.result < c.args.l.k
 place_low c = vertex_low (lent c.requires.sound_bytes.laid (with_names c.requires.sound_bytes.laid c.groups-groups.ensures c.labels-labels.ensures c.names-names.ensures) c.requires.sound_bytes.contents) c.requires.u_lt_n c.num.ensures.0 c.place_of-p.ensures
-
-pub num-requires : goal.num-requires
-num-requires c =
-    let S = lent c.requires.sound_bytes.laid (given (goal.at.num-requires c).After-tuples-tuples) c.requires.sound_bytes.contents in
-    record {
-      width = S.width;
-      w_in_bounds = room _ _ _ _ c.requires.u_lt_n (omega (arith, S.names_long));
-    }
 
 pub place_of-p-requires : goal.place_of-p-requires
 place_of-p-requires c =

@@ -1,12 +1,8 @@
 -- `reach_climb::climb` meets its contract. The invariant: the marks are those after the ranks that have had their turn.
-use Prim.Native.Nat.{◌-◌, ◌≤◌}
-use Rattle.lineage.specs.Numbers.{numbers}
-use Rattle.stored.specs.Sections.{children_in}
+use Rattle.stored.specs.Reading.{numbers_of}
+use Rattle.reach_sweep.specs.Fit.{names_of, children_of}
 use Rattle.reach_climb.proofs.Climbing.{Climbing}
 use Rattle.reach_climb.proofs.climb.Given as goal
 
-abbrev pub invariant-loop-done : goal.invariant-loop-done
-invariant-loop-done l = (l.done ≤ l.k) × Climbing (numbers l.w l.groups l.k) (children_in l.w l.starts l.children l.k l.c) (numbers l.w l.places l.k) l.done l.initial.marks l.marks
-
-abbrev pub decreases-loop-done : goal.decreases-loop-done
-decreases-loop-done l = l.k - l.done
+abbrev pub invariant-loop-r : goal.invariant-loop-r
+invariant-loop-r l = Climbing (names_of l.ranks.groups) (children_of l.ranks.groups) (numbers_of l.ranks.places) l.r l.initial.marks l.marks

@@ -1,26 +1,13 @@
 -- `reach_rounds::leads_out` meets its contract.
-use native.Mathlib.Omega.{arith}
 use Rattle.lineage.specs.Numbers.{numbers}
-use Rattle.stored.proofs.Read.{can_read, was_read}
+use Rattle.stored.proofs.Read.{was_read}
 use Rattle.reach_rounds.proofs.Spreading.{out_not, out_by}
 use Rattle.reach_rounds.proofs.leads_out.Goals as goal
-
-pub num-from-requires : goal.num-from-requires
-num-from-requires c = can_read c.requires.names.held c.requires.s_lt_n.0
-
-pub bounds-marks-from : goal.bounds-marks-from
-bounds-marks-from c = omega (arith, c.requires.names.name_low c.args.s c.requires.s_lt_n.0, c.num-from.ensures.0)
 
 pub returns-then-marks-from-ne1 : goal.returns-then-marks-from-ne1
 returns-then-marks-from-ne1 c =
     out_not (numbers c.args.w c.args.names.now c.args.n) c.args.marks.now c.args.s c.args.t
     (was_read c.requires.names.held c.requires.s_lt_n.0 c.num-from.ensures.0) c.if-marks-from-ne1.true
-
-pub num-to-requires : goal.num-to-requires
-num-to-requires c = can_read c.requires.names.held c.requires.s_lt_n.1
-
-pub bounds-marks-to : goal.bounds-marks-to
-bounds-marks-to c = omega (arith, c.requires.names.name_low c.args.t c.requires.s_lt_n.1, c.num-to.ensures.0)
 
 pub returns : goal.returns
 returns c =

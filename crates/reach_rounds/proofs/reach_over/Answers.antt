@@ -1,11 +1,13 @@
 -- `reach_rounds::reach_over` meets its contract, by the invariant beside this file.
 use mathlib.Core.Bool.{false}
 use mathlib.Core.Path.{◌≡◌, sym, ap, ◌∙◌}
+use Prim.Native.Nat.{ℕ}
 use native.Mathlib.Omega.{arith}
+use lib.Dec.{eqb}
+use lib.ListN.{get_or}
 use Rattle.lineage.specs.Calls.{index_in}
-use Rattle.stored.proofs.Read.{can_read}
 use Rattle.reach_rounds.specs.Rounds.{is_marked}
-use Rattle.reach_rounds.proofs.Rounding.{rounding_none, rounding_last, rounding_hit, rounding_still, rounding_next, mark_yes, mark_no}
+use Rattle.reach_rounds.proofs.Rounding.{rounding_last, rounding_hit, rounding_still, rounding_next, mark_yes, mark_no}
 use Rattle.reach_rounds.proofs.Fitted.{swept_from_top, names_held, name_here, name_room, spread_here, led_here}
 use Rattle.reach_rounds.proofs.reach_over.Goals as goal
 use Rattle.reach_rounds.proofs.reach_over.Goals.{Else-marks-name-eq1}
@@ -14,69 +16,51 @@ use Rattle.reach_rounds.proofs.reach_over.Goals.{Else-marks-name-eq1}
 miss : (e : Else-marks-name-eq1) → is_marked (index_in e.args.index.now).names e.sweep_down.new.marks e.args.target ≡ false
 miss e = mark_no (index_in e.args.index.now).names e.sweep_down.new.marks e.args.target (name_here e.requires.sound_bytes e.names-names.ensures e.requires.n_in_bounds.1 e.num-name.ensures.0) e.if-marks-name-eq1.false
 
-pub names-names-requires : goal.names-names-requires
-names-names-requires c = c.requires.sound_bytes.laid
-
-pub num-name-requires : goal.num-name-requires
-num-name-requires c = can_read (names_held c.requires.sound_bytes c.names-names.ensures _ c.requires.n_in_bounds.0).held c.requires.n_in_bounds.1
-
-pub loop-marks-init : goal.loop-marks-init
-loop-marks-init c = rounding_none _ _ _ _ _ _
-
-pub sweep_down-requires : goal.sweep_down-requires
-sweep_down-requires c =
-    record {
-      sound_bytes = c.requires.sound_bytes;
-      n_in_bounds = (omega (arith, c.loop-marks.invariant.long, c.requires.n_in_bounds.0), omega arith);
-    }
-
 pub bounds-marks-name : goal.bounds-marks-name
 bounds-marks-name c =
     name_room c.requires.sound_bytes c.names-names.ensures c.requires.n_in_bounds.1 c.num-name.ensures.0
-    (omega (arith, c.requires.n_in_bounds.0, c.loop-marks.invariant.long, c.sweep_down.auto))
-
-pub shape_of-marks-then-marks-name-eq1 : goal.shape_of-marks-then-marks-name-eq1
-shape_of-marks-then-marks-name-eq1 c = c.sweep_down.auto.marks ∙ c.loop-marks.invariant.long
+    (omega (arith, c.requires.n_in_bounds.0, c.loop-round.auto.marks, c.sweep_down.auto))
 
 pub returns-then-marks-name-eq1 : goal.returns-then-marks-name-eq1
 returns-then-marks-name-eq1 c =
     let hit = mark_yes (index_in c.args.index.now).names c.sweep_down.new.marks c.args.target (name_here c.requires.sound_bytes c.names-names.ensures c.requires.n_in_bounds.1 c.num-name.ensures.0) c.if-marks-name-eq1.true in
     record {
-      marks_after = rounding_hit c.loop-marks.invariant (swept_from_top c.requires.sound_bytes _ c.sweep_down.ensures) hit;
+      marks_after = rounding_hit c.loop-round.invariant (swept_from_top c.requires.sound_bytes _ c.sweep_down.ensures) hit;
       value = sym hit;
-    }
-
-pub shape_of-marks-then-left-lt1 : goal.shape_of-marks-then-left-lt1
-shape_of-marks-then-left-lt1 c = c.sweep_down.auto.marks ∙ c.loop-marks.invariant.long
-
-pub returns-then-left-lt1 : goal.returns-then-left-lt1
-returns-then-left-lt1 c =
-    record {
-      marks_after = rounding_last c.loop-marks.invariant (swept_from_top c.requires.sound_bytes _ c.sweep_down.ensures) c.if-left-lt1.true;
-      value = sym (miss (goal.at.returns-then-left-lt1 c).Else-marks-name-eq1);
     }
 
 pub spread-requires : goal.spread-requires
 spread-requires c =
     record {
-      names = names_held c.requires.sound_bytes c.names-names.ensures _ (omega (arith, c.requires.n_in_bounds.0, c.loop-marks.invariant.long, c.sweep_down.auto));
+      names = names_held c.requires.sound_bytes c.names-names.ensures _ (omega (arith, c.requires.n_in_bounds.0, c.loop-round.auto.marks, c.sweep_down.auto));
       sources_len = c.requires.sources_len;
     }
-
-pub shape_of-marks-then-not-spread : goal.shape_of-marks-then-not-spread
-shape_of-marks-then-not-spread c = c.spread.auto.marks ∙ c.sweep_down.auto.marks ∙ c.loop-marks.invariant.long
 
 pub returns-then-not-spread : goal.returns-then-not-spread
 returns-then-not-spread c =
     let N = c.names-names.ensures in
     let absent = miss (goal.at.returns-then-not-spread c).Else-marks-name-eq1 in
     let (same, comes) =
-    rounding_still c.loop-marks.invariant (swept_from_top c.requires.sound_bytes _ c.sweep_down.ensures) absent (spread_here c.requires.sound_bytes N _ _ _ c.spread.ensures.marks_after) (omega arith)
+    rounding_still c.loop-round.invariant (swept_from_top c.requires.sound_bytes _ c.sweep_down.ensures) absent (spread_here c.requires.sound_bytes N _ _ _ c.spread.ensures.marks_after) (omega arith)
     (sym (led_here c.requires.sound_bytes N _ _ _ c.spread.ensures.value) ∙ c.if-not-spread.true) in record { marks_after = comes; value = sym (ap (λ m. is_marked (index_in c.args.index.now).names m c.args.target) same ∙ absent) }
 
-pub loop-marks-preserved : goal.loop-marks-preserved
-loop-marks-preserved c =
+pub loop-round-preserved : goal.loop-round-preserved
+loop-round-preserved c =
     let N = c.names-names.ensures in
-    rounding_next c.loop-marks.invariant (swept_from_top c.requires.sound_bytes _ c.sweep_down.ensures) (miss (goal.at.loop-marks-preserved c).Else-marks-name-eq1)
+    rounding_next c.loop-round.invariant (swept_from_top c.requires.sound_bytes _ c.sweep_down.ensures) (miss (goal.at.loop-round-preserved c).Else-marks-name-eq1)
     (spread_here c.requires.sound_bytes N _ _ _ c.spread.ensures.marks_after) (omega arith)
-    (sym (led_here c.requires.sound_bytes N _ _ _ c.spread.ensures.value) ∙ c.if-not-spread.false) (c.spread.auto.marks ∙ c.sweep_down.auto.marks)
+    (sym (led_here c.requires.sound_bytes N _ _ _ c.spread.ensures.value) ∙ c.if-not-spread.false)
+
+pub bounds-marks-name-2 : goal.bounds-marks-name-2
+bounds-marks-name-2 c =
+    name_room c.requires.sound_bytes c.names-names.ensures c.requires.n_in_bounds.1 c.num-name.ensures.0
+    (omega (arith, c.requires.n_in_bounds.0, c.loop-round.auto.marks, c.sweep_down-2.auto))
+
+pub returns : goal.returns
+returns c =
+    record {
+      marks_after = rounding_last c.loop-round.invariant (swept_from_top c.requires.sound_bytes _ c.sweep_down-2.ensures) (omega arith);
+      value =
+          ap (λ (x : ℕ). eqb (get_or c.sweep_down-2.new.marks x 0) 1)
+          (name_here c.requires.sound_bytes c.names-names.ensures c.requires.n_in_bounds.1 c.num-name.ensures.0);
+    }

@@ -1,13 +1,8 @@
 -- `rules_states::mark_vertices` meets its contract. The invariant: the first v marks are those of their vertices, and the later ones are as they were lent.
 use mathlib.Core.Path.{◌≡◌}
-use Prim.Native.Nat.{◌-◌, ◌≤◌}
-use lib.ListN.{length}
 use Rattle.lineage.specs.Numbers.{numbers}
 use Rattle.rules_states.specs.Marks.{marks_of, group_mark}
 use Rattle.rules_states.proofs.mark_vertices.Given as goal
 
 abbrev pub invariant-loop-v : goal.invariant-loop-v
-invariant-loop-v l = (l.v ≤ l.n) × ((length l.marks ≡ length l.initial.marks) × (l.marks ≡ marks_of l.v (group_mark (numbers l.w l.names l.n) l.initial.marks) l.initial.marks))
-
-abbrev pub decreases-loop-v : goal.decreases-loop-v
-decreases-loop-v l = l.n - l.v
+invariant-loop-v l = l.marks ≡ marks_of l.v (group_mark (numbers l.w l.names l.n) l.initial.marks) l.initial.marks

@@ -1,16 +1,12 @@
--- `rules_table::turn_all` meets its contract, by the invariant beside this file: with the record at i turned too, the first i + 1 are.
-use Rattle.std.proofs.Common.{◌∙◌, ap, List, get_or, set, arith}
+-- `rules_table::turn_all` meets its contract, by the invariant beside this file.
+use Rattle.std.proofs.Common.{arith}
+use Rattle.std.proofs.lemmas.List.Edits.{map_over_more}
+use Rattle.std.proofs.lemmas.List.{get_or_default}
 use Rattle.rules_table.specs.Table.{rule_by}
-use Rattle.rules_table.specs.declared.Rule.{Rule}
-use Rattle.rules_table.proofs.First.{front_more}
 use Rattle.rules_table.proofs.turn_all.Goals as goal
 
-pub loop-i-preserved : goal.loop-i-preserved
-loop-i-preserved c =
-    let i = c.loop-i.i in
-    let f = rule_by c.args.marks.now c.args.n in (
-      omega arith,
-      ap (set c.loop-i.rules i) c.turned.ensures
-          ∙ ap (λ (rs : List Rule). set rs i (f (get_or rs i _))) c.loop-i.invariant.1
-          ∙ front_more f i c.args.rules.now _ (omega (arith, c.requires.1)),
-    )
+pub loop-r-preserved : goal.loop-r-preserved
+loop-r-preserved c =
+    let i = c.loop-r.r-index in
+    rw c.turned.ensures
+    (map_over_more (rule_by c.args.marks.now c.args.n) c.args.rules.now c.loop-r.rules i _ (omega arith) c.loop-r.invariant (get_or_default c.loop-r.rules i _ _ (omega arith)))

@@ -1,10 +1,7 @@
--- `rules_table::turn_all` meets its contract. The invariant: the first i records are turned, and the rest are as they were lent.
-use Rattle.std.proofs.Common.{◌≡◌, ◌-◌, ◌≤◌}
-use Rattle.rules_table.specs.Table.{turned_first}
+-- `rules_table::turn_all` meets its contract. The invariant: the records that the loop has passed are turned, and the rest are as they were lent.
+use Rattle.std.proofs.Common.{◌≡◌, map, take, drop, ◌++◌}
+use Rattle.rules_table.specs.Table.{rule_by}
 use Rattle.rules_table.proofs.turn_all.Given as goal
 
-abbrev pub invariant-loop-i : goal.invariant-loop-i
-invariant-loop-i l = (l.i ≤ l.count) × (l.rules ≡ turned_first l.marks l.n l.i l.initial.rules)
-
-abbrev pub decreases-loop-i : goal.decreases-loop-i
-decreases-loop-i l = l.count - l.i
+abbrev pub invariant-loop-r : goal.invariant-loop-r
+invariant-loop-r l = l.rules ≡ map (rule_by l.marks l.n) (take l.r-index l.initial.rules) ++ drop l.r-index l.initial.rules

@@ -1,12 +1,8 @@
 -- `sound_groups::names_pass` meets its contract. The invariant: every vertex passed has a name by the rules, and what is left of the list and of
 -- the names ahead is the same exactly where the two are.
-use Prim.Native.Nat.{◌-◌}
 use Rattle.lineage.specs.Numbers.{numbers}
 use Rattle.sound_groups.proofs.Listed.{Listed}
 use Rattle.sound_groups.proofs.names_pass.Given as goal
 
 abbrev pub invariant-loop-v : goal.invariant-loop-v
 invariant-loop-v l = Listed (numbers l.w l.names l.n) (numbers l.w l.groups l.k) l.n l.k l.v l.p
-
-abbrev pub decreases-loop-v : goal.decreases-loop-v
-decreases-loop-v l = l.n - l.v

@@ -4,6 +4,7 @@ use Prim.Native.Nat.{suc}
 use native.Mathlib.Omega.{arith}
 use native.Mathlib.Numerals.{add-one}
 use lib.Dec.{eqb}
+use Rattle.std.proofs.lemmas.Bool.Decides.{nat_tests}
 use Rattle.stored.proofs.Read.{can_read, was_read}
 use Rattle.stored.proofs.Row.{can_read_child, row_has, child_was}
 use Rattle.sound_groups.proofs.Rising.{rising_none, rising_more, rising_high, rising_back, rising_all}
@@ -39,7 +40,7 @@ loop-i-preserved c =
     let q = c.num-q.ensures.0 in (
       rising_more K R c.loop-i.invariant.0 low q c.if-k-q.false c.if-q-next.false,
       greatest_more c.loop-i.invariant.1 (omega (arith, row_has K R)) (child_was K R low q)
-          (add-one _ ∙ ap suc (was_read c.requires.holds c.if-k-q.false c.num.ensures.0)) c.greater-level.ensures,
+          (add-one _ ∙ ap suc (was_read c.requires.holds c.if-k-q.false c.num.ensures.0)) (grind (arith, nat_tests, c.max-level.ensures)),
     )
 
 pub num-requires-2 : goal.num-requires-2

@@ -1,5 +1,4 @@
 -- `sound_groups::rows_pass` meets its contract. The invariant: the rows passed, and their levels, have passed.
-use Prim.Native.Nat.{◌-◌}
 use Rattle.lineage.specs.Numbers.{numbers}
 use Rattle.laws.proofs.Passed.{Passed}
 use Rattle.stored.specs.Sections.{children_in}
@@ -8,6 +7,3 @@ use Rattle.sound_groups.proofs.rows_pass.Given as goal
 
 abbrev pub invariant-loop-p : goal.invariant-loop-p
 invariant-loop-p l = Passed (row_and_level (children_in l.w l.starts l.children l.k l.c) (numbers l.w l.levels l.k)) l.k l.p
-
-abbrev pub decreases-loop-p : goal.decreases-loop-p
-decreases-loop-p l = l.k - l.p

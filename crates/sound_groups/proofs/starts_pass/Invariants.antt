@@ -1,5 +1,5 @@
 -- `sound_groups::starts_pass` meets its contract. The invariant: no start passed falls.
-use Prim.Native.Nat.{◌+◌, ◌-◌}
+use Prim.Native.Nat.{◌+◌}
 use Rattle.lineage.specs.Numbers.{numbers}
 use Rattle.laws.proofs.Passed.{Passed}
 use Rattle.sound_groups.proofs.Starts.{not_falling}
@@ -7,6 +7,3 @@ use Rattle.sound_groups.proofs.starts_pass.Given as goal
 
 abbrev pub invariant-loop-p : goal.invariant-loop-p
 invariant-loop-p l = Passed (not_falling (numbers l.w l.starts (l.k + 1))) l.k l.p
-
-abbrev pub decreases-loop-p : goal.decreases-loop-p
-decreases-loop-p l = l.k - l.p

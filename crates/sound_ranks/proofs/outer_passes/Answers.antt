@@ -4,6 +4,7 @@ use mathlib.Core.List.{[]}
 use native.Mathlib.Omega.{arith}
 use lib.Dec.{eqb}
 use Rattle.laws.proofs.Passed.{passed_none}
+use Rattle.std.proofs.lemmas.Bool.Decides.{nat_tests}
 use Rattle.stored.proofs.Row.{can_read_child, row_has, child_was, child_low}
 use Rattle.sound_ranks.proofs.Read.{s_was, e_was}
 use Rattle.sound_ranks.proofs.Falls.{falls_more, falls_not, falls_all}
@@ -45,7 +46,7 @@ loop-i-preserved c =
     let q = c.num-q.ensures.0 in (
       falls_more L R low q c.e_of.ensures.0 c.e_of-top.ensures.0 c.loop-i.invariant.0 c.if-top-e_of.false,
       least_more c.loop-i.invariant.1 (omega (arith, row_has L.below.entries R)) (child_was L.below.entries R low q)
-          (s_was L.tuples_held [] (child_low L.below R low q) c.s_of.ensures.0) c.lesser-s.ensures,
+          (s_was L.tuples_held [] (child_low L.below R low q) c.s_of.ensures.0) (grind (arith, nat_tests, c.min-s.ensures)),
     )
 
 pub s_of-requires-2 : goal.s_of-requires-2

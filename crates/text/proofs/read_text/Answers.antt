@@ -1,11 +1,11 @@
 -- `text::read_text` meets its contract: the four blocks are read one behind the other, and together they say what the text says.
-use mathlib.Core.Path.{◌≡◌, refl, sym}
+use mathlib.Core.Path.{◌≡◌, refl}
 use native.Mathlib.Nat.{pos_of_ne-zero}
 use native.Mathlib.Omega.{arith}
-use lib.ListN.{length}
+use lib.ListN.{get_or}
 use Rattle.text.proofs.Whole.{first_missing, first_high, Four, few_asked, four_bad, four_good}
 use Rattle.text.proofs.read_text.Goals as goal
-use Rattle.text.proofs.read_text.Goals.{After-read_block-e, After-read_block-q, Else-v-eq0}
+use Rattle.text.proofs.read_text.Goals.{After-read_block-q, Else-v-eq0}
 
 -- the first line was read
 one : (c : Else-v-eq0) → c.read_block-v.result.count ≡ 1
@@ -17,7 +17,7 @@ four : (c : After-read_block-q) → Four c.args.text.now
     c.read_block-e.new.into
     c.read_block-o.new.into
     c.read_block-q.new.into
-    c.size_of-n.result
+    (get_or c.read_block-v.new.into 0 0)
     c.read_block-v.result.count
     c.read_block-v.result.at
     c.read_block-e.result.count
@@ -32,13 +32,10 @@ four c = record {
   o = c.read_block-o.ensures;
   q = c.read_block-q.ensures;
   one = omega (arith, pos_of_ne-zero c.if-v-eq0.false, c.read_block-v.ensures.few);
-  first = sym c.size_of-n.ensures;
+  first = refl;
   low = c.if-n-gt-MOST_VERTICES.false;
   short = c.requires.text_len_bound;
 }
-
-pairs_long : (c : After-read_block-e) → length c.read_block-e.new.into ≡ 4000
-pairs_long c = c.read_block-e.auto.into
 
 pub returns-then-v-eq0 : goal.returns-then-v-eq0
 returns-then-v-eq0 c = record { read = first_missing c.read_block-v.ensures c.if-v-eq0.true; within = omega arith }
@@ -46,23 +43,14 @@ returns-then-v-eq0 c = record { read = first_missing c.read_block-v.ensures c.if
 pub returns-then-n-gt-MOST_VERTICES : goal.returns-then-n-gt-MOST_VERTICES
 returns-then-n-gt-MOST_VERTICES c =
     record {
-      read = first_high _ c.read_block-v.ensures (one (goal.at.returns-then-n-gt-MOST_VERTICES c).Else-v-eq0) (sym c.size_of-n.ensures) c.if-n-gt-MOST_VERTICES.true;
+      read = first_high _ c.read_block-v.ensures (one (goal.at.returns-then-n-gt-MOST_VERTICES c).Else-v-eq0) refl c.if-n-gt-MOST_VERTICES.true;
       within = omega arith;
     }
-
-pub read_block-q-requires : goal.read_block-q-requires
-read_block-q-requires c = (refl, (c.read_block-o.ensures.inside, c.requires.lent.asked_long))
 
 pub returns-then-q-text : goal.returns-then-q-text
 returns-then-q-text c =
     let b = four (goal.at.returns-then-q-text c).After-read_block-q in
     record { read = four_bad b c.if-q-text.true; within = omega (arith, few_asked b, b.e.few, b.o.few) }
-
-pub take_column-requires : goal.take_column-requires
-take_column-requires c = omega (arith, pairs_long (goal.at.take_column-requires c).After-read_block-e, c.read_block-e.ensures.few, c.requires.lent.sources_long)
-
-pub take_column-requires-2 : goal.take_column-requires-2
-take_column-requires-2 c = omega (arith, pairs_long (goal.at.take_column-requires-2 c).After-read_block-e, c.read_block-e.ensures.few, c.requires.lent.targets_long)
 
 pub returns : goal.returns
 returns c =

@@ -23,7 +23,7 @@ returns-in-10 c = sym (ap kind c.in-10.is) ∙ byte_here _ _ c.if-text-at.false
 pub returns-in-48-to-57 : goal.returns-in-48-to-57
 returns-in-48-to-57 c =
     let b : ℕ = get_or c.args.text.now c.args.at 0 in
-    ap Digit c.wide.ensures ∙ (sym (digit_kind b (omega arith) (omega arith)) ∙ byte_here _ _ c.if-text-at.false)
+    ap Digit c.from.ensures ∙ (sym (digit_kind b (omega arith) (omega arith)) ∙ byte_here _ _ c.if-text-at.false)
 
 pub returns-in_default : goal.returns-in_default
 returns-in_default c =

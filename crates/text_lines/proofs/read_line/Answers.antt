@@ -2,7 +2,6 @@
 use mathlib.Core.Path.{refl, sym, ap, ◌∙◌}
 use Prim.Native.Nat.{◌<◌}
 use native.Mathlib.Omega.{arith}
-use borrow.Enum.Refused.{opened}
 use lib.ListN.{length, take, drop}
 use Rattle.text_lines.specs.declared.Byte.TheVariants.{Letter}
 use Rattle.text_lines.specs.Lines.{most_digits}
@@ -17,7 +16,7 @@ here : (c : In-Letter) → Sees (Letter c.in-Letter.b) (drop c.args.at c.args.te
 here c = seen _ _ (sym c.in-Letter.is ∙ c.byte_at.ensures)
 
 inside : (c : In-Letter) → c.args.at < length c.args.text.now
-inside c = within _ _ (here c) (λ e. omega arith)
+inside c = within _ _ (here c) (λ e. cc)
 
 pub overflow_add-at : goal.overflow_add-at
 overflow_add-at c = omega (arith, inside (goal.at.overflow_add-at c).In-Letter, c.well_formed)
@@ -41,5 +40,5 @@ returns-else-b-letter c =
 
 pub returns-in_default : goal.returns-in_default
 returns-in_default c =
-    let none = no_letter _ _ _ c.requires.0 (seen _ _ c.byte_at.ensures) (opened c.in_default.in_default-own.keys2) in
+    let none = no_letter _ _ _ c.requires.0 (seen _ _ c.byte_at.ensures) c.in_default.not-Letter in
     record { kept = refl; read = sym (ap (after (take c.args.base c.args.into.now) c.args.at) none) }

@@ -2,7 +2,6 @@
 use mathlib.Core.Path.{sym, ◌∙◌}
 use Prim.Native.Nat.{◌<◌}
 use native.Mathlib.Omega.{arith}
-use borrow.Enum.Refused.{opened}
 use lib.ListN.{length, drop}
 use Rattle.text_lines.specs.declared.Byte.TheVariants.{Digit}
 use Rattle.text_lines.proofs.Bytes.{Sees, seen, within}
@@ -15,7 +14,7 @@ here : (c : In-Digit) → Sees (Digit c.in-Digit.d) (drop c.args.at c.args.text.
 here c = seen _ _ (sym c.in-Digit.is ∙ c.byte_at.ensures)
 
 inside : (c : In-Digit) → c.args.at < length c.args.text.now
-inside c = within _ _ (here c) (λ e. omega arith)
+inside c = within _ _ (here c) (λ e. cc)
 
 pub overflow_add-at : goal.overflow_add-at
 overflow_add-at c = omega (arith, inside (goal.at.overflow_add-at c).In-Digit, c.well_formed)
@@ -23,10 +22,16 @@ overflow_add-at c = omega (arith, inside (goal.at.overflow_add-at c).In-Digit, c
 pub overflow_add-at-else-d-eq0 : goal.overflow_add-at-else-d-eq0
 overflow_add-at-else-d-eq0 c = omega (arith, inside (goal.at.overflow_add-at-else-d-eq0 c).In-Digit, c.well_formed)
 
-pub read_digits-requires-else-d-eq0 : goal.read_digits-requires-else-d-eq0
-read_digits-requires-else-d-eq0 c =
+pub read_digits-requires-clause-at_in_bounds : goal.read_digits-requires-clause-at_in_bounds
+read_digits-requires-clause-at_in_bounds c = omega (arith, inside (goal.at.read_digits-requires-clause-at_in_bounds c).In-Digit)
+
+pub read_digits-requires-else-d-eq0-clause-at_in_bounds : goal.read_digits-requires-else-d-eq0-clause-at_in_bounds
+read_digits-requires-else-d-eq0-clause-at_in_bounds c = omega (arith, inside (goal.at.read_digits-requires-else-d-eq0-clause-at_in_bounds c).In-Digit)
+
+pub read_digits-requires-else-d-eq0-clause-room : goal.read_digits-requires-else-d-eq0-clause-room
+read_digits-requires-else-d-eq0-clause-room c =
     let p = c.requires in
-    first_room _ _ (digit_low (here (goal.at.read_digits-requires-else-d-eq0 c).In-Digit)) p.0 p.1
+    first_room _ _ (digit_low (here (goal.at.read_digits-requires-else-d-eq0-clause-room c).In-Digit)) p.0 p.1
 
 pub returns-then-d-eq0 : goal.returns-then-d-eq0
 returns-then-d-eq0 c =
@@ -39,4 +44,4 @@ returns-else-d-eq0 c =
     c.read_digits-else-d-eq0.ensures ∙ number_other _ _ _ (here (goal.at.returns-else-d-eq0 c).In-Digit) c.if-d-eq0.false p.0
 
 pub returns-in_default : goal.returns-in_default
-returns-in_default c = number_none _ _ (seen _ _ c.byte_at.ensures) (opened c.in_default.in_default-own.keys2)
+returns-in_default c = number_none _ _ (seen _ _ c.byte_at.ensures) c.in_default.not-Digit

@@ -3,15 +3,6 @@ use native.Mathlib.Omega.{arith}
 use Rattle.text_printing.proofs.Putting.{one_long, tenth_long}
 use Rattle.text_printing.proofs.decimal_length.Goals as goal
 
-pub loop-y-init : goal.loop-y-init
-loop-y-init c = (omega arith, (omega arith, omega arith))
-
-pub overflow_add-n : goal.overflow_add-n
-overflow_add-n c = omega (arith, c.loop-y.invariant, c.ranges.x.fits, c.loop-y-test.true)
-
-pub loop-y-smaller : goal.loop-y-smaller
-loop-y-smaller c = omega (arith, c.loop-y-test.true)
-
 pub loop-y-preserved : goal.loop-y-preserved
 loop-y-preserved c =
     let i = c.loop-y.invariant in

@@ -1,10 +1,13 @@
 -- `text_printing::put_said` meets its contract: yes or no, and the three numbers behind it.
+use mathlib.Core.Bool.{cond}
+use mathlib.Core.Path.{◌≡◌}
 use native.Mathlib.Omega.{arith}
-use Rattle.text_printing.proofs.Putting.{put_put, put_same, said_is}
+use Rattle.text_lines.specs.Lines.{bytes}
+use Rattle.text_printing.proofs.Putting.{put_put, put_same}
 use Rattle.text_printing.proofs.put_said.Goals as goal
+use Rattle.text_printing.proofs.put_said.Goals.{then-says, else-says}
 
-pub returns-then-says : goal.returns-then-says
-returns-then-says c = put_same (said_is _ _ _ _ _ c.if-says.true) (put_put c.put_word-a.ensures c.put_three.ensures (omega (arith, c.requires)))
-
-pub returns-else-says : goal.returns-else-says
-returns-else-says c = put_same (said_is _ _ _ _ _ c.if-says.false) (put_put c.put_word-a-else-says.ensures c.put_three-else-says.ensures (omega (arith, c.requires)))
+pub returns : goal.returns
+returns c =
+    let word : c.if-says.word.now ≡ cond c.args.says (bytes "yes ") (bytes "no ") = elim c.if-says.branch [ then-says w ↦ rw (w.if-says.true, w.word-is) | else-says w ↦ rw (w.if-says.false, w.word-is) ] in
+    put_put (put_same word c.put_word-a.ensures) c.put_three.ensures (omega arith)

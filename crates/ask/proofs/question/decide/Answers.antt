@@ -11,7 +11,7 @@ use Rattle.ask_walk.specs.Fit.{net_in}
 use Rattle.ask_walk.specs.Stamps.{seen_as, Under}
 use Rattle.ask_walk.proofs.Stamped.{seen_long, seen_other, under_more, new_free, new_marks}
 use Rattle.ask_walk.proofs.Passing.{judged_missed}
-use Rattle.ask.specs.declared.question.Reply.{Reply}
+use Rattle.ask.specs.declared.Asked.{Asked}
 use Rattle.ask.proofs.Rules.{inside_low, outside_low, rule_1, rule_2, rule_3, rule_4, rule_5_6, walk_opens, walk_deciding, walk_opened}
 use Rattle.ask.proofs.question.decide.Goals as goal
 use Rattle.ask.proofs.question.decide.Goals.{Start}
@@ -51,52 +51,44 @@ returns-then-level-num c = record {
   kept = kept_same _ _ _;
 }
 
-pub plain-requires-then-j-gt0 : goal.plain-requires-then-j-gt0
-plain-requires-then-j-gt0 c =
-    omega (
-      arith,
-      inside_low c.args.w c.args.k c.args.d c.args.labels.now c.args.x c.args.t c.judge-j.ensures c.if-j-gt0.true,
-      c.requires.fit.labelled.labellings_few,
-    )
+pub plain-requires-in-Inside : goal.plain-requires-in-Inside
+plain-requires-in-Inside c =
+    omega (arith, inside_low c.args.w c.args.k c.args.d c.args.labels.now c.args.x c.args.t c.in-Inside.ensures, c.requires.fit.labelled.labellings_few)
 
-pub returns-then-j-gt0 : goal.returns-then-j-gt0
-returns-then-j-gt0 c = record {
-  marks_after = rule_2 c.requires.fit c.args.x (marks (goal.at.returns-then-j-gt0 c).Start) c.plain-then-j-gt0.result c.if-x-t.false c.requires.x_lt_k.0 _ _
+pub returns-in-Inside : goal.returns-in-Inside
+returns-in-Inside c = record {
+  marks_after = rule_2 c.requires.fit c.args.x (marks (goal.at.returns-in-Inside c).Start) c.plain-in-Inside.result c.if-x-t.false c.requires.x_lt_k.0 _ _
       c.num-level.ensures.0 c.num.ensures.0
-      c.if-level-num.false c.judge-j.ensures c.plain-then-j-gt0.ensures c.if-j-gt0.true;
-  under = under (goal.at.returns-then-j-gt0 c).Start;
+      c.if-level-num.false c.plain-in-Inside.ensures c.in-Inside.ensures;
+  under = under (goal.at.returns-in-Inside c).Start;
   marks_unchanged = (λ e. refl);
   kept = kept_same _ _ _;
 }
 
-pub plain-requires-then-j-gt0-2 : goal.plain-requires-then-j-gt0-2
-plain-requires-then-j-gt0-2 c =
-    omega (
-      arith,
-      outside_low c.args.w c.args.k c.args.d c.args.labels.now c.args.x c.args.t c.judge-j.ensures c.if-j-gt0-2.true,
-      c.requires.fit.labelled.labellings_few,
-    )
+pub plain-requires-in-Outside : goal.plain-requires-in-Outside
+plain-requires-in-Outside c =
+    omega (arith, outside_low c.args.w c.args.k c.args.d c.args.labels.now c.args.x c.args.t c.in-Outside.ensures, c.requires.fit.labelled.labellings_few)
 
-pub returns-then-j-gt0-2 : goal.returns-then-j-gt0-2
-returns-then-j-gt0-2 c = record {
-  marks_after = rule_4 c.requires.fit c.args.x (marks (goal.at.returns-then-j-gt0-2 c).Start) c.plain-then-j-gt0-2.result c.if-x-t.false c.requires.x_lt_k.0 _ _
+pub returns-in-Outside : goal.returns-in-Outside
+returns-in-Outside c = record {
+  marks_after = rule_4 c.requires.fit c.args.x (marks (goal.at.returns-in-Outside c).Start) c.plain-in-Outside.result c.if-x-t.false c.requires.x_lt_k.0 _ _
       c.num-level.ensures.0 c.num.ensures.0
-      c.if-level-num.false c.judge-j.ensures c.plain-then-j-gt0-2.ensures c.if-j-gt0-2.true;
-  under = under (goal.at.returns-then-j-gt0-2 c).Start;
+      c.if-level-num.false c.plain-in-Outside.ensures c.in-Outside.ensures;
+  under = under (goal.at.returns-in-Outside c).Start;
   marks_unchanged = (λ e. refl);
   kept = kept_same _ _ _;
 }
 
-pub walk_from-a-requires : goal.walk_from-a-requires
-walk_from-a-requires c =
+pub walk_from-requires : goal.walk_from-requires
+walk_from-requires c =
     let F = c.requires.fit in
-    let M = new_marks c.args.stamp c.args.marks.now c.requires.x_lt_k.1.1.0 (net (goal.at.walk_from-a-requires c).Start) c.args.k in record {
+    let M = new_marks c.args.stamp c.args.marks.now c.requires.x_lt_k.1.1.0 (net (goal.at.walk_from-requires c).Start) c.args.k in record {
       fit = F;
       fresh = record {
         low = c.requires.x_lt_k.0;
         level = omega (arith, c.num-level.ensures.0);
         unmarked = new_free _ _ c.requires.x_lt_k.1.1.0 _;
-        missed = judged_missed F M.safe c.requires.x_lt_k.0 c.judge-j.ensures c.if-j-gt0.false c.if-j-gt0-2.false;
+        missed = judged_missed F M.safe c.requires.x_lt_k.0 c.in-Neither.ensures;
       };
       marks = M;
       lev_value = (c.num-level.ensures.0, c.requires.x_lt_k.1.1.1);
@@ -104,7 +96,7 @@ walk_from-a-requires c =
 
 pub by_walk-requires : goal.by_walk-requires
 by_walk-requires c =
-    let r = c.walk_from-a in (
+    let r = c.walk_from in (
       walk_deciding c.requires.fit _ _ (marks (goal.at.by_walk-requires c).Start) r.result.found r.result.deciding r.result.opened _ r.ensures.marks_after,
       omega (
         arith,
@@ -115,15 +107,15 @@ by_walk-requires c =
       ),
     )
 
-pub returns : goal.returns
-returns c =
-    let r = c.walk_from-a in
-    let opens = walk_opens c.requires.fit _ c.args.x (marks (goal.at.returns c).Start) r.result.found r.result.deciding r.result.opened _ r.ensures.marks_after in
+pub returns-in-Neither : goal.returns-in-Neither
+returns-in-Neither c =
+    let r = c.walk_from in
+    let opens = walk_opens c.requires.fit _ c.args.x (marks (goal.at.returns-in-Neither c).Start) r.result.found r.result.deciding r.result.opened _ r.ensures.marks_after in
     record {
-      marks_after = rule_5_6 c.requires.fit c.args.x (marks (goal.at.returns c).Start) c.by_walk.result c.if-x-t.false c.requires.x_lt_k.0 _ _ c.num-level.ensures.0
+      marks_after = rule_5_6 c.requires.fit c.args.x (marks (goal.at.returns-in-Neither c).Start) c.by_walk.result c.if-x-t.false c.requires.x_lt_k.0 _ _ c.num-level.ensures.0
           c.num.ensures.0
-          c.if-level-num.false c.judge-j.ensures c.if-j-gt0.false c.if-j-gt0-2.false _ _ _ _ r.ensures.marks_after c.by_walk.ensures;
+          c.if-level-num.false c.in-Neither.ensures _ _ _ _ r.ensures.marks_after c.by_walk.ensures;
       under = r.ensures.under;
-      marks_unchanged = (λ z. absurd (omega (arith, opens, z, ap (λ (q : Reply). q.opened) c.by_walk.ensures)));
+      marks_unchanged = (λ z. absurd (omega (arith, opens, z, ap (λ (q : Asked). q.opened) c.by_walk.ensures)));
       kept = r.ensures.kept;
     }

@@ -1,12 +1,11 @@
 -- `ask_pairs::places::place_groups` meets its contract, by the invariant beside this file.
 use native.Mathlib.Omega.{arith}
-use lib.ListN.{length-set}
 use Rattle.numbers.proofs.Numbers.{room}
 use Rattle.ask_pairs.proofs.Placing.{groups_more}
 use Rattle.ask_pairs.proofs.places.place_groups.Goals as goal
 
 pub loop-p-init : goal.loop-p-init
-loop-p-init c = (omega arith, (omega arith, record { at = λ p h. absurd (omega arith) }))
+loop-p-init c = record { at = λ p h. absurd (omega arith) }
 
 pub num-name-requires : goal.num-name-requires
 num-name-requires c = let L = c.requires in record { width = L.width; w_in_bounds = room _ _ _ _ c.loop-p-test.true L.long }
@@ -15,15 +14,10 @@ pub overflow_cast-places : goal.overflow_cast-places
 overflow_cast-places c = omega (arith, c.requires.few, c.loop-p-test.true)
 
 pub bounds-places-name : goal.bounds-places-name
-bounds-places-name c = omega (arith, c.num-name.ensures.0, c.requires.low c.loop-p.p c.loop-p-test.true, c.loop-p.invariant.1.0)
+bounds-places-name c = omega (arith, c.num-name.ensures.0, c.requires.low c.loop-p.p c.loop-p-test.true, c.loop-p.auto.places)
 
 pub loop-p-preserved : goal.loop-p-preserved
-loop-p-preserved c =
-    let v = c.loop-p.invariant in
-    (omega (arith, c.loop-p-test.true), (simp length-set v.1.0, groups_more c.requires v.1.0 _ _ c.loop-p-test.true c.num-name.ensures.0 v.1.1))
-
-pub shape_of-places : goal.shape_of-places
-shape_of-places c = c.loop-p.invariant.1.0
+loop-p-preserved c = groups_more c.requires c.loop-p.auto.places _ _ c.loop-p-test.true c.num-name.ensures.0 c.loop-p.invariant
 
 pub returns : goal.returns
-returns c = record { at = λ p h. c.loop-p.invariant.1.1.at p (omega (arith, c.loop-p-test.false)) }
+returns c = record { at = λ p h. c.loop-p.invariant.at p (omega (arith, c.loop-p-test.false)) }

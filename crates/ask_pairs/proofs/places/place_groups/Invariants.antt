@@ -1,12 +1,6 @@
 -- `ask_pairs::places::place_groups` meets its contract. The invariant: each of the first p groups has its place at its name; a further name is another position.
-use mathlib.Core.Path.{◌≡◌}
-use Prim.Native.Nat.{◌-◌, ◌≤◌}
-use lib.ListN.{length}
 use Rattle.ask_pairs.specs.Places.{AtNames}
 use Rattle.ask_pairs.proofs.places.place_groups.Given as goal
 
 abbrev pub invariant-loop-p : goal.invariant-loop-p
-invariant-loop-p l = (l.p ≤ l.k) × ((length l.places ≡ length l.initial.places) × AtNames l.w l.p l.groups l.places)
-
-abbrev pub decreases-loop-p : goal.decreases-loop-p
-decreases-loop-p l = l.k - l.p
+invariant-loop-p l = AtNames l.w l.p l.groups l.places

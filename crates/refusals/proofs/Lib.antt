@@ -1,0 +1,2 @@
+-- A refusal is told by its number and its extra number.
+pub mod Told
