@@ -6,7 +6,6 @@ ghost use Rattle.std.specs.Prelude.{◌≡◌, [], ◌∷◌, ◌≤◌, ◌<◌
 ghost use Rattle.lineage.specs.Lists.{cleared};
 ghost use Rattle.lineage.specs.Calls.{outcome, forms_taken, ordinary, index_in};
 ghost use Rattle.build_orders.specs.Input.{graph_of};
-ghost use Rattle.sound_places.specs.Lent.{SoundBytes};
 ghost use Rattle.reach_rounds.specs.Over.{added_says};
 ghost use Rattle.reach_rounds.specs.Rounds.{Low};
 ghost use Rattle.added.specs.Adding.{add_answer, add_state, taken_of};
@@ -16,7 +15,9 @@ use numbers::{clear_marks, clear_words};
 use open::contents_sound;
 use reach_rounds::reach_over;
 use refusals::Refusal;
-use stored_header::{Layout, words_needed};
+use sound_places::SoundImage;
+use stored::parts::Image;
+use stored_header::words_needed;
 
 // The most edges that may be added.
 const MOST_ADDED: u32 = 256;
@@ -69,64 +70,59 @@ pub fn add(state: Added, n: u32, from: u32, to: u32) -> Adding
 
 // Whether u reaches v over sound bytes and added edges between their vertices, on marks that are 0 below n, and are so afterwards.
 fn says_over(
-    index: &[u8],
-    l: Layout,
+    index: &SoundImage,
     sources: &[u32],
     targets: &[u32],
     u: usize,
     v: usize,
     marks: &mut [u8],
 ) -> bool
-    requires sound_bytes { SoundBytes index.now l }
-    requires sources_len { (length sources.now ≡ length targets.now) × (Low l.n sources.now × Low l.n targets.now) }
-    requires n_in_bounds { (l.n ≤ length marks.old) × ((u < l.n) × (v < l.n)) }
-    requires marks_value { marks.old ≡ cleared l.n marks.old }
-    ensures value { result ≡ added_says (index_in index.now) sources.now targets.now u v }
+    requires sources_len { (length sources.now ≡ length targets.now) × (Low index.now.image.layout.n sources.now × Low index.now.image.layout.n targets.now) }
+    requires n_in_bounds { (index.now.image.layout.n ≤ length marks.old) × ((u < index.now.image.layout.n) × (v < index.now.image.layout.n)) }
+    requires marks_value { marks.old ≡ cleared index.now.image.layout.n marks.old }
+    ensures value { result ≡ added_says (index_in index.now.image.bytes.now) sources.now targets.now u v }
     ensures marks_unchanged { marks.new ≡ marks.old }
 {
-    reach::mark_group(index, l, marks, u);
-    let yes = reach_over(index, l, sources, targets, marks, v);
-    clear_marks(marks, l.n);
+    reach::mark_group(index, marks, u);
+    let yes = reach_over(index, sources, targets, marks, v);
+    clear_marks(marks, index.image.layout.n);
     yes
 }
 
 // The question over sound bytes and added edges: refusal 7 with the first that has an end of n or more; otherwise yes or no.
 fn ask_over(
-    index: &[u8],
-    l: Layout,
+    index: &SoundImage,
     sources: &[u32],
     targets: &[u32],
     u: usize,
     v: usize,
     marks: &mut [u8],
 ) -> Result<bool, Refusal>
-    requires sound_bytes { SoundBytes index.now l }
     requires sources_len { (length sources.now ≡ length targets.now) × (length sources.now ≤ 256) }
-    requires n_in_bounds { (l.n ≤ length marks.old) × ((u < l.n) × (v < l.n)) }
-    requires marks_value { marks.old ≡ cleared l.n marks.old }
-    ensures result_value { asked_added_of result ≡ outcome (bad_added (graph_of l.n sources.now targets.now) ∷ []) (added_says (index_in index.now) sources.now targets.now u v) }
+    requires n_in_bounds { (index.now.image.layout.n ≤ length marks.old) × ((u < index.now.image.layout.n) × (v < index.now.image.layout.n)) }
+    requires marks_value { marks.old ≡ cleared index.now.image.layout.n marks.old }
+    ensures result_value { asked_added_of result
+        ≡ outcome (bad_added (graph_of index.now.image.layout.n sources.now targets.now) ∷ []) (added_says (index_in index.now.image.bytes.now) sources.now targets.now u v) }
     ensures marks_unchanged { marks.new ≡ marks.old }
 {
-    let first = build_orders::bad_edge(l.n, sources, targets);
-    if first < sources.len() {
-        return Err(Refusal::BadEdge(first as u32));
+    if let Some(bad) = build_orders::bad_edge(index.image.layout.n, sources, targets) {
+        return Err(Refusal::BadEdge(bad as u32));
     }
-    Ok(says_over(index, l, sources, targets, u, v, marks))
+    Ok(says_over(index, sources, targets, u, v, marks))
 }
 
 // The question over sound bytes and the edges that a state holds: refusal 21 for more than 256 of them, then 7; otherwise yes or no.
 fn ask_sound(
-    index: &[u8],
-    l: Layout,
+    index: &SoundImage,
     state: Added,
     u: usize,
     v: usize,
     marks: &mut [u8],
 ) -> Result<bool, Refusal>
-    requires sound_bytes { SoundBytes index.now l }
-    requires n_in_bounds { (l.n ≤ length marks.old) × ((u < l.n) × (v < l.n)) }
-    requires marks_value { marks.old ≡ cleared l.n marks.old }
-    ensures result_value { asked_added_of result ≡ outcome (added_checks l.n state) (added_says (index_in index.now) (sources_of state) (targets_of state) u v) }
+    requires n_in_bounds { (index.now.image.layout.n ≤ length marks.old) × ((u < index.now.image.layout.n) × (v < index.now.image.layout.n)) }
+    requires marks_value { marks.old ≡ cleared index.now.image.layout.n marks.old }
+    ensures result_value { asked_added_of result
+        ≡ outcome (added_checks index.now.image.layout.n state) (added_says (index_in index.now.image.bytes.now) (sources_of state) (targets_of state) u v) }
     ensures marks_unchanged { marks.new ≡ marks.old }
 {
     let count = state.count;
@@ -134,15 +130,7 @@ fn ask_sound(
         return Err(Refusal::ManyAdded);
     }
     let m = count as usize;
-    ask_over(
-        index,
-        l,
-        &state.sources[..m],
-        &state.targets[..m],
-        u,
-        v,
-        marks,
-    )
+    ask_over(index, &state.sources[..m], &state.targets[..m], u, v, marks)
 }
 
 // Whether source reaches target over a stored index of a form from `least` to `most` and the edges added beside it: yes or no, or the first of the refusals 10, 11, 12,
@@ -172,11 +160,16 @@ pub fn ask_added_taking(
     if n <= v {
         return Err(Refusal::BadVertex(1));
     }
+    let image = Image {
+        bytes: index,
+        layout: l,
+    };
     clear_words(work, words_needed(l));
-    if !contents_sound(index, l, marks) {
+    if !contents_sound(&image, marks) {
         return Err(Refusal::NotSound);
     }
-    ask_sound(index, l, state, u, v, marks)
+    let sound = SoundImage { image };
+    ask_sound(&sound, state, u, v, marks)
 }
 
 // The question over a stored index of form 1 or 2 and the edges added beside it.

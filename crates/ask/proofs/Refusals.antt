@@ -42,9 +42,6 @@ module _ (b : List ℕ) (u v : ℕ) (marks : List ℕ) where
   Replies o m = (o ≡ outcome late said) × (m ≡ marks_laid b u v marks)
 
   module _ {l : Layout} (L : Laid b l) {m : List ℕ} (left : m ≡ cleared l.n marks) where
-    pub replies_unsound : (contents_check b).applies ≡ true → Replies (refused 15 0) m
-    replies_unsound s = (sym (stops_outcome said late 0 s), left ∙ rw (s, n_is L) refl)
-
     pub replies_answered : (contents_check b).applies ≡ false → (q : Asked) (m' : List ℕ) → answer_by q m' ≡ answer (index_in b) u v
         → Replies (answered (said_by q)) (m' ++ drop l.n m)
     replies_answered s q m' e =

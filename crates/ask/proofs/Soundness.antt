@@ -14,7 +14,7 @@ use Rattle.lineage.specs.Labels.{Labelling}
 use Rattle.lineage.specs.Index.{Index}
 use Rattle.lineage.specs.Question.{outside, rule2, rule3, rule4, net_of, between, place_in, walk, answer}
 use Rattle.laws.specs.Sound.{SoundGroups}
-use Rattle.laws.proofs.Lists.{in_get_d}
+use Rattle.laws.proofs.Positions.{in_get_d}
 use Rattle.laws.proofs.Tests.{or_false_left, or_false_right}
 use Rattle.laws.proofs.Grouped.{group_name, place_one, levels_fall}
 use Rattle.laws.proofs.Decides.{sound_decides}
@@ -30,6 +30,10 @@ use Rattle.ask_walk.specs.Fit.{count, groups_in, Fit, Sure}
 use Rattle.sound_places.specs.Lent.{Lent, InTriples}
 use Rattle.sound_places.proofs.Vertices.{lent_sound}
 use Rattle.ask_walk.proofs.Rows.{count_is}
+use Rattle.ask_walk.specs.declared.towards.Towards.{Towards}
+use Rattle.ask_walk.specs.Walks.{index_of_walk}
+use Rattle.ask.specs.declared.sections.Sections.{Sections}
+use Rattle.ask.specs.Sections.{index_of_sections, WalkTo}
 
 module _ {l : Layout} {names groups levels starts children labels : List ℕ} (Q : InTriples l names groups levels starts children labels) where
   abbrev S : Lent l names groups levels starts children labels
@@ -166,9 +170,6 @@ module _ {l : Layout} {names groups levels starts children labels : List ℕ} (Q
     pub marks_few : length m ≤ vertex_bound
     marks_few = omega (arith, long, S.vertices_few)
 
-    pub fit_marks : (t : ℕ) → t < k → Fit w k l.d t groups levels starts children labels (length m)
-    fit_marks t h = rw long (fit t h)
-
   -- the answer between the places of u and v is the answer to the question
   between_is : (u v x t : ℕ) (m : List ℕ) → x ≡ place_in J u → t ≡ place_in J v → m ≡ replicate n 0
       → between (groups_in w k l.d groups levels starts children labels) x t m ≡ answer J u v
@@ -185,3 +186,10 @@ module _ {l : Layout} {names groups levels starts children labels : List ℕ} (Q
   question_is u v x t m ex et em =
       between_is u v x t m (ex ∙ ap (λ (I : Index). place_in I u) in_triples) (et ∙ ap (λ (I : Index). place_in I v) in_triples) em
       ∙ ap (λ (I : Index). answer I u v) (sym in_triples)
+
+-- and so over the sections of a question
+pub walk_is :
+    (s : Sections) {t : ℕ} {a : Towards} → WalkTo s t a → (u v x : ℕ) (m : List ℕ)
+    → x ≡ place_in (index_of_sections s) u → t ≡ place_in (index_of_sections s) v → m ≡ replicate s.layout.n 0
+    → between (index_of_walk a) x a.t m ≡ answer (index_of_sections s) u v
+walk_is s W u v x m ex et em = (λ i. between (W.index i) x (W.target i) m) ∙ question_is s.in_triples u v x _ m ex et em

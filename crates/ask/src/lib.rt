@@ -5,15 +5,18 @@ ghost use Rattle.std.specs.Prelude.{◌≡◌, [], ◌∷◌, ◌≤◌, ◌<◌
 ghost use Rattle.lineage.specs.Question.{answer};
 ghost use Rattle.lineage.specs.Calls.{outcome, forms_taken, host, ordinary, contents_check, index_in, said_of, ask_answer, ask_marks, ask_work};
 ghost use Rattle.numbers.specs.Regions.{Kept};
-ghost use Rattle.stored_header.specs.Header.{Laid};
 ghost use Rattle.ask_stacked.specs.Words.{stack_words};
 ghost use Rattle.ask.specs.Asked.{asked_of, marks_laid};
 
 pub mod question;
+pub mod sections;
 
 use numbers::clear_words;
 use refusals::Refusal;
-use stored_header::{Layout, words_needed};
+use sections::Sections;
+use sound_places::SoundImage;
+use stored::parts::Image;
+use stored_header::words_needed;
 
 // An answer: yes or no, the reason 1 to 6, the groups opened, and the number, from 1, of the labelling that decided (0 where none did).
 #[derive(Clone, Copy, Debug, PartialEq, Eq)]
@@ -27,38 +30,24 @@ pub struct Asked {
 // The question on bytes of a layout, for vertices below n: 15, or the answer. Afterwards the marks below n tell the groups opened, by name, and 15 leaves them 0; of
 // the words those that the walk uses for its stack may be altered.
 fn ask_laid(
-    index: &[u8],
-    l: Layout,
+    index: &Image,
     u: usize,
     v: usize,
     marks: &mut [u8],
     work: &mut [u32],
 ) -> Result<Asked, Refusal>
-    requires laid { Laid index.now l }
-    requires u_lt_n { (u < l.n) × ((v < l.n) × ((l.n ≤ length marks.old) × (stack_words l.width l.n ≤ length work.old))) }
-    requires stride_value { l.stride ≡ 3 }
-    ensures result_value { asked_of result ≡ outcome (contents_check index.now ∷ []) (said_of (answer (index_in index.now) u v)) }
-    ensures marks_after { marks.new ≡ marks_laid index.now u v marks.old }
-    ensures kept { Kept work.old work.new 0 (stack_words l.width l.n) }
+    requires u_lt_n { (u < index.now.layout.n) × ((v < index.now.layout.n) × ((index.now.layout.n ≤ length marks.old) × (stack_words index.now.layout.width index.now.layout.n ≤ length work.old))) }
+    requires stride_value { index.now.layout.stride ≡ 3 }
+    ensures result_value { asked_of result ≡ outcome (contents_check index.now.bytes.now ∷ []) (said_of (answer (index_in index.now.bytes.now) u v)) }
+    ensures marks_after { marks.new ≡ marks_laid index.now.bytes.now u v marks.old }
+    ensures kept { Kept work.old work.new 0 (stack_words index.now.layout.width index.now.layout.n) }
 {
-    let n = l.n;
-    if !open::contents_sound(index, l, marks) {
+    if !open::contents_sound(index, marks) {
         return Err(Refusal::NotSound);
     }
-    Ok(question::question(
-        stored::parts::names(index, l),
-        stored::parts::groups(index, l),
-        stored::parts::levels(index, l),
-        stored::parts::starts(index, l),
-        stored::parts::children(index, l),
-        stored::parts::labels(index, l),
-        l,
-        u,
-        v,
-        &mut marks[..n],
-        work,
-        1,
-    ))
+    let sound = SoundImage { image: *index };
+    let n = index.layout.n;
+    Ok(question::question(&Sections::of(&sound), u, v, &mut marks[..n], work, 1))
 }
 
 // Whether the source reaches the target, by the index that the bytes hold, in a form from `least` to `most`, none of pairs: refusals 10 to 13, 6, 14 and 15 in order, or the answer.
@@ -86,7 +75,11 @@ pub fn ask_taking(
     if l.n <= v {
         return Err(Refusal::BadVertex(1));
     }
-    let r = ask_laid(index, l, u, v, marks, work);
+    let image = Image {
+        bytes: index,
+        layout: l,
+    };
+    let r = ask_laid(&image, u, v, marks, work);
     clear_words(work, words_needed(l));
     r
 }

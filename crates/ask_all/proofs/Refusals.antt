@@ -1,13 +1,13 @@
 -- What `ask_all` answers and leaves, by where its checks stop: at one of 10 to 13 or at 6, at 15, 2 or 16, or behind them.
 use mathlib.Core.Bool.{Bool, true, false, cond}
 use mathlib.Core.Path.{◌≡◌, refl, sym, subst, ◌∙◌}
-use mathlib.Core.List.{List, [], ◌∷◌, ◌++◌, map}
-use Prim.Native.Nat.{ℕ, zero, suc, ◌+◌, ◌*◌, ◌/◌, ◌≤◌, ◌<◌}
+use mathlib.Core.List.{List, [], ◌++◌, map}
+use Prim.Native.Nat.{ℕ, ◌+◌, ◌*◌, ◌/◌, ◌≤◌}
 use native.Mathlib.Omega.{arith}
-use native.Mathlib.Nat.{div-lt_iff_lt-mul, mul-div-le}
+use native.Mathlib.Nat.{mul-div-le}
 use lib.Dec.{leb}
-use lib.ListN.{length, get_or, drop}
-use borrow.Author.Tests.{leb-true, eq-eqb, ne_eqb, lt-ltb}
+use lib.ListN.{length, drop}
+use borrow.Author.Tests.{leb-true, ne_eqb}
 use Rattle.lineage.specs.Lists.{upto, joined, cleared, Every}
 use Rattle.lineage.specs.Stored.{Form, forms, form_of, header_at, counts_in, counts_fit, offsets_fit}
 use Rattle.lineage.specs.Question.{answer}
@@ -17,16 +17,16 @@ use Rattle.numbers.specs.Put.{put}
 use Rattle.numbers.specs.Regions.{Kept}
 use Rattle.numbers.proofs.Cleared.{cleared_past, cleared_kept}
 use Rattle.stored_header.specs.declared.Layout.{Layout}
-use Rattle.laws.specs.Checks.{Stops, stopped, Comes}
+use Rattle.laws.specs.Checks.{Stops, Comes}
 use Rattle.stored_header.specs.Header.{layout_in, words_of, Laid}
 use Rattle.laws.proofs.Checks.{stops_outcome, stops_early, refused_comes, rest_comes}
 use Rattle.stored_header.proofs.Forms.{form_each}
-use Rattle.stored_header.proofs.Laid.{width_is, n_is, words_are, cleared_in}
+use Rattle.stored_header.proofs.Laid.{width_is, n_is, words_are}
 use Rattle.stored_header.proofs.Admitted.{Admits, admitted, admitted_laid}
 use Rattle.open.proofs.Checks.{words_cleared}
 use Rattle.ask_stacked.specs.Words.{stack_words}
 use Rattle.ask_pairs.specs.Pairs.{sixes, last_marks}
-use Rattle.ask_all.specs.Batch.{six_of, pair_in, asked_at, batch_late, batch_answer, batch_answers, batch_marks, batch_work}
+use Rattle.ask_all.specs.Batch.{six_of, asked_at, batch_late, batch_answer, batch_answers, batch_marks, batch_work}
 use Rattle.ask_all.specs.Batched.{marks_laid, answers_laid}
 use Rattle.ask_all.proofs.Sixes.{answers_are}
 
@@ -39,12 +39,6 @@ module _ (b sources targets marks answers : List ℕ) where
   Replies o m a = (o ≡ outcome late (length sources)) × ((m ≡ marks_laid b sources targets marks (length answers)) × (a ≡ answers_laid b sources targets answers))
 
   module _ {l : Layout} (L : Laid b l) {m : List ℕ} (left : m ≡ cleared l.n marks) where
-    -- they stop at number i: 15, 2, 16
-    pub replies_at : (i : ℕ) → i < 3 → Stops late i → Replies (stopped late i (length sources)) m answers
-    replies_at i h s =
-        let stops : any_applies late ≡ true = stops_early late [] i s ∙ lt-ltb i 3 h in
-        (sym (stops_outcome (length sources) late i s), (cleared_in L marks left ∙ rw stops refl, rw stops refl))
-
     -- where none applies, and the pairs are answered on marks that were cleared below n
     pub replies_answered : Stops late 3 → {m' a : List ℕ}
         → m' ≡ last_marks l.n (answer (index_in b)) sources targets (length sources) ++ drop l.n m
@@ -96,10 +90,6 @@ module _ (b sources targets marks answers : List ℕ) where
           let kept : Kept work w 0 (words_in b) = subst (Kept work w 0) (words_are (admitted_laid A)) K in
           (o, (leaves ∙ m, (words_cleared (admitted_laid A) need w e ∙ cleared_kept (words_in b) kept ∙ x, writes ∙ six_written (any_applies late) refl ∙ a)))
 
--- room for six numbers a pair
-pub six_short : (a p : ℕ) → a / 6 < p → a < 6 * p
-six_short a p h = let room : a < p * 6 = (div-lt_iff_lt-mul {k = 6} (omega arith)).0 h in omega arith
-
 pub six_room : (a p : ℕ) → p ≤ a / 6 → 6 * p ≤ a
 six_room a p h = omega (arith, mul-div-le a 6)
 
@@ -116,27 +106,5 @@ small {b = b} A e =
     let fits = both (leb (counts_in b).n F.vertices) _ (neither (counts_fit F (counts_in b)) (offsets_fit F (counts_in b) b) (admitted A).1.1.0).0 in
     omega (arith, n_is (admitted_laid A), leb-true (counts_in b).n F.vertices fits.0, form_each Small forms_small (header_at b 0) (sym (width_is (admitted_laid A)) ∙ e))
 
--- and an array with a word for each suffices for the pairs; otherwise the needed words do
-pub array_fits : (w n : ℕ) → w ≡ 2 → n ≤ 4096 → stack_words w n + n ≤ 4096
-array_fits w n e h = rw (eq-eqb w 2 e) (omega arith)
-
 pub words_fit : (l : Layout) → (l.width ≡ 2 → ⊥) → stack_words l.width l.n + l.n ≤ words_of l
 words_fit l e = rw (ne_eqb l.width 2 e) (omega arith)
-
--- A pair read back.
-pub past_end : (a : List ℕ) (p : ℕ) → length a ≤ p → ◌≡◌ {A = ℕ} (get_or a p 0) 0
-past_end [] p h = refl
-past_end (x ∷ a) zero h = absurd (omega arith)
-past_end (x ∷ a) (suc p) h = past_end a p (omega arith)
-
-module _ (a : List ℕ) (i : ℕ) where
-  pub pair_past : length a ≤ i → pair_in a i ≡ answered (record { says = false; reason = 0; opened = 0; deciding = 0 })
-  pair_past h =
-      rw (
-        past_end a (6 * i) (omega arith),
-        past_end a (6 * i + 2) (omega arith),
-        past_end a (6 * i + 3) (omega arith),
-        past_end a (6 * i + 4) (omega arith),
-        past_end a (6 * i + 5) (omega arith),
-      )
-      refl

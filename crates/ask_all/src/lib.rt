@@ -6,21 +6,21 @@ ghost use Rattle.lineage.specs.Question.{answer};
 ghost use Rattle.lineage.specs.Calls.{outcome, forms_taken, host, ordinary, index_in};
 ghost use Rattle.numbers.specs.Put.{put};
 ghost use Rattle.numbers.specs.Regions.{Kept};
-ghost use Rattle.stored_header.specs.Header.{words_of, Laid};
+ghost use Rattle.stored_header.specs.Header.{words_of};
 ghost use Rattle.ask_stacked.specs.Words.{stack_words};
 ghost use Rattle.ask_pairs.specs.Pairs.{sixes, last_marks};
 ghost use Rattle.ask_all.specs.Batch.{pair_in, batch_late, batch_answer, batch_answers, batch_marks, batch_work};
 ghost use Rattle.ask_all.specs.declared.BatchRefusal.TheVariants.{Refused};
 ghost use Rattle.ask_all.specs.Batched.{batch_number, batch_extra, batched_of, Own, read_of, marks_laid, answers_laid};
-ghost use Rattle.ask_all.specs.Lent.{SoundPairs};
+ghost use Rattle.ask_all.specs.Lent.{LentPairs};
 
 use ask::Asked;
+use ask::sections::Sections;
 use numbers::clear_words;
 use refusals::Refusal;
-use stored_header::{Layout, words_needed};
-
-// The vertices that form 1 has at most, each with a word for the place of its group.
-const MOST_VERTICES: usize = 4096;
+use sound_places::SoundImage;
+use stored::parts::Image;
+use stored_header::{MOST_VERTICES_FORM_1, words_needed};
 
 // Why no pair is answered: a refusal, or an answer list too short for so many pairs.
 #[derive(Clone, Copy, Debug, PartialEq, Eq)]
@@ -66,32 +66,25 @@ pub struct PairRefusal {
     pub extra: u32,
 }
 
-// Answers the pairs over sound bytes of a layout, in words that suffice for the walk's stack and the table of places. The marks below n are 0 before; afterwards they are
-// those of the last pair that was not refused.
+// Answers the pairs over sound bytes, in words that suffice for the walk's stack and the table of places. The marks below n are 0 before; afterwards they are those of the
+// last pair that was not refused.
 fn ask_sound(
-    index: &[u8],
-    l: Layout,
+    index: &SoundImage,
     sources: &[u32],
     targets: &[u32],
     marks: &mut [u8],
     work: &mut [u32],
     answers: &mut [u32],
 )
-    requires sound_pairs { SoundPairs l index.now sources.now targets.now marks.old (length answers.old) }
-    requires n_in_bounds { stack_words l.width l.n + l.n ≤ length work.old }
-    ensures marks_after { marks.new ≡ last_marks l.n (answer (index_in index.now)) sources.now targets.now (length sources.now) ++ drop l.n marks.old }
-    ensures answers_after { answers.new ≡ put answers.old 0 (sixes l.n (answer (index_in index.now)) sources.now targets.now (length sources.now)) }
-    ensures kept { Kept work.old work.new 0 (stack_words l.width l.n + l.n) }
+    requires pairs { LentPairs index.now.image.layout sources.now targets.now marks.old (length answers.old) }
+    requires n_in_bounds { stack_words index.now.image.layout.width index.now.image.layout.n + index.now.image.layout.n ≤ length work.old }
+    ensures marks_after { marks.new ≡ last_marks index.now.image.layout.n (answer (index_in index.now.image.bytes.now)) sources.now targets.now (length sources.now) ++ drop index.now.image.layout.n marks.old }
+    ensures answers_after { answers.new ≡ put answers.old 0 (sixes index.now.image.layout.n (answer (index_in index.now.image.bytes.now)) sources.now targets.now (length sources.now)) }
+    ensures kept { Kept work.old work.new 0 (stack_words index.now.image.layout.width index.now.image.layout.n + index.now.image.layout.n) }
 {
-    let n = l.n;
+    let n = index.image.layout.n;
     ask_pairs::ask_pairs(
-        stored::parts::names(index, l),
-        stored::parts::groups(index, l),
-        stored::parts::levels(index, l),
-        stored::parts::starts(index, l),
-        stored::parts::children(index, l),
-        stored::parts::labels(index, l),
-        l,
+        &Sections::of(index),
         sources,
         targets,
         &mut marks[..n],
@@ -102,48 +95,46 @@ fn ask_sound(
 
 // The same where the words are those that a call is lent beside the bytes: for numbers of 16 bits that may be none, and the table lies in an array.
 fn ask_lent(
-    index: &[u8],
-    l: Layout,
+    index: &SoundImage,
     sources: &[u32],
     targets: &[u32],
     marks: &mut [u8],
     work: &mut [u32],
     answers: &mut [u32],
 )
-    requires sound_pairs { SoundPairs l index.now sources.now targets.now marks.old (length answers.old) }
-    requires n_bound { (l.width ≡ 2 → l.n ≤ 4096) × (words_of l ≤ length work.old) }
-    ensures marks_after { marks.new ≡ last_marks l.n (answer (index_in index.now)) sources.now targets.now (length sources.now) ++ drop l.n marks.old }
-    ensures answers_after { answers.new ≡ put answers.old 0 (sixes l.n (answer (index_in index.now)) sources.now targets.now (length sources.now)) }
-    ensures kept { Kept work.old work.new 0 (words_of l) }
+    requires pairs { LentPairs index.now.image.layout sources.now targets.now marks.old (length answers.old) }
+    requires n_bound { (index.now.image.layout.width ≡ 2 → index.now.image.layout.n ≤ 4096) × (words_of index.now.image.layout ≤ length work.old) }
+    ensures marks_after { marks.new ≡ last_marks index.now.image.layout.n (answer (index_in index.now.image.bytes.now)) sources.now targets.now (length sources.now) ++ drop index.now.image.layout.n marks.old }
+    ensures answers_after { answers.new ≡ put answers.old 0 (sixes index.now.image.layout.n (answer (index_in index.now.image.bytes.now)) sources.now targets.now (length sources.now)) }
+    ensures kept { Kept work.old work.new 0 (words_of index.now.image.layout) }
 {
-    if l.width == 2 {
-        let mut places = [0u32; MOST_VERTICES];
-        ask_sound(index, l, sources, targets, marks, &mut places, answers);
+    if index.image.layout.width == 2 {
+        let mut places = [0u32; MOST_VERTICES_FORM_1];
+        ask_sound(index, sources, targets, marks, &mut places, answers);
         return;
     }
-    ask_sound(index, l, sources, targets, marks, work, answers)
+    ask_sound(index, sources, targets, marks, work, answers)
 }
 
 // Answers all pairs over bytes of a layout: 15, 2 and 16 in order, or the number of pairs. Of the words those needed may be altered.
 fn ask_laid(
-    index: &[u8],
-    l: Layout,
+    index: &Image,
     sources: &[u32],
     targets: &[u32],
     marks: &mut [u8],
     work: &mut [u32],
     answers: &mut [u32],
 ) -> Result<usize, BatchRefusal>
-    requires laid { Laid index.now l × (l.n ≤ length marks.old) }
-    requires n_bound { (l.width ≡ 2 → l.n ≤ 4096) × (words_of l ≤ length work.old) }
-    requires stride_value { l.stride ≡ 3 }
+    requires n_in_bounds { index.now.layout.n ≤ length marks.old }
+    requires n_bound { (index.now.layout.width ≡ 2 → index.now.layout.n ≤ 4096) × (words_of index.now.layout ≤ length work.old) }
+    requires stride_value { index.now.layout.stride ≡ 3 }
     ensures own { Own result }
-    ensures result_value { batched_of result ≡ outcome (batch_late index.now sources.now targets.now (length answers.old)) (length sources.now) }
-    ensures marks_after { marks.new ≡ marks_laid index.now sources.now targets.now marks.old (length answers.old) }
-    ensures answers_after { answers.new ≡ answers_laid index.now sources.now targets.now answers.old }
-    ensures kept { Kept work.old work.new 0 (words_of l) }
+    ensures result_value { batched_of result ≡ outcome (batch_late index.now.bytes.now sources.now targets.now (length answers.old)) (length sources.now) }
+    ensures marks_after { marks.new ≡ marks_laid index.now.bytes.now sources.now targets.now marks.old (length answers.old) }
+    ensures answers_after { answers.new ≡ answers_laid index.now.bytes.now sources.now targets.now answers.old }
+    ensures kept { Kept work.old work.new 0 (words_of index.now.layout) }
 {
-    if !open::contents_sound(index, l, marks) {
+    if !open::contents_sound(index, marks) {
         return Err(BatchRefusal::Refused(Refusal::NotSound));
     }
     let pairs = sources.len();
@@ -153,7 +144,8 @@ fn ask_laid(
     if answers.len() / 6 < pairs {
         return Err(BatchRefusal::AnswersShort(pairs));
     }
-    ask_lent(index, l, sources, targets, marks, work, answers);
+    let sound = SoundImage { image: *index };
+    ask_lent(&sound, sources, targets, marks, work, answers);
     Ok(pairs)
 }
 
@@ -178,7 +170,11 @@ pub fn ask_all_taking(
     ensures answers_after { answers.new ≡ batch_answers (forms_taken least most) index.now sources.now targets.now (length marks.old) (length work.old) answers.old }
 {
     let l = stored_header::admit(least, most, index, marks.len(), work.len())?;
-    let r = ask_laid(index, l, sources, targets, marks, work, answers);
+    let image = Image {
+        bytes: index,
+        layout: l,
+    };
+    let r = ask_laid(&image, sources, targets, marks, work, answers);
     clear_words(work, words_needed(l));
     r
 }

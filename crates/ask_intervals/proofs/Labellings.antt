@@ -24,13 +24,14 @@ use Rattle.stored.proofs.Sections.{s_at, m_at, e_at, labels_long}
 use Rattle.ask_intervals.specs.declared.Judged.TheVariants.{Inside, Outside, Neither}
 use Rattle.ask_intervals.specs.Intervals.{judged_by, judged_from, judged, undecided_by}
 
--- number i of the triple of x lies within l bytes
-pub in_triple : (w x i l : ℕ) → (i < 3) × (w * (3 * x + 3) ≤ l) → w * (3 * x + i) + w ≤ l
-in_triple w x i l h = omega (arith, mul-le-mul_left w h.0)
-
 -- the triple of x lies within the triples of a labelling
 pub in_triples : (w k x : ℕ) (labels triples : List ℕ) {at : ℕ} → Part labels at (w * (3 * k)) triples → x < k → w * (3 * x + 3) ≤ length triples
 in_triples w k x labels triples P h = let own : 3 * x + 3 ≤ 3 * k = omega arith in omega (arith, mul-le-mul_left w own, P.long)
+
+-- where labels are in triples, so are the numbers by place of a labelling
+pub own_triples : (w k l : ℕ) {z : ℕ} {labels triples : List ℕ} → z ≡ 3 → Part labels (w * (l * ((z + 1) * k))) (w * (z * k)) triples
+    → Part labels (w * (l * (4 * k))) (w * (3 * k)) triples
+own_triples w k l e P = rw e at P
 
 -- one bound more decides nothing
 pub one_more : (p : ℕ → Bool) (b : ℕ) (r : Bool) → ((j : ℕ) → j < b → p j ≡ true) → r ≡ p b → r ≡ true → (j : ℕ) → j < b + 1 → p j ≡ true

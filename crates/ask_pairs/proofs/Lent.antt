@@ -60,14 +60,14 @@ module _ {l : Layout} {names groups levels starts children labels : List ℕ} (S
 
   -- the table holds the place of every vertex's group
   module _ {places : List ℕ} (P : Placed w n k names groups places) where
-    placed : (v : ℕ) → v < n → get_or places v 0 ≡ place_in (index_at l names groups levels starts children labels) v
+    pub placed : (v : ℕ) → v < n → get_or places v 0 ≡ place_in (index_at l names groups levels starts children labels) v
     unfolding index_from
     placed v h =
         let q : ℕ = place_of (numbers w groups k) (get_or (numbers w names n) v 0) in
         let low : q < k = omega (arith, children_long w starts children k l.c, place_low (lent_sound S) v (in_names v h)) in
         P.at v q h low (sym (numbers_at w groups k q low) ∙ name_of_place (lent_sound S) v (in_names v h) ∙ numbers_at w names n v h)
 
-    placed_low : (v : ℕ) → v < n → get_or places v 0 < k
+    pub placed_low : (v : ℕ) → v < n → get_or places v 0 < k
     unfolding index_from
     placed_low v h = omega (arith, placed v h, children_long w starts children k l.c, place_low (lent_sound S) v (in_names v h))
 

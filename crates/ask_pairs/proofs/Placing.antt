@@ -16,20 +16,6 @@ use Rattle.numbers.proofs.Regions.{read_at}
 use Rattle.ask_stacked.specs.Words.{stack_words}
 use Rattle.ask_pairs.specs.Places.{Listed, Named, AtNames, FromNames, Placed, table_in}
 
--- one group more
-pub groups_more :
-    {w n k : ℕ} {groups places : List ℕ} (L : Listed w n k groups) → length places ≡ n → (p name : ℕ) → p < k → name ≡ num_at w groups p
-    → AtNames w p groups places → AtNames w (p + 1) groups (set places name p)
-groups_more {w} {n} {k} {groups} {places} L long p name h named A = record { at = at }
-  where
-    at : (q : ℕ) → q < p + 1 → get_or (set places name p) (num_at w groups q) 0 ≡ q
-    at q l = elim (ℕ_discrete q p) [
-      | yes e ↦ rw (e, named) (get_or-set_same places (num_at w groups p) p 0 (omega (arith, long, L.low p h)))
-      | no g ↦
-          let other : num_at w groups q ≢ name = λ e. g (L.once q p (omega arith) h (e ∙ named)) in
-          get_or-set_other places name (num_at w groups q) p 0 other ∙ A.at q (omega arith)
-    ]
-
 -- before vertex v: those below it have what stood at their names, all others what stood there
 pub record Filled (w : ℕ) (names before places : List ℕ) (v : ℕ) : Type 0 where
   pub done : (u : ℕ) → u < v → get_or places u 0 ≡ get_or before (num_at w names u) 0
@@ -46,15 +32,6 @@ module _ {w n : ℕ} {names before places : List ℕ} (N : Named w n names) (v n
     | yes l ↦ F.done name l ∙ ap (λ (z : ℕ). get_or before z 0) (ap (num_at w names) named ∙ N.own v h ∙ sym named)
     | no g ↦ F.left name (omega (arith, g))
   ]
-
-  pub filled_more : v < length places → Filled w names before (set places v (get_or places name 0)) (v + 1)
-  filled_more l = record {
-    done = λ u b. elim (ℕ_discrete u v) [
-      | yes e ↦ rw e (get_or-set_same places v (get_or places name 0) 0 l ∙ read ∙ ap (λ (z : ℕ). get_or before z 0) named)
-      | no g ↦ get_or-set_other places v u (get_or places name 0) 0 g ∙ F.done u (omega (arith, g))
-    ];
-    left = λ u b. get_or-set_other places v u (get_or places name 0) 0 (λ e. omega (arith, e, b)) ∙ F.left u (omega arith);
-  }
 
 -- both passes: at a vertex's name stands the place of the group that bears it
 pub placed_all :

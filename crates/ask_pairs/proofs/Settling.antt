@@ -20,16 +20,6 @@ pub settled_none : (s : ℕ) (m : List ℕ) → Settled s m m 0
 settled_none s m = record { long = refl; done = λ j l. absurd (omega arith); left = λ j l. refl }
 
 module _ {s : ℕ} {m₀ m : List ℕ} {i : ℕ} (S : Settled s m₀ m i) where
-  pub settled_more : (b : ℕ) → i < length m → b ≡ cond (eqb (get_or m i 0) s) 1 0 → Settled s m₀ (set m i b) (i + 1)
-  settled_more b h e = record {
-    long = length-set m i b ∙ S.long;
-    done = λ j l. elim (ℕ_discrete j i) [
-      | yes z ↦ rw z (get_or-set_same m i b 0 h ∙ e ∙ ap (λ (a : ℕ). cond (eqb a s) 1 0) (S.left i (omega arith)))
-      | no g ↦ get_or-set_other m i j b 0 g ∙ S.done j (omega (arith, g))
-    ];
-    left = λ j l. get_or-set_other m i j b 0 (λ z. omega (arith, z, l)) ∙ S.left j (omega arith);
-  }
-
   pub settled_all : length m ≤ i → m ≡ seen_as s m₀
   settled_all h =
       ext_get_or 0 m (seen_as s m₀) (S.long ∙ sym (seen_long s m₀)) (λ j l. S.done j (omega arith) ∙ sym (seen_at s m₀ j (omega (arith, l, S.long))))

@@ -2,24 +2,24 @@
 // between two pairs: each walk marks with a stamp of its own, 1 to 255, and they are cleared where the stamps run out.
 #![tactic(auto)]
 
-ghost use Rattle.std.specs.Prelude.{cond, ◌≡◌, [], ◌∷◌, ◌+◌, ◌*◌, ◌≤◌, ◌<◌, eqb, length, replicate};
+ghost use Rattle.std.specs.Prelude.{cond, ◌≡◌, [], ◌∷◌, ◌+◌, ◌*◌, ◌≤◌, ◌<◌, length, replicate};
 ghost use Rattle.lineage.specs.Question.{between, answer};
 ghost use Rattle.numbers.specs.Bounds.{vertex_bound};
 ghost use Rattle.numbers.specs.Put.{put};
 ghost use Rattle.numbers.specs.Regions.{Kept};
-ghost use Rattle.stored.specs.Sections.{index_at};
-ghost use Rattle.sound_places.specs.Lent.{InTriples};
-ghost use Rattle.ask_walk.specs.Fit.{groups_in, Fit};
 ghost use Rattle.ask_walk.specs.Stamps.{seen_as, Under};
+ghost use Rattle.ask_walk.specs.Walks.{index_of_walk};
 ghost use Rattle.ask_stacked.specs.Words.{stack_words};
 ghost use Rattle.ask.specs.Replies.{answer_by};
+ghost use Rattle.ask.specs.Sections.{index_of_sections};
 ghost use Rattle.refusals.specs.Refusals.{number_of, extra_of};
 ghost use Rattle.ask_pairs.specs.Pairs.{six_refused, sixes, last_marks};
-ghost use Rattle.ask_pairs.specs.Places.{table_in, Ready, by_place};
+ghost use Rattle.ask_pairs.specs.Places.{table_in, Placed};
 
 use ask::Asked;
+use ask::sections::Sections;
+use ask_walk::towards::Towards;
 use refusals::Refusal;
-use stored_header::Layout;
 
 pub mod places;
 
@@ -45,32 +45,16 @@ fn next_stamp(marks: &mut [u8], used: u8) -> u8
     used + 1
 }
 
-// The reply between two groups, by place, with marks that bear earlier walks' stamps.
-fn next_reply(
-    groups: &[u8],
-    levels: &[u8],
-    starts: &[u8],
-    children: &[u8],
-    labels: &[u8],
-    w: usize,
-    k: usize,
-    d: usize,
-    x: usize,
-    t: usize,
-    marks: &mut [u8],
-    work: &mut [u32],
-    used: u8,
-) -> Next
-    requires fit { Fit w k d t groups.now levels.now starts.now children.now labels.now (length marks.old) }
-    requires x_lt_k { (x < k) × ((length marks.old ≤ vertex_bound) × (Under (used + 1) marks.old × (stack_words w (length marks.old) ≤ length work.old))) }
-    ensures marks_after { answer_by result.reply (seen_as result.stamp marks.new) ≡ between (groups_in w k d groups.now levels.now starts.now children.now labels.now) x t (replicate (length marks.old) 0) }
+// The reply between the group at place x and a walk's target, with marks that bear earlier walks' stamps.
+fn next_reply(walk: &Towards, x: usize, marks: &mut [u8], work: &mut [u32], used: u8) -> Next
+    requires marks_long { length marks.old ≡ walk.now.marks }
+    requires x_lt_k { (x < walk.now.k) × ((length marks.old ≤ vertex_bound) × (Under (used + 1) marks.old × (stack_words walk.now.width (length marks.old) ≤ length work.old))) }
+    ensures marks_after { answer_by result.reply (seen_as result.stamp marks.new) ≡ between (index_of_walk walk.now) x walk.now.t (replicate (length marks.old) 0) }
     ensures under { Under (result.used + 1) marks.new }
-    ensures kept { Kept work.old work.new 0 (stack_words w (length marks.old)) }
+    ensures kept { Kept work.old work.new 0 (stack_words walk.now.width (length marks.old)) }
 {
     let stamp = next_stamp(marks, used);
-    let reply = ask::question::decide(
-        groups, levels, starts, children, labels, w, k, d, x, t, marks, work, stamp,
-    );
+    let reply = ask::question::decide(walk, x, marks, work, stamp);
     Next {
         reply,
         stamp,
@@ -128,29 +112,22 @@ fn put_reply(answers: &mut [u32], at: usize, r: Asked)
 // Answers the pairs one by one, each by six numbers, with the place of every vertex's group in the table behind the words of the walk's stack. The marks, one for each
 // vertex, are all 0 before; afterwards those of the last pair that was not refused bear the stamp that is returned, and no other does.
 fn ask_each(
-    groups: &[u8],
-    levels: &[u8],
-    starts: &[u8],
-    children: &[u8],
-    labels: &[u8],
-    w: usize,
-    n: usize,
-    k: usize,
-    d: usize,
+    sections: &Sections,
     sources: &[u32],
     targets: &[u32],
     marks: &mut [u8],
     work: &mut [u32],
     answers: &mut [u32],
 ) -> u8
-    requires ready { Ready w n k d groups.now levels.now starts.now children.now labels.now (table_in w n work.old) }
-    requires n_in_bounds { stack_words w n + n ≤ length work.old }
-    requires marks_value { (marks.old ≡ replicate n 0) × ((length sources.now ≡ length targets.now) × (6 * length sources.now ≤ length answers.old)) }
-    ensures answers_after { answers.new ≡ put answers.old 0 (sixes n (by_place w n k d groups.now levels.now starts.now children.now labels.now (table_in w n work.old)) sources.now targets.now (length sources.now)) }
-    ensures marks_after { seen_as result marks.new ≡ last_marks n (by_place w n k d groups.now levels.now starts.now children.now labels.now (table_in w n work.old)) sources.now targets.now (length sources.now) }
-    ensures kept { Kept work.old work.new 0 (stack_words w n) }
+    requires placed { Placed sections.now.layout.width sections.now.layout.n sections.now.layout.k sections.now.names.now sections.now.groups.now (table_in sections.now.layout.width sections.now.layout.n work.old) }
+    requires n_in_bounds { stack_words sections.now.layout.width sections.now.layout.n + sections.now.layout.n ≤ length work.old }
+    requires marks_value { (marks.old ≡ replicate sections.now.layout.n 0) × ((length sources.now ≡ length targets.now) × (6 * length sources.now ≤ length answers.old)) }
+    ensures answers_after { answers.new ≡ put answers.old 0 (sixes sections.now.layout.n (answer (index_of_sections sections.now)) sources.now targets.now (length sources.now)) }
+    ensures marks_after { seen_as result marks.new ≡ last_marks sections.now.layout.n (answer (index_of_sections sections.now)) sources.now targets.now (length sources.now) }
+    ensures kept { Kept work.old work.new 0 (stack_words sections.now.layout.width sections.now.layout.n) }
 {
-    let base = ask_stacked::stack_words(w, n);
+    let n = sections.layout.n;
+    let base = ask_stacked::stack_words(sections.layout.width, n);
     let mut used = 0;
     let mut last = 1;
     for i in 0..sources.len() {
@@ -164,9 +141,7 @@ fn ask_each(
         } else {
             let x = work[base + u] as usize;
             let t = work[base + v] as usize;
-            let a = next_reply(
-                groups, levels, starts, children, labels, w, k, d, x, t, marks, work, used,
-            );
+            let a = next_reply(&sections.towards(t), x, marks, work, used);
             put_reply(answers, at, a.reply);
             used = a.used;
             last = a.stamp;
@@ -187,34 +162,31 @@ fn settle(marks: &mut [u8], stamp: u8)
 // Answers the pairs over the six sections: the places are laid out once, in the lent words behind those of the walk's stack, and the pairs are asked one by one. The
 // marks, one for each vertex, are all 0 before; afterwards they are those of the last pair that was not refused.
 pub fn ask_pairs(
-    names: &[u8],
-    groups: &[u8],
-    levels: &[u8],
-    starts: &[u8],
-    children: &[u8],
-    labels: &[u8],
-    l: Layout,
+    sections: &Sections,
     sources: &[u32],
     targets: &[u32],
     marks: &mut [u8],
     work: &mut [u32],
     answers: &mut [u32],
 )
-    requires in_triples { InTriples l names.now groups.now levels.now starts.now children.now labels.now }
-    requires n_in_bounds { stack_words l.width l.n + l.n ≤ length work.old }
-    requires marks_value { (marks.old ≡ replicate l.n 0) × ((length sources.now ≡ length targets.now) × (6 * length sources.now ≤ length answers.old)) }
-    ensures answers_after { answers.new ≡ put answers.old 0 (sixes l.n (answer (index_at l names.now groups.now levels.now starts.now children.now labels.now)) sources.now targets.now (length sources.now)) }
-    ensures marks_after { marks.new ≡ last_marks l.n (answer (index_at l names.now groups.now levels.now starts.now children.now labels.now)) sources.now targets.now (length sources.now) }
-    ensures kept { Kept work.old work.new 0 (stack_words l.width l.n + l.n) }
+    requires n_in_bounds { stack_words sections.now.layout.width sections.now.layout.n + sections.now.layout.n ≤ length work.old }
+    requires marks_value { (marks.old ≡ replicate sections.now.layout.n 0) × ((length sources.now ≡ length targets.now) × (6 * length sources.now ≤ length answers.old)) }
+    ensures answers_after { answers.new ≡ put answers.old 0 (sixes sections.now.layout.n (answer (index_of_sections sections.now)) sources.now targets.now (length sources.now)) }
+    ensures marks_after { marks.new ≡ last_marks sections.now.layout.n (answer (index_of_sections sections.now)) sources.now targets.now (length sources.now) }
+    ensures kept { Kept work.old work.new 0 (stack_words sections.now.layout.width sections.now.layout.n + sections.now.layout.n) }
 {
-    let w = l.width;
-    let n = l.n;
-    let k = l.k;
+    let w = sections.layout.width;
+    let n = sections.layout.n;
+    let k = sections.layout.k;
     let base = ask_stacked::stack_words(w, n);
-    places::lay_out(names, groups, w, n, k, &mut work[base..base + n]);
-    let last = ask_each(
-        groups, levels, starts, children, labels, w, n, k, l.d, sources, targets, marks, work,
-        answers,
+    places::lay_out(
+        sections.names,
+        sections.groups,
+        w,
+        n,
+        k,
+        &mut work[base..base + n],
     );
+    let last = ask_each(sections, sources, targets, marks, work, answers);
     settle(marks, last)
 }

@@ -11,7 +11,7 @@ use lib.ListN.{length, get_or, length-set}
 use Rattle.lineage.specs.Lists.{ones}
 use Rattle.lineage.specs.Numbers.{Width, num_at}
 use Rattle.lineage.specs.Walk.{Net, open_at}
-use Rattle.laws.proofs.Lists.{ones_set}
+use Rattle.laws.proofs.Positions.{ones_set}
 use Rattle.numbers.proofs.Numbers.{room}
 use Rattle.numbers.proofs.Regions.{kept_same}
 use Rattle.stored.proofs.Sections.{row_is}

@@ -11,7 +11,7 @@ use lib.Seq.{get_or-set_other}
 use Rattle.lineage.specs.Lists.{Every, ones}
 use Rattle.lineage.specs.Walk.{Net, Walked, marked, follow, pick, try_with, open_at}
 use Rattle.laws.proofs.Tests.{or_false_left, clash}
-use Rattle.laws.proofs.Lists.{ones_set}
+use Rattle.laws.proofs.Positions.{ones_set}
 use Rattle.ask_walk.specs.Fit.{Safe}
 
 -- the marks stay as long as they are, and gain as many as are counted

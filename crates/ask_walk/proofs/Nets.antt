@@ -11,7 +11,7 @@ use Rattle.lineage.specs.Lists.{Every}
 use Rattle.lineage.specs.Numbers.{num_at}
 use Rattle.lineage.specs.Walk.{Net, walked, open_at, try_at}
 use Rattle.lineage.specs.Question.{inside, first_labelling}
-use Rattle.laws.proofs.Lists.{ones_set}
+use Rattle.laws.proofs.Positions.{ones_set}
 use Rattle.ask_intervals.proofs.Deciding.{first_given}
 use Rattle.numbers.proofs.Numbers.{numbers_at}
 use Rattle.stored.specs.Sections.{ChildrenOf, children_in, labels_in}

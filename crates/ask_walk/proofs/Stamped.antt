@@ -110,10 +110,6 @@ seen_own m U = own m U.each
 
 -- whether a child is passed over, from what was read of it
 module _ (w t : ℕ) (groups levels : List ℕ) where
-  pub skips_level :
-      (m : List ℕ) (h a b : ℕ) → a ≡ num_at w levels h → b ≡ num_at w levels t → a ≤ b → not (eqb h t) ≡ skips w t groups levels m h
-  skips_level m h a b e f l = rw (← e, ← f, le-leb a b l) refl
-
   pub skips_mark :
       (m : List ℕ) (s h a b : ℕ) → a ≡ num_at w levels h → b ≡ num_at w levels t → b < a
       → (name : ℕ) → name ≡ num_at w groups h → num_at w groups h < length m → eqb (get_or m name 0) s ≡ skips w t groups levels (seen_as s m) h

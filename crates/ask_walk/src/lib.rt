@@ -6,10 +6,14 @@
 ghost use Rattle.std.specs.Prelude.{◌≡◌, ◌+◌, ◌*◌, ◌≤◌, ◌<◌, length};
 ghost use Rattle.lineage.specs.Numbers.{Width, num_at};
 ghost use Rattle.lineage.specs.Walk.{walked, open_at, try_at};
-ghost use Rattle.ask_walk.specs.Fit.{count, all, net_in, skips, Fit, Fresh, Marks, Below};
+ghost use Rattle.ask_walk.specs.Fit.{count, all, skips, Fresh, Marks, Below};
 ghost use Rattle.ask_walk.specs.Stamps.{seen_as, Under};
+ghost use Rattle.ask_walk.specs.Walks.{net_of_walk};
+
+pub mod towards;
 
 use ask_intervals::Judged;
+use towards::Towards;
 
 // Whether the target is found, by which labelling, and how many groups were opened.
 #[derive(Clone, Copy, Debug, PartialEq, Eq)]
@@ -51,33 +55,18 @@ pub fn skipped(
 
 // Opens g, of a level not above lev: it is marked and counted, then its children are tried.
 #[cycle(open_group_try_children)]
-pub fn open_group(
-    groups: &[u8],
-    levels: &[u8],
-    starts: &[u8],
-    children: &[u8],
-    labels: &[u8],
-    w: usize,
-    k: usize,
-    d: usize,
-    t: usize,
-    marks: &mut [u8],
-    lev: usize,
-    g: usize,
-    stamp: u8,
-) -> Seen
-    requires fit { Fit w k d t groups.now levels.now starts.now children.now labels.now (length marks.old) }
-    requires fresh { Fresh (net_in w k d t groups.now levels.now starts.now children.now labels.now) w k lev stamp groups.now levels.now marks.old g }
-    requires marks { Marks (net_in w k d t groups.now levels.now starts.now children.now labels.now) k stamp marks.old }
-    ensures marks_after { walked result.found result.deciding result.opened (seen_as stamp marks.new) ≡ open_at (net_in w k d t groups.now levels.now starts.now children.now labels.now) (lev + 1) g (seen_as stamp marks.old) }
+pub fn open_group(walk: &Towards, marks: &mut [u8], lev: usize, g: usize, stamp: u8) -> Seen
+    requires marks_long { length marks.old ≡ walk.now.marks }
+    requires fresh { Fresh (net_of_walk walk.now) walk.now.width walk.now.k lev stamp walk.now.groups.now walk.now.levels.now marks.old g }
+    requires marks { Marks (net_of_walk walk.now) walk.now.k stamp marks.old }
+    ensures marks_after { walked result.found result.deciding result.opened (seen_as stamp marks.new) ≡ open_at (net_of_walk walk.now) (lev + 1) g (seen_as stamp marks.old) }
     ensures under { Under (stamp + 1) marks.new }
 {
-    let name = numbers::num(groups, w, g);
+    let w = walk.width;
+    let name = numbers::num(walk.groups, w, g);
     marks[name] = stamp;
-    let row = stored::parts::children_of(starts, children, w, g);
-    let a = try_children(
-        groups, levels, starts, children, labels, w, k, d, t, row, marks, lev, stamp,
-    );
+    let row = stored::parts::children_of(walk.starts, walk.children, w, g);
+    let a = try_children(walk, row, marks, lev, stamp);
     Seen {
         found: a.found,
         deciding: a.deciding,
@@ -87,34 +76,29 @@ pub fn open_group(
 
 // Tries the children of a row, all of levels below lev: rule 2 ends the whole walk with yes; a child already opened, or ruled out, is passed over; any
 // other is opened in its turn. Level and mark are looked at first, then the labellings until one decides either way: on a sound index rule 2 says yes of no
-// child that is opened or ruled out, but of the target itself, so the order cannot be seen.
+// child that is opened or ruled out, but of the target itself, so the order cannot be seen. What the walk goes by is read where it is used: in locals the machine would
+// save and load it about each row.
 #[cycle(open_group_try_children)]
-pub fn try_children(
-    groups: &[u8],
-    levels: &[u8],
-    starts: &[u8],
-    children: &[u8],
-    labels: &[u8],
-    w: usize,
-    k: usize,
-    d: usize,
-    t: usize,
-    row: &[u8],
-    marks: &mut [u8],
-    lev: usize,
-    stamp: u8,
-) -> Seen
-    requires fit { Fit w k d t groups.now levels.now starts.now children.now labels.now (length marks.old) }
-    requires below { Below w k lev levels.now row.now }
-    requires marks { Marks (net_in w k d t groups.now levels.now starts.now children.now labels.now) k stamp marks.old }
-    ensures marks_after { walked result.found result.deciding result.opened (seen_as stamp marks.new) ≡ try_at (net_in w k d t groups.now levels.now starts.now children.now labels.now) lev (all w row.now) (seen_as stamp marks.old) }
+pub fn try_children(walk: &Towards, row: &[u8], marks: &mut [u8], lev: usize, stamp: u8) -> Seen
+    requires marks_long { length marks.old ≡ walk.now.marks }
+    requires below { Below walk.now.width walk.now.k lev walk.now.levels.now row.now }
+    requires marks { Marks (net_of_walk walk.now) walk.now.k stamp marks.old }
+    ensures marks_after { walked result.found result.deciding result.opened (seen_as stamp marks.new) ≡ try_at (net_of_walk walk.now) lev (all walk.now.width row.now) (seen_as stamp marks.old) }
     ensures under { Under (stamp + 1) marks.new }
 {
     let mut opened = 0;
-    for i in 0..count(row, w) {
-        let h = numbers::num(row, w, i);
-        if !skipped(groups, levels, w, t, marks, h, stamp) {
-            match ask_intervals::judge(labels, w, k, d, h, t) {
+    for i in 0..count(row, walk.width) {
+        let h = numbers::num(row, walk.width, i);
+        if !skipped(
+            walk.groups,
+            walk.levels,
+            walk.width,
+            walk.t,
+            marks,
+            h,
+            stamp,
+        ) {
+            match walk.judge(h) {
                 Judged::Inside(deciding) => {
                     return Seen {
                         found: true,
@@ -124,21 +108,7 @@ pub fn try_children(
                 }
                 Judged::Outside(_) => {}
                 Judged::Neither => {
-                    let a = open_group(
-                        groups,
-                        levels,
-                        starts,
-                        children,
-                        labels,
-                        w,
-                        k,
-                        d,
-                        t,
-                        marks,
-                        lev - 1,
-                        h,
-                        stamp,
-                    );
+                    let a = open_group(walk, marks, lev - 1, h, stamp);
                     opened += a.opened;
                     if a.found {
                         return Seen {

@@ -1,7 +1,7 @@
 -- The tests of edges and orders by the first bad one, and what holds where checks 1 to 7 pass.
 use mathlib.Core.Bool.{Bool, true, false}
-use mathlib.Core.Path.{◌≡◌, refl, sym, ◌∙◌}
-use Prim.Native.Nat.{ℕ, ◌*◌, ◌≤◌, ◌<◌}
+use mathlib.Core.Path.{◌≡◌, sym, ◌∙◌}
+use Prim.Native.Nat.{ℕ, ◌*◌, ◌<◌}
 use native.Mathlib.Omega.{arith}
 use native.Mathlib.Nat.{pos_of_ne-zero}
 use lib.Dec.{eqb, ltb}
@@ -14,36 +14,28 @@ use Rattle.lineage.specs.Stored.{Form}
 use Rattle.lineage.specs.Calls.{Input, work_needed, build_early}
 use Rattle.laws.proofs.Tests.{or_false_left, or_false_right}
 use Rattle.laws.specs.Checks.{Pass}
-use Rattle.build_orders.specs.Found.{found_below}
-use Rattle.build_orders.proofs.First.{first_other, any_first, found_is, found_not}
+use Rattle.numbers.specs.Found.{found_below}
+use Rattle.numbers.proofs.Found.{first_other, any_first, found_is, found_not}
 use Rattle.build_orders.proofs.Edges.{ends_of}
 use Rattle.build.specs.Admitted.{Admitted}
 
--- one of the numbers below n passes a test, or none does, by the first found
-module _ (p : ℕ → Bool) (n first : ℕ) (found : first ≡ first_of p (upto n) n) where
-  pub any_found : first < n → any p (upto n) ≡ true
-  any_found h = any_first p n ∙ lt-ltb (first_of p (upto n) n) n (omega (arith, found))
-
-  pub none_found : n ≤ first → any p (upto n) ≡ false
-  none_found h = any_first p n ∙ le-ltb (first_of p (upto n) n) n (omega (arith, found))
-
-  pub first_found : first < n → first ≡ first_of p (upto n) 0
-  first_found h = found ∙ first_other p (upto n) n 0 (any_found h)
-
--- the same, by what a search returned
+-- one of the numbers below n passes a test, or none does, by what a search returned
 module _ (p : ℕ → Bool) (n : ℕ) {r : Option ℕ} (found : r ≡ found_below n (first_of p (upto n) n)) where
   module _ {first : ℕ} (some : r ≡ Some first) where
+    is : (first ≡ first_of p (upto n) n) × (first < n)
+    is = found_is p n (sym some ∙ found)
+
     pub some_low : first < n
-    some_low = (found_is p n (sym some ∙ found)).1
+    some_low = is.1
 
     pub any_some : any p (upto n) ≡ true
-    any_some = any_found p n first (found_is p n (sym some ∙ found)).0 some_low
+    any_some = any_first p n ∙ lt-ltb (first_of p (upto n) n) n (omega (arith, is))
 
     pub first_some : first ≡ first_of p (upto n) 0
-    first_some = first_found p n first (found_is p n (sym some ∙ found)).0 some_low
+    first_some = is.0 ∙ first_other p (upto n) n 0 any_some
 
   pub any_none_found : r ≡ None → any p (upto n) ≡ false
-  any_none_found none = none_found p n (first_of p (upto n) n) refl (found_not p n (sym none ∙ found))
+  any_none_found none = any_first p n ∙ le-ltb (first_of p (upto n) n) n (found_not p n (sym none ∙ found))
 
 -- where none of 1 to 7 applies, all that they ask holds
 pub admitted : (F : Form) (B : Input) (work : ℕ) → Pass (build_early F B work) → Admitted F B work

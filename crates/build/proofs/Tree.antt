@@ -10,7 +10,7 @@ use Rattle.std.specs.Prelude.{Option, Some, None}
 use Rattle.lineage.specs.Lists.{upto, any, first_of}
 use Rattle.lineage.specs.Sound.{shared, is_tree}
 use Rattle.laws.proofs.Tests.{clash}
-use Rattle.build_orders.specs.Found.{found_below}
+use Rattle.numbers.specs.Found.{found_below}
 use Rattle.build.proofs.Checks.{some_low, any_some, first_some, any_none_found}
 
 -- where 22 does not apply, at a form of plain hierarchies the graph is one; and the other way round

@@ -7,7 +7,7 @@ ghost use Rattle.lineage.specs.Stored.{form4, form_of, is_form};
 ghost use Rattle.lineage.specs.Calls.{work_needed, build_early, build_answer, build_output, build_work, build_call, build_call_output, build_call_work, outcome};
 ghost use Rattle.stored_header.specs.Header.{row_of};
 ghost use Rattle.build_orders.specs.Input.{graph_of};
-ghost use Rattle.build_orders.specs.Found.{found_below};
+ghost use Rattle.numbers.specs.Found.{found_below};
 ghost use Rattle.build_indexed.specs.Shared.{row_shared};
 ghost use Rattle.build.specs.Input.{input_of, form_by, RowFit};
 ghost use Rattle.build.specs.Answers.{checked_of, built_of, LateBuilt};
@@ -52,20 +52,19 @@ fn early(
     if work < needed {
         return Err(Refusal::WorkShort(needed as u32));
     }
-    let first = build_orders::bad_edge(n, sources, targets);
-    if first < edges {
-        return Err(Refusal::BadEdge(first as u32));
+    if let Some(bad) = build_orders::bad_edge(n, sources, targets) {
+        return Err(Refusal::BadEdge(bad as u32));
     }
     Ok(needed)
 }
 
-// The first group that keeps a graph out of a form: at a form of plain hierarchies the first that is a child of two others, by its row of parents.
-fn first_kept_out(tree: bool, work: &[u32], parents: usize, k: usize) -> Option<usize>
-    requires { parents + k + 1 ≤ length work.now }
-    ensures { result ≡ cond tree (found_below k (first_of (row_shared (part work.now parents (k + 1))) (upto k) k)) None }
+// The first group that keeps a graph out of a form: at a form of plain hierarchies the first that is a child of two others, by where the rows of parents start.
+fn first_kept_out(tree: bool, starts: &[u32], k: usize) -> Option<usize>
+    requires { length starts.now ≡ k + 1 }
+    ensures { result ≡ cond tree (found_below k (first_of (row_shared starts.now) (upto k) k)) None }
 {
     if tree {
-        build_indexed::first_shared(work, parents, k)
+        build_indexed::first_shared(starts, k)
     } else {
         None
     }
@@ -96,7 +95,9 @@ fn late(
     let found = build_indexed::condensed(n, sources, targets, work);
     let l = stored_header::lay_out(row.width, row.stride, n, found.k, found.c, d);
     let total = l.total as u32;
-    if let Some(shared) = first_kept_out(row.tree, work, 3 * n, found.k) {
+    let parents = 3 * n;
+    let starts = &work[parents..parents + found.k + 1];
+    if let Some(shared) = first_kept_out(row.tree, starts, found.k) {
         return Err(Refusal::SharedChild(work[n + shared]));
     }
     if out.len() < l.total {

@@ -18,7 +18,8 @@ use Rattle.lineage.specs.Graph.{group_list, place_of}
 use Rattle.numbers.specs.Regions.{Kept}
 use Rattle.numbers.proofs.Regions.{part_set, part_over, part_under, kept_same, kept_set, kept_then, kept_more, part_longer, read_at}
 use Rattle.laws.proofs.Tests.{is_false}
-use Rattle.laws.proofs.Lists.{those_append, those_yes, those_no, those_pass, those_keep, in_upto, upto_low, position_past, position_left, table_at, table_is}
+use Rattle.laws.proofs.Lists.{those_append, those_yes, those_no, those_pass, those_keep, in_upto, upto_low, table_at, table_is}
+use Rattle.laws.proofs.Positions.{position_past, position_left}
 use Rattle.laws.proofs.Parts.{part_at, part_length, part_more}
 use Rattle.build_groups.specs.Fit.{ListFit}
 use Rattle.build_groups.specs.Places.{places_of_names}

@@ -5,6 +5,7 @@ use mathlib.Core.List.{List}
 use Prim.Native.Nat.{ℕ, suc, ◌+◌, ◌*◌, ◌≤◌, ◌<◌}
 use native.Mathlib.Decide.{dec_lt}
 use native.Mathlib.Omega.{arith}
+use native.Mathlib.Numerals.{add-one}
 use lib.ListN.{length, get_or}
 use borrow.Author.Tests.{lt-ltb, le-ltb}
 use Rattle.lineage.specs.Lists.{upto, first_of, part}
@@ -13,35 +14,20 @@ use Rattle.lineage.specs.Sound.{child_of, parents_of, shared}
 use Rattle.laws.proofs.Lists.{those_pass, those_keep, in_upto, upto_low}
 use Rattle.laws.proofs.Rising.{rises_upto, rises_those, rises_distinct, pigeonhole}
 use Rattle.laws.proofs.Laid.{row_below, below_in}
-use Rattle.laws.proofs.Parts.{part_at}
 use Rattle.build_rows.specs.Rows.{RowsOnce}
-use Rattle.build_orders.proofs.First.{first_same}
+use Rattle.numbers.proofs.Found.{first_same}
 use Rattle.build_orders.proofs.Parents.{row_long}
 use Rattle.build_labelled.specs.Window.{children_by}
 use Rattle.build_indexed.specs.Memory.{children_from, GroupsStored}
 use Rattle.build_indexed.specs.Shared.{row_shared}
 
 -- the test of a row, by the two words that code reads
-module _ (work : List ℕ) (parents k p : ℕ) (h : p < k) where
-  abbrev start : ℕ
-  start = get_or (part work parents (k + 1)) p 0
+module _ (starts : List ℕ) (p : ℕ) where
+  pub row_many : get_or starts p 0 + 1 < get_or starts (p + 1) 0 → row_shared starts p ≡ true
+  row_many t = lt-ltb (get_or starts p 0 + 1) (get_or starts (suc p) 0) (omega (arith, ap (λ i. get_or starts i 0) (add-one p)))
 
-  abbrev end : ℕ
-  end = get_or (part work parents (k + 1)) (suc p) 0
-
-  starts_at : get_or work (parents + p) 0 ≡ start
-  starts_at = part_at work parents (k + 1) p (omega arith)
-
-  ends_at : get_or work (parents + p + 1) 0 ≡ end
-  ends_at =
-      let next : parents + p + 1 ≡ parents + suc p = omega arith in
-      ap (λ (i : ℕ). get_or work i 0) next ∙ part_at work parents (k + 1) (suc p) (omega arith)
-
-  pub row_many : get_or work (parents + p) 0 + 1 < get_or work (parents + p + 1) 0 → row_shared (part work parents (k + 1)) p ≡ true
-  row_many t = lt-ltb (start + 1) end (omega (arith, starts_at, ends_at))
-
-  pub row_few : get_or work (parents + p + 1) 0 ≤ get_or work (parents + p) 0 + 1 → row_shared (part work parents (k + 1)) p ≡ false
-  row_few t = le-ltb (start + 1) end (omega (arith, starts_at, ends_at))
+  pub row_few : get_or starts (p + 1) 0 ≤ get_or starts p 0 + 1 → row_shared starts p ≡ false
+  row_few t = le-ltb (get_or starts p 0 + 1) (get_or starts (suc p) 0) (omega (arith, ap (λ i. get_or starts i 0) (add-one p)))
 
 -- rows of parents of k groups
 module _

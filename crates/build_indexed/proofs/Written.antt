@@ -4,7 +4,7 @@ use mathlib.Core.Path.{◌≡◌, refl, sym, ap, ap₂, subst⁻¹, ◌∙◌}
 use mathlib.Core.List.{List, ◌++◌, map, map-map}
 use Prim.Native.Nat.{ℕ, ◌+◌, ◌-◌, ◌*◌, ◌^◌, ◌≤◌, ◌<◌}
 use native.Mathlib.Omega.{arith}
-use lib.ListN.{length, get_or, drop}
+use lib.ListN.{length, get_or, take, drop}
 use Rattle.lineage.specs.Lists.{upto, joined, part, Every}
 use Rattle.lineage.specs.Numbers.{written}
 use Rattle.lineage.specs.Graph.{levels_of}
@@ -18,7 +18,8 @@ use Rattle.laws.proofs.Labelled.{labelling_sound}
 use Rattle.laws.proofs.Parts.{part_length}
 use Rattle.laws.proofs.Every.{every_table}
 use Rattle.numbers.specs.Put.{put}
-use Rattle.numbers.specs.Regions.{Kept}
+use Rattle.numbers.specs.Regions.{Kept, Part}
+use Rattle.numbers.proofs.Regions.{slice_part}
 use Rattle.build_levels.specs.Fit.{UpFit}
 use Rattle.build_labelled.specs.Window.{walk_at, labels_window, groups_by, children_by}
 use Rattle.build_labelled.specs.Fit.{LabelFit}
@@ -27,13 +28,21 @@ use Rattle.stored_header.specs.declared.Layout.{Layout}
 use Rattle.stored_header.specs.Header.{counts, header_of}
 use Rattle.stored_header.proofs.Laid.{Bounded}
 use Rattle.stored.proofs.Encoded.{header_fits}
-use Rattle.build_writing.specs.Words.{group_sections}
+use Rattle.build_writing.specs.Words.{GroupLists, group_sections}
 use Rattle.build_writing.specs.Fit.{SectionsFit}
 use Rattle.build_writing.proofs.Encoded.{Whole, first_sections, label_section, index_put}
 use Rattle.build_indexed.specs.Written.{written_as}
 use Rattle.build_indexed.specs.Memory.{children_from, labels_from, condensed_in, labelling_under, labelling_block, Ready, OrderLabelled}
 use Rattle.build_indexed.proofs.Orders.{label_fits}
 use Rattle.build_indexed.proofs.Turns.{total_at}
+
+-- the sections before the labels are slices of work memory: the names and the group list from its start on, the levels from base on, and the children
+pub record Slices (work : List ℕ) (l : Layout) (base rows : ℕ) (lists : GroupLists) : Type 0 where
+  pub names : Part work 0 l.n lists.names
+  pub groups : Part work l.n l.k lists.groups
+  pub levels : Part work base l.k lists.levels
+  pub starts : Part work rows (l.k + 1) lists.starts
+  pub children : Part work (rows + l.k + 1) l.c lists.children
 
 module _ {l : Layout} {e : ℕ} {orders work₀ : List ℕ} (fit : Ready l e orders work₀) where
   abbrev groups : List ℕ
@@ -141,41 +150,63 @@ module _ {l : Layout} {e : ℕ} {orders work₀ : List ℕ} (fit : Ready l e ord
           pub index_kept : Kept work₀ work₂ (labels_from l.n l.k e) (labels_window l.n l.k l.c)
           index_kept = beside.0.kept
 
-          pub groups_fit : (form : ℕ) {out₁ : List ℕ} → form < 2 ^ 32 → l.total ≤ length out₁ → SectionsFit out₁ form l work₂ 0 l.n base children_at_lem (children_at_lem + l.k + 1)
-          groups_fit form small long =
+          names_slice : Part work₂ 0 l.n (take l.n work₂)
+          unfolding part
+          names_slice = record { is = refl; long = part_length work₂ 0 l.n (omega (arith, fit.stored.fit.vertices.room, index_kept.long)) }
+
+          -- the five sections before the labels as slices of their regions
+          pub slices : {list levels starts values : ℕ}
+              → list ≡ l.n + l.k → levels ≡ base + l.k → starts ≡ children_at_lem + (l.k + 1) → values ≡ children_at_lem + l.k + 1 + l.c
+              → Slices work₂ l base children_at_lem (record {
+                names = take l.n work₂;
+                groups = take (list - l.n) (drop l.n work₂);
+                levels = take (levels - base) (drop base work₂);
+                starts = take (starts - children_at_lem) (drop children_at_lem work₂);
+                children = take (values - (children_at_lem + l.k + 1)) (drop (children_at_lem + l.k + 1) work₂);
+              })
+          slices list levels starts values =
               let room = fit.stored.fit.vertices.room in
               let same = index_kept.long in
               record {
-                width = fit.width;
-                laid = fit.laid;
-                small = header_small form small;
-                room = omega (arith, total_at fit);
-                names_in = omega arith;
-                groups_in_lem = omega (arith, fit.stored.few_groups);
-                levels_in = omega arith;
-                starts_in = omega arith;
-                children_in_lem = omega (arith, fit.stored.few_children);
+                names = names_slice;
+                groups = slice_part work₂ l.n l.k list (omega (arith, fit.stored.few_groups));
+                levels = slice_part work₂ base l.k levels (omega arith);
+                starts = slice_part work₂ children_at_lem (l.k + 1) starts (omega arith);
+                children = slice_part work₂ (children_at_lem + l.k + 1) l.c values (omega (arith, fit.stored.few_children));
               }
 
-          -- the five sections before the labels, from their regions
-          sections_are : group_sections work₂ l 0 l.n base children_at_lem (children_at_lem + l.k + 1) ≡ first_sections I
-          sections_are =
-              let names = index_kept.below 0 l.n (omega arith) in
-              let list = index_kept.below l.n l.k (omega (arith, fit.stored.few_groups)) ∙ fit.stored.groups in
-              let starts = index_kept.below (children_from l.n l.k e) (l.k + 1) (omega arith) ∙ fit.stored.starts in
-              let values = index_kept.below (children_from l.n l.k e + l.k + 1) l.c (omega (arith, fit.stored.few_children)) ∙ fit.stored.values in
-              rw (children-is, base-is, names, list, beside.1, starts, values)
+          module _ {lists : GroupLists} (S : Slices work₂ l base children_at_lem lists) where
+            pub groups_fit : (form : ℕ) {out₁ : List ℕ} → form < 2 ^ 32 → l.total ≤ length out₁ → SectionsFit out₁ form l lists
+            groups_fit form small long = record {
+              width = fit.width;
+              laid = fit.laid;
+              small = header_small form small;
+              room = omega (arith, total_at fit);
+              names_long = S.names.long;
+              groups_long = S.groups.long;
+              levels_long = S.levels.long;
+              starts_long = S.starts.long;
+              children_long = S.children.long;
+            }
 
-          pub index_written : (form : ℕ) (out₀ out₁ out₂ : List ℕ)
-              → l.total ≤ length out₀
-              → out₁ ≡ put out₀ l.labels (written l.width (joined (map (labelling_block l e orders work₀) (upto l.d))))
-              → out₂
-              ≡ put out₁ 0 (written 4 (header_of form l) ++ joined (map (written l.width) (group_sections work₂ l 0 l.n base children_at_lem (children_at_lem + l.k + 1))))
-              → out₂ ≡ encode (written_as form l.width l.stride) (index_by (condensed_in work₀ l.n l.k l.c e) (map (order_at l.n orders) (upto l.d))) ++ drop l.total out₀
-          index_written form out₀ out₁ out₂ room e₁ e₂ =
-              e₂
-              ∙ ap₂ (λ (z bytes : List ℕ). put z 0 bytes)
-              (e₁ ∙ ap (λ (z : List ℕ). put out₀ l.labels (written l.width z)) section_is)
-              (ap₂ (λ (h : List ℕ) (x : List (List ℕ)). written 4 h ++ joined (map (written l.width) x)) (header_is form) sections_are)
-              ∙ index_put (F form) I fit.stride whole out₀ l.labels (labels_is form) (omega (arith, total_is form))
-              ∙ ap₂ (λ (J : Index) (n : ℕ). encode (F form) J ++ drop n out₀) (sym index_is) (total_is form)
+            sections_are : group_sections lists ≡ first_sections I
+            sections_are =
+                let names = index_kept.below 0 l.n (omega arith) in
+                let list = index_kept.below l.n l.k (omega (arith, fit.stored.few_groups)) ∙ fit.stored.groups in
+                let starts = index_kept.below (children_from l.n l.k e) (l.k + 1) (omega arith) ∙ fit.stored.starts in
+                let values = index_kept.below (children_from l.n l.k e + l.k + 1) l.c (omega (arith, fit.stored.few_children)) ∙ fit.stored.values in
+                rw (S.names.is, S.groups.is, S.levels.is, S.starts.is, S.children.is, children-is, base-is, names, list, beside.1, starts, values)
+
+            pub index_written : (form : ℕ) (out₀ out₁ out₂ : List ℕ)
+                → l.total ≤ length out₀
+                → out₁ ≡ put out₀ l.labels (written l.width (joined (map (labelling_block l e orders work₀) (upto l.d))))
+                → out₂
+                ≡ put out₁ 0 (written 4 (header_of form l) ++ joined (map (written l.width) (group_sections lists)))
+                → out₂ ≡ encode (written_as form l.width l.stride) (index_by (condensed_in work₀ l.n l.k l.c e) (map (order_at l.n orders) (upto l.d))) ++ drop l.total out₀
+            index_written form out₀ out₁ out₂ room e₁ e₂ =
+                e₂
+                ∙ ap₂ (λ (z bytes : List ℕ). put z 0 bytes)
+                (e₁ ∙ ap (λ (z : List ℕ). put out₀ l.labels (written l.width z)) section_is)
+                (ap₂ (λ (h : List ℕ) (x : List (List ℕ)). written 4 h ++ joined (map (written l.width) x)) (header_is form) sections_are)
+                ∙ index_put (F form) I fit.stride whole out₀ l.labels (labels_is form) (omega (arith, total_is form))
+                ∙ ap₂ (λ (J : Index) (n : ℕ). encode (F form) J ++ drop n out₀) (sym index_is) (total_is form)

@@ -12,12 +12,14 @@ ghost use Rattle.numbers.specs.Put.{put};
 ghost use Rattle.numbers.specs.Regions.{Kept};
 ghost use Rattle.build_labelled.specs.Window.{walk_at, labels_window};
 ghost use Rattle.build_orders.specs.Input.{graph_of};
-ghost use Rattle.build_orders.specs.Found.{found_below};
+ghost use Rattle.numbers.specs.Found.{found_below};
 ghost use Rattle.build_indexed.specs.Written.{written_as};
 ghost use Rattle.build_indexed.specs.Shared.{row_shared};
 ghost use Rattle.build_indexed.specs.Memory.{children_from, labels_from, condensed_in, labelling_block, CondensedFit, CondensedFound, Ready, OrderLabelled};
 
+use build_labelled::WorkGroups;
 use build_rows::WorkRows;
+use build_writing::{GroupWords, LabellingWords};
 use stored_header::Layout;
 
 // k groups, and c child entries.
@@ -37,14 +39,13 @@ pub fn condensed(n: usize, sources: &[u32], targets: &[u32], work: &mut [u32]) -
     Sizes { k, c }
 }
 
-// The first group whose row of parents, of k rows, has two entries or more.
-pub fn first_shared(work: &[u32], parents: usize, k: usize) -> Option<usize>
-    requires { parents + k + 1 ≤ length work.now }
-    ensures { result ≡ found_below k (first_of (row_shared (part work.now parents (k + 1))) (upto k) k) }
+// The first group whose row of parents, told by where the k rows start, has two entries or more.
+pub fn first_shared(starts: &[u32], k: usize) -> Option<usize>
+    requires { length starts.now ≡ k + 1 }
+    ensures { result ≡ found_below k (first_of (row_shared starts.now) (upto k) k) }
 {
     for p in 0..k {
-        let row = parents + p;
-        if work[row] as usize + 1 < work[row + 1] as usize {
+        if starts[p] as usize + 1 < starts[p + 1] as usize {
             return Some(p);
         }
     }
@@ -93,34 +94,26 @@ fn write_order(
     let n = l.n;
     let k = l.k;
     let c = l.c;
-    let children = children_from(n, k, edges);
     let base = labels_from(n, k, edges);
     let walk = walk_from(n, k, c, edges);
-    build_labelled::label(
-        orders,
-        j * n,
-        work,
+    let groups = WorkGroups {
         n,
         k,
         c,
-        0,
-        2 * n,
-        3 * n,
-        children,
-        base,
-    );
-    build_writing::write_labelling(
-        out,
-        at,
-        l.width,
-        l.stride,
-        work,
-        walk,
-        walk + 5 * k,
-        walk + 6 * k,
-        walk + 4 * k,
-        k,
-    );
+        names: 0,
+        place: 2 * n,
+        parents: 3 * n,
+        children: children_from(n, k, edges),
+    };
+    build_labelled::label(orders, j * n, work, &groups, base);
+    let made = &work[..];
+    let words = LabellingWords {
+        s: &made[walk..walk + k],
+        m: &made[walk + 5 * k..walk + 6 * k],
+        e: &made[walk + 6 * k..walk + 7 * k],
+        by_rank: &made[walk + 4 * k..walk + 5 * k],
+    };
+    build_writing::write_labelling(out, at, l.width, l.stride, &words);
 }
 
 // Labels the groups under one order after the other, and writes each labelling behind the one before it, at the offset of the labels.
@@ -171,5 +164,13 @@ pub fn write_index(
         },
         base,
     );
-    build_writing::write_groups(out, form, l, work, 0, n, base, children, values);
+    let made = &work[..];
+    let words = GroupWords {
+        names: &made[..n],
+        groups: &made[n..n + k],
+        levels: &made[base..base + k],
+        starts: &made[children..children + k + 1],
+        children: &made[values..values + c],
+    };
+    build_writing::write_groups(out, form, l, &words);
 }

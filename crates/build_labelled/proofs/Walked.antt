@@ -10,7 +10,8 @@ use Rattle.lineage.specs.Lists.{among, those, position, least, part}
 use Rattle.lineage.specs.Labels.{Order, finished, traverse, nobodys_child, forest_of}
 use Rattle.lineage.specs.Sound.{child_of}
 use Rattle.laws.specs.Laid.{Below}
-use Rattle.laws.proofs.Lists.{those_pass, those_keep, least_same}
+use Rattle.laws.proofs.Lists.{those_pass, those_keep}
+use Rattle.laws.proofs.Positions.{least_same}
 use Rattle.laws.proofs.Parts.{part_length}
 use Rattle.laws.proofs.Laid.{in_below}
 use Rattle.numbers.specs.Regions.{Kept, under}

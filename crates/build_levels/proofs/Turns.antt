@@ -1,17 +1,20 @@
 -- One turn upwards: the level of the place at hand is the greatest of one more than those of its children. This is the equation of the definition, which the ranks bound.
 use mathlib.Core.Bool.{true}
-use mathlib.Core.Path.{◌≡◌, sym, ap, subst, ◌∙◌}
+use mathlib.Core.Path.{◌≡◌, sym, ap, ap₂, subst, ◌∙◌}
 use mathlib.Core.List.{List, map}
-use Prim.Native.Nat.{ℕ, suc, ◌+◌, ◌-◌, ◌^◌, ◌≤◌, ◌<◌}
+use Prim.Native.Nat.{ℕ, suc, ◌+◌, ◌^◌, ◌≤◌, ◌<◌}
 use native.Mathlib.Omega.{arith}
 use lib.ListN.{length, get_or}
 use Rattle.lineage.specs.Lists.{among, position, greatest, part}
 use Rattle.lineage.specs.Graph.{level, levels_of}
-use Rattle.laws.proofs.Lists.{in_get_d, position_low, map_same, greatest_at, table_at}
+use Rattle.laws.specs.Laid.{Below}
+use Rattle.laws.proofs.Lists.{map_same, table_at}
+use Rattle.laws.proofs.Positions.{in_get_d, position_low, greatest_at}
 use Rattle.laws.proofs.Levels.{levels_meet, levels_long, level_most}
 use Rattle.laws.proofs.Parts.{part_length}
 use Rattle.build_levels.specs.Fit.{UpFit}
-use Rattle.build_levels.proofs.Upwards.{Filling, by_rank, children, row, children_long, children_at_lem, child_low, child_falls, place_low, row_is, row_fit, known}
+use Rattle.numbers.specs.Regions.{Part}
+use Rattle.build_levels.proofs.Upwards.{Filling, by_rank, children, row, children_long, children_at_lem, child_low, child_falls, place_low, row_is, at, size, row_low_now, known}
 
 -- the levels
 module _ {work₀ : List ℕ} {out k starts values c base : ℕ} (f : UpFit work₀ out k starts values c base) where
@@ -38,26 +41,20 @@ module _ {work₀ : List ℕ} {out k starts values c base : ℕ} (f : UpFit work
       omega (arith, children_long f, table_at (level (children f) (length (children f))) (length (children f)) p 0 l, level_most (children f) (length (children f)) p)
 
   module _ {work : List ℕ} {r : ℕ} (i : Filling work₀ work table out k base r) (h : r < k) where
-    abbrev at : ℕ
-    at = values + get_or work (starts + get_or work (out + r) 0) 0
-
-    abbrev size : ℕ
-    size = get_or work (starts + (get_or work (out + r) 0 + 1)) 0 - get_or work (starts + get_or work (out + r) 0) 0
-
-    pub level_is : {x : ℕ} → x ≡ greatest (map (λ q. suc (get_or (part work base k) q 0)) (part work at size)) → x ≡ get_or table (get_or work (out + r) 0) 0
-    level_is e =
+    told : {x : ℕ} → x ≡ greatest (map (λ q. suc (get_or (part work base k) q 0)) (part work (at f i h) (size f i h))) → x ≡ get_or table (get_or work (out + r) 0) 0
+    told e =
         e
         ∙ ap (λ xs. greatest (map (λ q. suc (get_or (part work base k) q 0)) xs)) (row_is f i h)
         ∙ ap greatest (map_same (λ q. suc (get_or (part work base k) q 0)) (λ q. suc (get_or table q 0)) (row f (get_or work (out + r) 0)) (λ q j. ap suc (known f i h q j)))
         ∙ sym (level_meets (get_or work (out + r) 0) (place_low f i h))
 
     -- one more than a child's level is still small
-    pub level_small : (j : ℕ) → j < size → get_or (part work base k) (get_or (part work at size) j 0) 0 + 1 < 2 ^ 32
-    level_small j l =
+    small : (j : ℕ) → j < length (part work (at f i h) (size f i h)) → get_or (part work base k) (get_or (part work (at f i h) (size f i h)) j 0) 0 + 1 < 2 ^ 32
+    small j l =
         let p : ℕ = get_or work (out + r) 0 in
-        let q : ℕ = get_or (part work at size) j 0 in
+        let q : ℕ = get_or (part work (at f i h) (size f i h)) j 0 in
         let in_row : among q (row f p) ≡ true =
-        subst (λ xs. among q xs ≡ true) (row_is f i h) (in_get_d (part work at size) j (omega (arith, part_length work at size (row_fit f i h).row_in))) in
+        subst (λ xs. among q xs ≡ true) (row_is f i h) (in_get_d (part work (at f i h) (size f i h)) j l) in
         omega (
           arith,
           known f i h q in_row,
@@ -66,3 +63,14 @@ module _ {work₀ : List ℕ} {out k starts values c base : ℕ} (f : UpFit work
           level_low p (place_low f i h),
           f.few,
         )
+
+    -- by the slices of its row and of the words
+    module _ {places words : List ℕ} (P : Part work (at f i h) (size f i h) places) (W : Part work base k words) where
+      pub places_below : Below (length words) places
+      places_below = rw (W.long, P.is) (row_low_now f i h)
+
+      pub level_is : {x : ℕ} → x ≡ greatest (map (λ q. suc (get_or words q 0)) places) → x ≡ get_or table (get_or work (out + r) 0) 0
+      level_is e = told (e ∙ ap₂ (λ xs ys. greatest (map (λ q. suc (get_or xs q 0)) ys)) W.is P.is)
+
+      pub level_small : (j : ℕ) → j < length places → get_or words (get_or places j 0) 0 + 1 < 2 ^ 32
+      level_small = rw (W.is, P.is) small

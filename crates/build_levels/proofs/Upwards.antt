@@ -1,26 +1,28 @@
 -- Upwards through the ranks: the children of a place have lower ranks, so what is asked of them is known when the place is come to; at the end it is known of all.
 use mathlib.Core.Bool.{true}
-use mathlib.Core.Path.{◌≡◌, sym, ap, ap₂, ◌∙◌}
+use mathlib.Core.Path.{◌≡◌, refl, sym, ap, ap₂, ◌∙◌}
 use mathlib.Core.List.{List, []}
 use Prim.Native.Nat.{ℕ, suc, ◌+◌, ◌-◌, ◌≤◌, ◌<◌}
 use native.Mathlib.Decide.{ℕ_discrete}
 use native.Mathlib.Numerals.{add-one}
 use native.Mathlib.Omega.{arith}
 use lib.Arith.{lt_of_le-ne}
-use lib.ListN.{length, get_or, set}
+use lib.ListN.{length, get_or, set, take, drop}
 use lib.Seq.{get_or-set_same, get_or-set_other, ext_get_or}
 use Rattle.lineage.specs.Lists.{among, position, part}
 use Rattle.lineage.specs.Stored.{row_at}
 use Rattle.lineage.specs.Sound.{child_of}
-use Rattle.numbers.specs.Regions.{Kept}
-use Rattle.numbers.proofs.Regions.{part_set, kept_apart, kept_more, read_at}
-use Rattle.laws.proofs.Lists.{in_get_d, at_position, position_low, position_most, table_at, table_long}
+use Rattle.numbers.specs.Regions.{Kept, Part}
+use Rattle.numbers.proofs.Regions.{slice_part, part_set, kept_apart, kept_more, read_at}
+use Rattle.laws.proofs.Lists.{table_at, table_long}
+use Rattle.laws.proofs.Positions.{in_get_d, at_position, position_low, position_most}
 use Rattle.laws.proofs.Parts.{part_length, part_part}
+use Rattle.laws.specs.Laid.{Below}
 use Rattle.laws.proofs.Laid.{start_low, row_below, below_in}
 use Rattle.build_rows.specs.Rows.{rows_in}
 use Rattle.build_rows.proofs.Orders.{order_low}
 use Rattle.build_levels.specs.Children.{children_in_words}
-use Rattle.build_levels.specs.Fit.{RowFit, UpFit}
+use Rattle.build_levels.specs.Fit.{UpFit}
 
 -- the places at the first r ranks have the words of the table
 pub record Filling (work₀ work table : List ℕ) (out k base r : ℕ) : Type 0 where
@@ -112,14 +114,22 @@ module _ {work₀ : List ℕ} {out k starts values c base : ℕ} (f : UpFit work
         ∙ sym (part_part work values c s size (omega (arith, inside, f.laid.rising p place_low)))
         ∙ ap (λ z. part z s size) (kept_apart i.kept f.values_there.apart)
 
-    pub row_fit : RowFit work (values + get_or work (starts + p) 0) (get_or work (starts + (p + 1)) 0 - get_or work (starts + p) 0) base k
-    row_fit =
-        let place = filling_place in
-        record {
-          row_in = omega arith;
-          row_low = rw row_is (row_below f.laid k f.values_low p place_low);
-          words_in_lem = omega (arith, f.room, i.kept.long);
-        }
+    -- and as a slice, beside the slice of the words of all places
+    abbrev pub at : ℕ
+    at = values + get_or work (starts + p) 0
+
+    abbrev pub size : ℕ
+    size = get_or work (starts + (p + 1)) 0 - get_or work (starts + p) 0
+
+    pub row_slice : {end : ℕ} → end ≡ values + get_or work (starts + (p + 1)) 0 → Part work at size (take (end - at) (drop at work))
+    row_slice e = slice_part work at size (omega (arith, filling_place)) (omega (arith, filling_place))
+
+    pub words_slice : Part work base k (take (base + k - base) (drop base work))
+    words_slice = slice_part work base k refl (omega (arith, f.room, i.kept.long))
+
+    -- its places
+    pub row_low_now : Below k (part work at size)
+    row_low_now = rw row_is (row_below f.laid k f.values_low p place_low)
 
     -- what is asked of its children is known
     pub known : (q : ℕ) → among q (row p) ≡ true → get_or (part work base k) q 0 ≡ get_or table q 0

@@ -1,16 +1,10 @@
--- What is lent to each pass fits together: the regions that it reads lie outside its window, and the window lies in the buffer.
+-- What is lent to the pass fits together: the regions that it reads lie outside its window, and the window lies in the buffer.
 use Rattle.std.specs.Prelude.{true, ◌≡◌, List, ℕ, ◌+◌, ◌^◌, ◌≤◌, ◌<◌, length}
 use Rattle.lineage.specs.Lists.{among, position, part}
 use Rattle.lineage.specs.Labels.{Order}
 use Rattle.laws.specs.Laid.{Below, Laid}
 use Rattle.numbers.specs.Regions.{Outside}
 use Rattle.build_rows.specs.Rows.{rows_in}
-
--- a row of places, and a word for each of k places
-pub record RowFit (work : List ℕ) (at size base k : ℕ) : Type 0 where
-  pub row_in : at + size ≤ length work
-  pub row_low : Below k (part work at size)
-  pub words_in_lem : base + k ≤ length work
 
 -- k places by rank and their children, which all have a lower rank
 pub record UpFit (work : List ℕ) (out k starts values c base : ℕ) : Type 0 where

@@ -1,25 +1,25 @@
 // The levels of the groups, from their places by rank.
 #![tactic(auto)]
 
-ghost use Rattle.std.specs.Prelude.{◌≡◌, map, ℕ, suc, ◌+◌, ◌^◌, ◌<◌, get_or};
+ghost use Rattle.std.specs.Prelude.{◌≡◌, map, ℕ, suc, ◌+◌, ◌^◌, ◌<◌, length, get_or};
 ghost use Rattle.lineage.specs.Lists.{greatest, part};
 ghost use Rattle.lineage.specs.Graph.{levels_of};
+ghost use Rattle.laws.specs.Laid.{Below};
 ghost use Rattle.numbers.specs.Regions.{Kept};
 ghost use Rattle.build_levels.specs.Children.{children_in_words};
-ghost use Rattle.build_levels.specs.Fit.{RowFit, UpFit};
+ghost use Rattle.build_levels.specs.Fit.{UpFit};
 
 use build_rows::WorkRows;
 
 // The greatest of one more than the levels of a row's places, 0 where there are none.
-fn row_level(work: &[u32], at: usize, size: usize, base: usize, k: usize) -> u32
-    requires row_fit { RowFit work.now at size base k }
-    requires by_index { (i : ℕ) → i < size → get_or (part work.now base k) (get_or (part work.now at size) i 0) 0 + 1 < 2 ^ 32 }
-    ensures { result ≡ greatest (map (λ q. suc (get_or (part work.now base k) q 0)) (part work.now at size)) }
+fn row_level(row: &[u32], levels: &[u32]) -> u32
+    requires below { Below (length levels.now) row.now }
+    requires by_index { (i : ℕ) → i < length row.now → get_or levels.now (get_or row.now i 0) 0 + 1 < 2 ^ 32 }
+    ensures { result ≡ greatest (map (λ q. suc (get_or levels.now q 0)) row.now) }
 {
     let mut level: u32 = 0;
-    for i in 0..size {
-        let q = work[at + i] as usize;
-        level = level.max(work[base + q] + 1);
+    for place in row {
+        level = level.max(levels[*place as usize] + 1);
     }
     level
 }
@@ -35,6 +35,7 @@ pub fn levels(work: &mut [u32], out: usize, rows: WorkRows, base: usize)
         let next = p + 1;
         let from = work[rows.starts + p] as usize;
         let end = work[rows.starts + next] as usize;
-        work[base + p] = row_level(work, rows.values + from, end - from, base, rows.k);
+        let row = &work[rows.values + from..rows.values + end];
+        work[base + p] = row_level(row, &work[base..base + rows.k]);
     }
 }

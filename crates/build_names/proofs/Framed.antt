@@ -9,7 +9,8 @@ use native.Mathlib.Omega.{arith}
 use lib.ListN.{length, get_or, set, take, drop, take-append-drop, length-take}
 use lib.Seq.{get_or-set_same, get_or-set_other}
 use Rattle.lineage.specs.Lists.{among, position}
-use Rattle.laws.proofs.Lists.{here, in_left, in_right, position_past, position_left, position_low_in, position_in, position_low}
+use Rattle.laws.proofs.Lists.{here, in_left, in_right}
+use Rattle.laws.proofs.Positions.{position_past, position_left, position_low_in, position_in, position_low}
 
 pub record Framed (F S : List ℕ) (d : ℕ) : Type 0 where
   pub on : (i : ℕ) → i < d → among (get_or F i 0) S ≡ true

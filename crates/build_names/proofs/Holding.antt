@@ -12,7 +12,8 @@ use lib.Seq.{get_or-set_same, get_or-set_other, take_all}
 use Rattle.lineage.specs.Lists.{among, position, part}
 use Rattle.laws.specs.Rising.{Distinct}
 use Rattle.laws.proofs.Tests.{clash}
-use Rattle.laws.proofs.Lists.{in_one, in_left, in_append, position_low}
+use Rattle.laws.proofs.Lists.{in_one, in_left, in_append}
+use Rattle.laws.proofs.Positions.{position_low}
 use Rattle.laws.proofs.Rising.{distinct_between}
 use Rattle.laws.proofs.Parts.{part_length, part_part}
 use Rattle.laws.specs.OnePass.{least_of, name_in}

@@ -8,7 +8,7 @@ use lib.Dec.{eqb}
 use lib.ListN.{length, get_or}
 use borrow.Author.Tests.{eq-eqb, ne_eqb}
 use Rattle.lineage.specs.Lists.{among, position, part}
-use Rattle.laws.proofs.Lists.{position_low}
+use Rattle.laws.proofs.Positions.{position_low}
 use Rattle.laws.proofs.Laid.{in_below}
 use Rattle.laws.proofs.Parts.{part_length, part_at}
 use Rattle.numbers.specs.Regions.{Kept}

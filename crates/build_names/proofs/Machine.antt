@@ -13,7 +13,8 @@ use Rattle.lineage.specs.Lists.{among, position}
 use Rattle.lineage.specs.Labels.{Forest, after}
 use Rattle.laws.specs.Visits.{Visits, over, skip, enter}
 use Rattle.laws.proofs.Tests.{clash, or_false_left}
-use Rattle.laws.proofs.Lists.{among_append, position_past}
+use Rattle.laws.proofs.Lists.{among_append}
+use Rattle.laws.proofs.Positions.{position_past}
 use Rattle.build_traversal.proofs.Tasks.{Task, try, finish, tries}
 use Rattle.laws.specs.OnePass.{Stage, lowered, opened, left_by, left, stage_after, at_first}
 use Rattle.laws.proofs.Stages.{gone}

@@ -9,7 +9,8 @@ use lib.ListN.{length}
 use borrow.Author.Tests.{eq-eqb, ne_eqb}
 use Rattle.lineage.specs.Lists.{among, position}
 use Rattle.laws.specs.Rising.{Distinct}
-use Rattle.laws.proofs.Lists.{among_append, here, in_left, in_right, position_past, position_left, position_none}
+use Rattle.laws.proofs.Lists.{among_append, here, in_left, in_right}
+use Rattle.laws.proofs.Positions.{position_past, position_left, position_none}
 use Rattle.laws.proofs.Rising.{distinct_apart, distinct_left}
 use Rattle.laws.specs.OnePass.{Stage, opened}
 use Rattle.laws.proofs.Stages.{gone}

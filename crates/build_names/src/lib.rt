@@ -11,27 +11,18 @@ ghost use Rattle.build_traversal.specs.Fit.{TraverseFit};
 ghost use Rattle.build_names.specs.Window.{pushed, RunFit, TakeFit, Taken, SettleFit, Settled};
 
 use build_rows::WorkRows;
+use build_traversal::Frame;
 
-// Enters v at depth d, at place sp of the stack: opens its frame with its number and the low of the vertex below.
-fn enter(
-    work: &mut [u32],
-    base: usize,
-    n: usize,
-    d: usize,
-    sp: usize,
-    v: u32,
-    e: u32,
-    low: u32,
-    number: u32,
-)
+// Enters a vertex at depth d, at place sp of the stack: opens its frame, whose mark is its number, with the low of the vertex below.
+fn enter(work: &mut [u32], base: usize, n: usize, d: usize, sp: usize, frame: Frame)
     requires n_in_bounds { base + 6 * n ≤ length work.old }
-    requires v_lt_n { v < n }
+    requires v_lt_n { frame.v < n }
     requires d_lt_n { d < n }
     requires sp_lt_n { sp < n }
-    ensures { work.new ≡ pushed work.old base n d sp v e low number }
+    ensures { work.new ≡ pushed work.old base n d sp frame.v frame.e frame.number frame.mark }
 {
-    build_traversal::open_frame(work, base, n, d, v, number, e, low);
-    work[base + 4 * n + sp] = v;
+    build_traversal::open_frame(work, base, n, d, frame);
+    work[base + 4 * n + sp] = frame.v;
 }
 
 // The least of the words.
@@ -39,11 +30,7 @@ fn least_word(words: &[u32]) -> u32
     requires { 0 < length words.now }
     ensures { result ≡ least_of words.now }
 {
-    let mut least = words[0];
-    for word in words {
-        least = least.min(*word);
-    }
-    least
+    words.iter().fold(words[0], |least, word| least.min(*word))
 }
 
 // Gives each vertex of the run of size words from at on the same word: its group's name, or its number.
@@ -107,7 +94,13 @@ fn run(work: &mut [u32], rows: WorkRows, roots: usize, q: usize, base: usize)
             let number = work[base + i];
             if number == 0 {
                 let first = (sp + 1) as u32;
-                enter(work, base, n, d, sp, v, e as u32, low, first);
+                let frame = Frame {
+                    v,
+                    mark: first,
+                    e: e as u32,
+                    number: low,
+                };
+                enter(work, base, n, d, sp, frame);
                 sp += 1;
                 low = first;
                 d += 1;
@@ -123,7 +116,12 @@ fn run(work: &mut [u32], rows: WorkRows, roots: usize, q: usize, base: usize)
             low = work[base + 3 * n + d].min(low);
             e = work[base + 2 * n + d] as usize;
             at = build_traversal::row_place(roots, rows.values, d);
-            end = build_traversal::row_end(work, rows.starts, q, base, n, d);
+            end = build_traversal::row_end(
+                &work[rows.starts..rows.starts + n + 1],
+                q,
+                &work[base + n..base + 2 * n],
+                d,
+            );
         } else {
             return;
         }

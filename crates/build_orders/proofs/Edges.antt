@@ -1,28 +1,22 @@
--- An edge of which an end is n or more, and an edge of which none is; where no edge is bad, edges lead from vertices to vertices.
-use mathlib.Core.Bool.{true, false}
+-- An edge of which no end is n or more; where no edge is bad, edges lead from vertices to vertices.
+use mathlib.Core.Bool.{false}
 use mathlib.Core.Path.{◌≡◌}
 use mathlib.Core.List.{List}
-use Prim.Native.Nat.{ℕ, ◌<◌, ◌≤◌}
+use Prim.Native.Nat.{ℕ, ◌<◌}
 use native.Mathlib.Omega.{arith}
 use lib.Dec.{leb}
 use lib.ListN.{length, get_or}
-use borrow.Author.Tests.{le-leb, lt-leb, leb-false}
+use borrow.Author.Tests.{lt-leb, leb-false}
 use Rattle.lineage.specs.Lists.{upto, any}
 use Rattle.lineage.specs.Graph.{Graph, Ends}
 use Rattle.lineage.specs.Calls.{bad_edge}
-use Rattle.laws.proofs.Tests.{or_left, or_right, or_false_left, or_false_right}
+use Rattle.laws.proofs.Tests.{or_false_left, or_false_right}
 use Rattle.laws.proofs.Lists.{in_upto, any_none}
 use Rattle.laws.proofs.Edges.{edge_position}
 use Rattle.build_orders.specs.Input.{graph_of}
 
 -- edge i
 module _ (n : ℕ) (sources targets : List ℕ) (i : ℕ) where
-  pub bad_source : n ≤ get_or sources i 0 → bad_edge (graph_of n sources targets) i ≡ true
-  bad_source h = or_left _ (le-leb n (get_or sources i 0) h)
-
-  pub bad_target : n ≤ get_or targets i 0 → bad_edge (graph_of n sources targets) i ≡ true
-  bad_target h = or_right (leb n (get_or sources i 0)) (le-leb n (get_or targets i 0) h)
-
   pub good_edge : get_or sources i 0 < n → get_or targets i 0 < n → bad_edge (graph_of n sources targets) i ≡ false
   good_edge h k = rw (lt-leb n (get_or sources i 0) h, lt-leb n (get_or targets i 0) k)
 

@@ -12,7 +12,8 @@ use Rattle.lineage.specs.Stored.{row_at}
 use Rattle.lineage.specs.Sound.{child_of}
 use Rattle.laws.proofs.Tests.{clash}
 use Rattle.laws.proofs.Joined.{in_joined, joined_in}
-use Rattle.laws.proofs.Lists.{here, position_low, those_same}
+use Rattle.laws.proofs.Lists.{here, those_same}
+use Rattle.laws.proofs.Positions.{position_low}
 use Rattle.laws.proofs.Parts.{part_length}
 use Rattle.laws.proofs.Laid.{start_low, row_below, below_in}
 use Rattle.build_rows.specs.Rows.{RowsOnce}

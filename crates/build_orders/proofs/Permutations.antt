@@ -13,11 +13,11 @@ use Rattle.lineage.specs.Calls.{order_at, bad_order}
 use Rattle.laws.proofs.Lists.{in_upto, upto_low, any_same, any_none}
 use Rattle.laws.proofs.Parts.{part_length}
 use Rattle.laws.proofs.Every.{every_mapped}
-use Rattle.numbers.specs.Regions.{Kept}
+use Rattle.numbers.specs.Regions.{Kept, Part}
 use Rattle.numbers.proofs.Regions.{kept_same, kept_then}
 use Rattle.numbers.specs.Stamped.{Stamped}
 use Rattle.build_orders.specs.Lacks.{lacks}
-use Rattle.build_orders.proofs.First.{NoneBelow, none_begin, none_more}
+use Rattle.numbers.proofs.Found.{NoneBelow, none_begin, none_more}
 
 -- order i lies in an order list of d orders
 pub order_room : (i d n : ℕ) → i < d → i * n + n ≤ d * n
@@ -53,15 +53,19 @@ module _
         at v h true e = rw (word v h, e, eq-eqb (i + 1) (i + 1) refl)
         at v h false e = rw (word v h, e, ne_eqb (get_or (part work base n) v 0) (i + 1) (λ z. omega (arith, t.low v h)))
 
-    module _ (r : Bool) (e : r ≡ any (lacks (i + 1) (part work' base n)) (upto n)) where
+    -- by a slice of the words
+    module _ {words : List ℕ} (P : Part work' base n words) (r : Bool) (e : r ≡ any (lacks (i + 1) words) (upto (length words))) where
+      told : r ≡ bad_order n orders i
+      told = e ∙ rw (P.long, P.is) lacks_is
+
       pub tried_bad : r ≡ true → bad_order n orders i ≡ true
-      tried_bad h = sym lacks_is ∙ sym e ∙ h
+      tried_bad h = sym told ∙ h
 
       pub tried_more : r ≡ false → Tried orders work₀ work' base n (i + 1)
       tried_more h = record {
         kept = kept_then t.kept k;
         low = λ v l. at v l (among v (part orders (i * n) n)) refl;
-        passed = none_more t.passed (sym lacks_is ∙ sym e ∙ h);
+        passed = none_more t.passed (sym told ∙ h);
       }
         where
           at : (v : ℕ) → v < n → (b : Bool) → among v (part orders (i * n) n) ≡ b → get_or (part work' base n) v 0 ≤ i + 1

@@ -12,7 +12,8 @@ use Rattle.lineage.specs.Graph.{group_list, place_of}
 use Rattle.lineage.specs.Labels.{in_order}
 use Rattle.numbers.specs.Regions.{Kept}
 use Rattle.laws.proofs.Tests.{is_false}
-use Rattle.laws.proofs.Lists.{in_get_d, in_upto, those_append, those_yes, those_no, those_keep}
+use Rattle.laws.proofs.Lists.{in_upto, those_append, those_yes, those_no, those_keep}
+use Rattle.laws.proofs.Positions.{in_get_d}
 use Rattle.laws.proofs.Grouped.{listed_name}
 use Rattle.laws.proofs.Parts.{part_length, part_at, part_more}
 use Rattle.numbers.proofs.Regions.{read_at, Written, written_none, written_more, written_behind}

@@ -9,7 +9,8 @@ use lib.ListN.{length, get_or, length-map}
 use Rattle.lineage.specs.Lists.{upto, among, those}
 use Rattle.lineage.specs.Graph.{group_list, place_of}
 use Rattle.lineage.specs.Labels.{Order, in_order}
-use Rattle.laws.proofs.Lists.{in_get_d, in_upto, those_yes, those_no, those_pass, those_keep}
+use Rattle.laws.proofs.Lists.{in_upto, those_yes, those_no, those_pass, those_keep}
+use Rattle.laws.proofs.Positions.{in_get_d}
 use Rattle.laws.proofs.Rising.{rises_upto, rises_those, rises_distinct, rises_unique}
 use Rattle.laws.proofs.Grouped.{listed_name, groups_rise}
 use Rattle.laws.proofs.Orders.{places_all}

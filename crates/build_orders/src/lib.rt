@@ -10,21 +10,19 @@ ghost use Rattle.numbers.specs.Regions.{Kept};
 ghost use Rattle.numbers.specs.Stamped.{Stamped};
 ghost use Rattle.build_orders.specs.Input.{graph_of};
 ghost use Rattle.build_orders.specs.Lacks.{lacks};
-ghost use Rattle.build_orders.specs.Found.{found_below};
+ghost use Rattle.numbers.specs.Found.{found_below};
 ghost use Rattle.build_orders.specs.Fit.{RankedFit, RootsFit};
 ghost use Rattle.build_orders.specs.Roots.{row_empty};
 
-// The first edge with an end that is n or more; where there is none, the number of edges.
-pub fn bad_edge(n: usize, sources: &[u32], targets: &[u32]) -> usize
+// The first edge with an end that is n or more.
+pub fn bad_edge(n: usize, sources: &[u32], targets: &[u32]) -> Option<usize>
     requires { length sources.now ≡ length targets.now }
-    ensures { result ≡ first_of (bad_edge (graph_of n sources.now targets.now)) (upto (length sources.now)) (length sources.now) }
+    ensures { result ≡ found_below (length sources.now) (first_of (bad_edge (graph_of n sources.now targets.now)) (upto (length sources.now)) (length sources.now)) }
 {
-    for i in 0..sources.len() {
-        if n <= sources[i] as usize || n <= targets[i] as usize {
-            return i;
-        }
-    }
-    sources.len()
+    sources
+        .iter()
+        .zip(targets)
+        .position(|(u, v)| n <= *u as usize || n <= *v as usize)
 }
 
 // Stamps the word of each number below n that stands in the order at `at`; a number of n or more is passed over.
@@ -42,17 +40,11 @@ fn stamp_order(orders: &[u32], at: usize, n: usize, stamp: u32, work: &mut [u32]
     }
 }
 
-// Whether one of the n words lacks the stamp.
-fn one_lacks(work: &[u32], base: usize, n: usize, stamp: u32) -> bool
-    requires { base + n ≤ length work.now }
-    ensures { result ≡ any (lacks stamp (part work.now base n)) (upto n) }
+// Whether one of the words lacks the stamp.
+fn one_lacks(words: &[u32], stamp: u32) -> bool
+    ensures { result ≡ any (lacks stamp words.now) (upto (length words.now)) }
 {
-    for v in 0..n {
-        if work[base + v] != stamp {
-            return true;
-        }
-    }
-    false
+    words.iter().any(|word| *word != stamp)
 }
 
 // The first order that is no permutation of 0 to n - 1. Order i stamps the words of its numbers with i + 1, and is a permutation
@@ -68,7 +60,7 @@ pub fn bad_order(orders: &[u32], d: usize, n: usize, work: &mut [u32], base: usi
     for i in 0..d {
         let stamp = (i + 1) as u32;
         stamp_order(orders, i * n, n, stamp, work, base);
-        if one_lacks(work, base, n, stamp) {
+        if one_lacks(&work[base..base + n], stamp) {
             return Some(i);
         }
     }

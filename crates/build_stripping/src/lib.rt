@@ -13,27 +13,25 @@ use build_rows::WorkRows;
 // its stamp is not the row's mark, p + 1, and is stamped then.
 fn strip_row(
     work: &mut [u32],
-    values: usize,
-    c: usize,
+    rows: WorkRows,
     from: usize,
     to: usize,
     p: u32,
-    k: usize,
     out: usize,
     at: usize,
 ) -> usize
-    requires { EntriesFit work.old values c from to p k out at }
-    ensures kept { Kept work.old work.new (out + at) (c - at + k) }
+    requires { EntriesFit work.old rows.values rows.c from to p rows.k out at }
+    ensures kept { Kept work.old work.new (out + at) (rows.c - at + rows.k) }
     ensures upper_bound { result ≤ at + (to - from) }
     ensures result_after { part work.new out result
-        ≡ part work.old out at ++ new_ones (p ∷ []) (part (part work.old values c) from (to - from)) }
-    ensures by_index { (x : ℕ) → x < k → get_or (part work.new (out + c) k) x 0 ≤ p + 1 }
+        ≡ part work.old out at ++ new_ones (p ∷ []) (part (part work.old rows.values rows.c) from (to - from)) }
+    ensures by_index { (x : ℕ) → x < rows.k → get_or (part work.new (out + rows.c) rows.k) x 0 ≤ p + 1 }
 {
     let mark = p + 1;
-    let stamps = out + c;
+    let stamps = out + rows.c;
     let mut n = at;
     for e in from..to {
-        let x = work[values + e];
+        let x = work[rows.values + e];
         let i = x as usize;
         if work[stamps + i] != mark {
             work[stamps + i] = mark;
@@ -60,17 +58,7 @@ pub fn strip(work: &mut [u32], rows: WorkRows, base: usize) -> usize
         let to = work[rows.starts + p + 1] as usize;
         work[base + p] = n as u32;
         work[stamps + p] = (p + 1) as u32;
-        n = strip_row(
-            work,
-            rows.values,
-            rows.c,
-            from,
-            to,
-            p as u32,
-            rows.k,
-            out,
-            n,
-        );
+        n = strip_row(work, rows, from, to, p as u32, out, n);
     }
     work[base + rows.k] = n as u32;
     n

@@ -9,7 +9,7 @@ use lib.ListN.{length, get_or, replicate}
 use Rattle.lineage.specs.Lists.{among, position, least, part}
 use Rattle.lineage.specs.Labels.{Forest, finished, traverse}
 use Rattle.laws.specs.Visits.{Visits}
-use Rattle.laws.proofs.Lists.{position_low, least_min}
+use Rattle.laws.proofs.Positions.{position_low, least_min}
 use Rattle.laws.proofs.Laid.{below_in}
 use Rattle.laws.proofs.Parts.{part_length}
 use Rattle.numbers.specs.Regions.{Kept}

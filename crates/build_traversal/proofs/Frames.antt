@@ -7,14 +7,14 @@ use native.Mathlib.Decide.{ℕ_discrete}
 use native.Mathlib.Nat.{mul-le-mul_right}
 use native.Mathlib.Numerals.{add-one}
 use native.Mathlib.Omega.{arith}
-use lib.ListN.{length, get_or, set}
+use lib.ListN.{length, get_or, set, take, drop}
 use lib.Seq.{get_or-set_same, get_or-set_other}
 use Rattle.lineage.specs.Lists.{part}
 use Rattle.lineage.specs.Stored.{row_at}
 use Rattle.laws.proofs.Parts.{part_length, part_at}
 use Rattle.laws.proofs.Laid.{start_low}
 use Rattle.numbers.specs.Regions.{Kept}
-use Rattle.numbers.proofs.Regions.{kept_same, kept_then, kept_apart, read_at}
+use Rattle.numbers.proofs.Regions.{slice_part, kept_same, kept_then, kept_apart, read_at}
 use Rattle.build_rows.specs.Rows.{rows_in}
 use Rattle.build_traversal.specs.Frames.{row_place, row_end}
 use Rattle.build_traversal.specs.Fit.{TraverseFit}
@@ -181,11 +181,16 @@ module _ {work₀ : List ℕ} {starts values c roots q n base size : ℕ} (fit :
           kept_left = kept_then F.kept K
 
           -- what the end of the row below asks of memory
-          pub end_fits : (starts + (n + 1) ≤ length work') × ((base + 2 * n ≤ length work') × ((f ≤ n) × ((i : ℕ) → i < f → get_or (part work' (base + n) n) i 0 < n)))
-          end_fits = (
-            omega (arith, fit.starts_there.fits, kept_left.long),
-            (omega (arith, fit.room, fit.frames_room, kept_left.long), (omega arith, (λ i l. rw vertices-same (F.vertices i (omega arith))))),
-          )
+          pub end_there : (starts + (n + 1) ≤ length work') × (base + n + n ≤ length work')
+          end_there = (omega (arith, fit.starts_there.fits, kept_left.long), omega (arith, fit.room, fit.frames_room, kept_left.long))
+
+          pub end_fits : {a b : ℕ} → a ≡ starts + (n + 1) → b ≡ base + n + n
+              → (f ≤ length (take (b - (base + n)) (drop (base + n) work')))
+              × ((i : ℕ) → i < f → get_or (take (b - (base + n)) (drop (base + n) work')) i 0 + 1 < length (take (a - starts) (drop starts work')))
+          end_fits ea eb =
+              let P = slice_part work' starts (n + 1) ea end_there.0 in
+              let Q = slice_part work' (base + n) n eb end_there.1 in
+              (omega (arith, Q.long), (λ i l. omega (arith, P.long, ap (λ z. get_or z i 0) (Q.is ∙ vertices-same), F.vertices i (omega arith))))
 
           pub frames_out :
               {e' at' end' : ℕ} → e' < 2 ^ 32 → at' ≡ row_place roots values f → end' ≡ row_end (part work' starts (n + 1)) q (part work' (base + n) n) f

@@ -14,7 +14,8 @@ use Rattle.lineage.specs.Labels.{Forest, visit, after, finished}
 use Rattle.laws.specs.Leads.{Leads, stay, step}
 use Rattle.laws.specs.Visits.{Visits, over, skip, enter, before}
 use Rattle.laws.proofs.Tests.{clash, is_false}
-use Rattle.laws.proofs.Lists.{here, here_at, there, in_left, in_right, map_same, position_past, position_left}
+use Rattle.laws.proofs.Lists.{here, here_at, there, in_left, in_right, map_same}
+use Rattle.laws.proofs.Positions.{position_past, position_left}
 use Rattle.laws.proofs.Traversal.{kept}
 use Rattle.laws.proofs.Visited.{parts, visited_seen, listed, followed, fresh, from_todo}
 use Rattle.build_traversal.specs.Traversed.{Downhill}

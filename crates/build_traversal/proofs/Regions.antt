@@ -1,30 +1,26 @@
 -- Where the row at a depth lies and ends, and what opening a frame, entering a vertex and leaving one do to each region.
-use mathlib.Core.Path.{◌≡◌, refl, ap, ◌∙◌}
+use mathlib.Core.Path.{◌≡◌, refl, ap, ap₂, ◌∙◌}
 use mathlib.Core.List.{List, [], ◌∷◌, ◌++◌}
 use Prim.Native.Nat.{ℕ, zero, suc, ◌+◌, ◌*◌, ◌-◌, ◌≤◌, ◌<◌}
 use native.Mathlib.Omega.{arith}
-use lib.ListN.{length, get_or, set, length-set}
+use native.Mathlib.Numerals.{add-one}
+use lib.ListN.{length, get_or, set, take, drop, length-set}
 use Rattle.lineage.specs.Lists.{part}
-use Rattle.laws.proofs.Parts.{part_at}
 use Rattle.numbers.specs.Regions.{Kept}
-use Rattle.numbers.proofs.Regions.{part_set, part_over, part_under, part_longer, kept_set, kept_then, kept_wider}
+use Rattle.numbers.proofs.Regions.{part_set, part_over, part_under, part_longer, slice_is, kept_set, kept_then, kept_wider}
 use Rattle.build_traversal.specs.Frames.{framed, row_end}
 use Rattle.build_traversal.specs.Traversed.{entered, finished_at}
 
-module _ (work : List ℕ) (starts base n : ℕ) where
-  -- the vertex of the frame below depth d
-  pub vertex_is : (d : ℕ) → (d ≡ 0 → ⊥) → d ≤ n → get_or work (base + n + (d - 1)) 0 ≡ get_or (part work (base + n) n) (d - 1) 0
-  vertex_is d h l = part_at work (base + n) n (d - 1) (omega arith)
+-- above the first frame the row is that of the vertex in the frame below
+pub end_above : (starts vertices : List ℕ) (q d : ℕ) → (d ≡ 0 → ⊥) → get_or starts (get_or vertices (d - 1) 0 + 1) 0 ≡ row_end starts q vertices d
+end_above starts vertices q zero h = absurd (h refl)
+end_above starts vertices q (suc d) h = let below : suc d - 1 ≡ d = omega arith in rw (below, add-one) refl
 
-  pub end_above :
-      (q d : ℕ) → (d ≡ 0 → ⊥) → d ≤ n → get_or (part work (base + n) n) (d - 1) 0 < n
-      → get_or work (starts + get_or work (base + n + (d - 1)) 0 + 1) 0 ≡ row_end (part work starts (n + 1)) q (part work (base + n) n) d
-  end_above q zero h l low = absurd (h refl)
-  end_above q (suc d) h l low =
-      let e : suc d - 1 ≡ d = omega arith in
-      let v = get_or (part work (base + n) n) d 0 in
-      let z : starts + get_or work (base + n + (suc d - 1)) 0 + 1 ≡ starts + suc v = omega (arith, vertex_is (suc d) h l, ap (λ i. get_or (part work (base + n) n) i 0) e) in
-      rw z (part_at work starts (n + 1) (suc v) (omega (arith, rw e at low)))
+-- the end of a row, read in two slices of work memory
+module _ (work : List ℕ) (starts base n q d : ℕ) where
+  pub end_sliced : {a b : ℕ} → a ≡ starts + (n + 1) → b ≡ base + n + n
+      → row_end (take (a - starts) (drop starts work)) q (take (b - (base + n)) (drop (base + n) work)) d ≡ row_end (part work starts (n + 1)) q (part work (base + n) n) d
+  end_sliced ea eb = ap₂ (λ z x. row_end z q x d) (slice_is work starts (n + 1) ea) (slice_is work (base + n) n eb)
 
 module _ (work : List ℕ) (base n d v mark e number : ℕ) (hv : v < n) (hd : d < n) where
   pub framed_kept : Kept work (framed work base n d v mark e number) base (4 * n)

@@ -1,38 +1,38 @@
 // One traversal, depth first, of rows in work memory, and the labels that it comes to.
 #![tactic(auto)]
 
-ghost use Rattle.std.specs.Prelude.{◌≡◌, [], ℕ, suc, ◌+◌, ◌*◌, ◌^◌, ◌≤◌, ◌<◌, length, get_or, replicate};
+ghost use Rattle.std.specs.Prelude.{◌≡◌, [], ℕ, suc, ◌+◌, ◌*◌, ◌^◌, ◌≤◌, ◌<◌, length, get_or, set, replicate};
 ghost use Rattle.lineage.specs.Lists.{part};
 ghost use Rattle.lineage.specs.Labels.{traverse};
 ghost use Rattle.numbers.specs.Regions.{Kept};
 ghost use Rattle.build_rows.specs.Rows.{rows_in};
 ghost use Rattle.build_traversal.specs.Frames.{framed, row_place, row_end};
-ghost use Rattle.build_traversal.specs.Traversed.{entered, finished_at, Traversed};
+ghost use Rattle.build_traversal.specs.Traversed.{finished_at, Traversed};
 ghost use Rattle.build_traversal.specs.Fit.{TraverseFit};
 
 use build_rows::WorkRows;
 
-// Opens a frame at depth d for v: marks it, and notes the place e to come back to and a number.
-pub fn open_frame(
-    work: &mut [u32],
-    base: usize,
-    n: usize,
-    d: usize,
-    v: u32,
-    mark: u32,
-    e: u32,
-    number: u32,
-)
+// What is noted of a vertex v that is entered: its mark, the place e of the row below to come back to, and a number of the vertex below.
+#[derive(Clone, Copy, Debug, PartialEq, Eq)]
+pub struct Frame {
+    pub v: u32,
+    pub mark: u32,
+    pub e: u32,
+    pub number: u32,
+}
+
+// Opens a frame at depth d: marks its vertex, and notes the rest.
+pub fn open_frame(work: &mut [u32], base: usize, n: usize, d: usize, frame: Frame)
     requires n_in_bounds { base + 4 * n ≤ length work.old }
-    requires v_lt_n { v < n }
+    requires v_lt_n { frame.v < n }
     requires d_lt_n { d < n }
-    ensures { work.new ≡ framed work.old base n d v mark e number }
+    ensures { work.new ≡ framed work.old base n d frame.v frame.mark frame.e frame.number }
 {
-    let at = v as usize;
-    work[base + at] = mark;
-    work[base + n + d] = v;
-    work[base + 2 * n + d] = e;
-    work[base + 3 * n + d] = number;
+    let at = frame.v as usize;
+    work[base + at] = frame.mark;
+    work[base + n + d] = frame.v;
+    work[base + 2 * n + d] = frame.e;
+    work[base + 3 * n + d] = frame.number;
 }
 
 // Where the row at depth d lies.
@@ -42,32 +42,29 @@ pub fn row_place(roots: usize, values: usize, d: usize) -> usize
     if d == 0 { roots } else { values }
 }
 
-// Where the row at depth d ends.
-pub fn row_end(work: &[u32], starts: usize, q: usize, base: usize, n: usize, d: usize) -> usize
-    requires n_in_bounds { starts + (n + 1) ≤ length work.now }
-    requires n_in_bounds_2 { base + 2 * n ≤ length work.now }
-    requires d_le_n { d ≤ n }
-    requires by_index { (i : ℕ) → i < d → get_or (part work.now (base + n) n) i 0 < n }
-    ensures { result ≡ row_end (part work.now starts (n + 1)) q (part work.now (base + n) n) d }
+// Where the row at depth d ends: after q roots, or where the row of the frame's vertex ends.
+pub fn row_end(starts: &[u32], q: usize, vertices: &[u32], d: usize) -> usize
+    requires d_in_bounds { d ≤ length vertices.now }
+    requires by_index { (i : ℕ) → i < d → get_or vertices.now i 0 + 1 < length starts.now }
+    ensures { result ≡ row_end starts.now q vertices.now d }
 {
     if d == 0 {
         return q;
     }
-    let v = work[base + n + (d - 1)] as usize;
-    work[starts + v + 1] as usize
+    let v = vertices[d - 1] as usize;
+    starts[v + 1] as usize
 }
 
-// Enters v at depth d, with k finished before it: opens its frame with the s of the vertex below, and notes its m.
-fn enter(work: &mut [u32], base: usize, n: usize, d: usize, k: usize, v: u32, e: u32, s: u32)
+// Enters a vertex at depth d, with k finished before it: opens its frame, and notes its m.
+fn enter(work: &mut [u32], base: usize, n: usize, d: usize, k: usize, frame: Frame)
     requires n_in_bounds { base + 7 * n ≤ length work.old }
-    requires v_lt_n { v < n }
+    requires v_lt_n { frame.v < n }
     requires k_bound { d + k < n }
     requires n_bound { n < 2 ^ 32 }
-    ensures { work.new ≡ entered work.old base n d k v e s }
+    ensures { work.new ≡ set (framed work.old base n d frame.v frame.mark frame.e frame.number) (base + 5 * n + frame.v) (k + 1) }
 {
-    let at = v as usize;
-    open_frame(work, base, n, d, v, 1, e, s);
-    work[base + 5 * n + at] = (k + 1) as u32;
+    open_frame(work, base, n, d, frame);
+    work[base + 5 * n + frame.v as usize] = (k + 1) as u32;
 }
 
 // Leaves the vertex at depth d, with k finished before it: notes its s, the vertex itself and its e.
@@ -113,7 +110,13 @@ fn run(work: &mut [u32], rows: WorkRows, roots: usize, q: usize, base: usize) ->
             let i = v as usize;
             let mark = work[base + i];
             if mark == 0 {
-                enter(work, base, n, d, k, v, e as u32, s);
+                let frame = Frame {
+                    v,
+                    mark: 1,
+                    e: e as u32,
+                    number: s,
+                };
+                enter(work, base, n, d, k, frame);
                 s = n as u32;
                 d += 1;
                 e = work[rows.starts + i] as usize;
@@ -130,7 +133,12 @@ fn run(work: &mut [u32], rows: WorkRows, roots: usize, q: usize, base: usize) ->
             s = work[base + 3 * n + d].min(s);
             e = work[base + 2 * n + d] as usize;
             at = row_place(roots, rows.values, d);
-            end = row_end(work, rows.starts, q, base, n, d);
+            end = row_end(
+                &work[rows.starts..rows.starts + n + 1],
+                q,
+                &work[base + n..base + 2 * n],
+                d,
+            );
         } else {
             return k;
         }

@@ -4,51 +4,61 @@ use mathlib.Core.List.{List, [], ◌∷◌, ◌++◌, map}
 use Prim.Native.Nat.{ℕ, ◌+◌, ◌*◌, ◌≤◌}
 use native.Mathlib.Omega.{arith}
 use lib.ListN.{length}
-use Rattle.lineage.specs.Lists.{joined, part}
+use Rattle.lineage.specs.Lists.{joined}
 use Rattle.lineage.specs.Numbers.{written}
-use Rattle.laws.proofs.Parts.{part_length}
 use Rattle.numbers.specs.Put.{put}
 use Rattle.numbers.proofs.Written.{written_long}
 use Rattle.stored_header.specs.declared.Layout.{Layout}
 use Rattle.stored_header.specs.Header.{counts, header_of, Sited}
 use Rattle.stored_header.proofs.Laid.{sited_by}
 use Rattle.stored.proofs.Offsets.{put_sections, sections_put_lem}
-use Rattle.build_writing.specs.Words.{group_sections}
+use Rattle.build_writing.specs.Words.{GroupLists, group_sections}
 use Rattle.build_writing.specs.Fit.{SectionsFit}
 use Rattle.build_writing.proofs.Behind.{section_put}
 
-module _ {out : List ℕ} {form : ℕ} {l : Layout} {words : List ℕ} {names groups levels starts children : ℕ} (fit : SectionsFit out form l words names groups levels starts children) where
+module _ {out : List ℕ} {form : ℕ} {l : Layout} {lists : GroupLists} (fit : SectionsFit out form l lists) where
   -- where each section starts
   pub fit_sited : Sited l
   fit_sited = sited_by l l.width l.stride (counts l.n l.k l.c l.d) fit.laid
 
-  behind : (from count offset next : ℕ) → from + count ≤ length words → next ≡ offset + l.width * count → next ≡ offset + l.width * length (part words from count)
-  behind from count offset next h e = rw (part_length words from count h) e
+  behind : (xs : List ℕ) (count offset next : ℕ) → length xs ≡ count → next ≡ offset + l.width * count → next ≡ offset + l.width * length xs
+  behind xs count offset next h e = rw h e
+
+  -- each lies in the output
+  abbrev Lies : ℕ → List ℕ → Type 0
+  Lies at xs = at + l.width * length xs ≤ length out
+
+  pub sections_room : Lies l.names lists.names × (Lies l.groups lists.groups × (Lies l.levels lists.levels × (Lies l.starts lists.starts × Lies l.children lists.children)))
+  sections_room =
+      let at : Sited l = fit_sited in
+      let room = fit.room in
+      rw (fit.names_long, fit.groups_long, fit.levels_long, fit.starts_long, fit.children_long)
+      (omega arith, (omega arith, (omega arith, (omega arith, omega arith))))
 
   -- header and sections, one by one
   pub groups_put : (t₀ t₁ t₂ t₃ t₄ t₅ : List ℕ)
       → t₀ ≡ put out 0 (written 4 (header_of form l))
-      → t₁ ≡ put t₀ l.names (written l.width (part words names l.n))
-      → t₂ ≡ put t₁ l.groups (written l.width (part words groups l.k))
-      → t₃ ≡ put t₂ l.levels (written l.width (part words levels l.k))
-      → t₄ ≡ put t₃ l.starts (written l.width (part words starts (l.k + 1)))
-      → t₅ ≡ put t₄ l.children (written l.width (part words children l.c))
-      → t₅ ≡ put out 0 (written 4 (header_of form l) ++ joined (map (written l.width) (group_sections words l names groups levels starts children)))
+      → t₁ ≡ put t₀ l.names (written l.width lists.names)
+      → t₂ ≡ put t₁ l.groups (written l.width lists.groups)
+      → t₃ ≡ put t₂ l.levels (written l.width lists.levels)
+      → t₄ ≡ put t₃ l.starts (written l.width lists.starts)
+      → t₅ ≡ put t₄ l.children (written l.width lists.children)
+      → t₅ ≡ put out 0 (written 4 (header_of form l) ++ joined (map (written l.width) (group_sections lists)))
   groups_put t₀ t₁ t₂ t₃ t₄ t₅ e₀ e₁ e₂ e₃ e₄ e₅ =
       let at : Sited l = fit_sited in
       let w : ℕ = l.width in
-      let x₁ : List ℕ = part words names l.n in
-      let x₂ : List ℕ = part words groups l.k in
-      let x₃ : List ℕ = part words levels l.k in
-      let x₄ : List ℕ = part words starts (l.k + 1) in
-      let x₅ : List ℕ = part words children l.c in
-      let X : List (List ℕ) = group_sections words l names groups levels starts children in
+      let x₁ : List ℕ = lists.names in
+      let x₂ : List ℕ = lists.groups in
+      let x₃ : List ℕ = lists.levels in
+      let x₄ : List ℕ = lists.starts in
+      let x₅ : List ℕ = lists.children in
+      let X : List (List ℕ) = group_sections lists in
       let header : List ℕ = written 4 (header_of form l) in
-      let groups-next = behind names l.n l.names l.groups fit.names_in at.groups_at in
-      let levels-next = behind groups l.k l.groups l.levels fit.groups_in_lem at.levels_at in
-      let starts-next = behind levels l.k l.levels l.starts fit.levels_in at.starts_at in
-      let children-next = behind starts (l.k + 1) l.starts l.children fit.starts_in at.children_at_lem in
-      let labels_next = behind children l.c l.children l.labels fit.children_in_lem at.labels_at in
+      let groups-next = behind x₁ l.n l.names l.groups fit.names_long at.groups_at in
+      let levels-next = behind x₂ l.k l.groups l.levels fit.groups_long at.levels_at in
+      let starts-next = behind x₃ l.k l.levels l.starts fit.levels_long at.starts_at in
+      let children-next = behind x₄ (l.k + 1) l.starts l.children fit.starts_long at.children_at_lem in
+      let labels_next = behind x₅ l.c l.children l.labels fit.children_long at.labels_at in
       let long : 48 ≡ length header = sym (written_long 4 (header_of form l)) in
       section_put w t₀ t₁ t₅ x₁ (x₂ ∷ x₃ ∷ x₄ ∷ x₅ ∷ []) l.names 48 l.groups e₁ at.names_at (omega arith)
       (section_put w t₁ t₂ t₅ x₂ (x₃ ∷ x₄ ∷ x₅ ∷ []) l.groups l.groups l.levels e₂ refl levels-next

@@ -1,28 +1,28 @@
--- Sections whose numbers lie in regions of words.
-use Rattle.std.specs.Prelude.{cond, List, [], ◌∷◌, ℕ, ◌+◌, eqb, get_or}
-use Rattle.lineage.specs.Lists.{part}
+-- Sections whose numbers are given as words.
+use Rattle.std.specs.Prelude.{cond, List, [], ◌∷◌, ℕ, eqb}
 use Rattle.lineage.specs.Labels.{Labelling}
-use Rattle.stored_header.specs.declared.Layout.{Layout}
+use Rattle.build_writing.specs.declared.LabellingWords.{LabellingWords}
+use Rattle.build_writing.specs.declared.GroupWords.{GroupWords}
 
 -- the z numbers of a group: s, m and e, or s and e
 abbrev pub label_by : ℕ → (s m e : ℕ) → List ℕ
 label_by z s m e = cond (eqb z 2) (s ∷ e ∷ []) (s ∷ m ∷ e ∷ [])
 
--- those of place p, from the regions of s, m and e
-abbrev pub label_in : ℕ → List ℕ → (s m e : ℕ) → ℕ → List ℕ
-label_in z words s m e p = label_by z (get_or words (s + p) 0) (get_or words (m + p) 0) (get_or words (e + p) 0)
+-- the labelling whose words are given
+abbrev pub labelling_in_words : LabellingWords → Labelling
+labelling_in_words words = record { s = words.s.now; m = words.m.now; e = words.e.now; by_rank = words.by_rank.now }
 
--- the labelling whose s, m, e and places by rank lie in regions of k words
-abbrev pub labelling_in_words : List ℕ → (s m e by_rank k : ℕ) → Labelling
-labelling_in_words words s m e by_rank k =
-    record { s = part words s k; m = part words m k; e = part words e k; by_rank = part words by_rank k }
+-- the sections before the labels: names, group list, levels, child starts, children; and those whose words are given
+pub record GroupLists : Type 0 where
+  pub names : List ℕ
+  pub groups : List ℕ
+  pub levels : List ℕ
+  pub starts : List ℕ
+  pub children : List ℕ
 
--- the sections before the labels: names, group list, levels, child starts, children
-abbrev pub group_sections : List ℕ → Layout → (names groups levels starts children : ℕ) → List (List ℕ)
-group_sections words l names groups levels starts children =
-    part words names l.n
-    ∷ part words groups l.k
-    ∷ part words levels l.k
-    ∷ part words starts (l.k + 1)
-    ∷ part words children l.c
-    ∷ []
+abbrev pub group_lists : GroupWords → GroupLists
+group_lists words =
+    record { names = words.names.now; groups = words.groups.now; levels = words.levels.now; starts = words.starts.now; children = words.children.now }
+
+abbrev pub group_sections : GroupLists → List (List ℕ)
+group_sections lists = lists.names ∷ lists.groups ∷ lists.levels ∷ lists.starts ∷ lists.children ∷ []

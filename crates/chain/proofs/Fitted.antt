@@ -1,22 +1,19 @@
 -- What the sections of sound contents give the climb and the steps: they are fit for them, and what is read of them is what the index has.
-use mathlib.Core.Bool.{true}
 use mathlib.Core.Path.{◌≡◌, sym, ap, subst, ◌∙◌}
 use mathlib.Core.List.{List, []}
-use Prim.Native.Nat.{ℕ, suc, ◌+◌, ◌*◌, ◌≤◌, ◌<◌}
+use Prim.Native.Nat.{ℕ, suc, ◌≤◌, ◌<◌}
 use native.Mathlib.Omega.{arith}
 use lib.Dec.{eqb}
 use lib.ListN.{length, get_or}
 use borrow.Author.Tests.{eq-eqb}
-use Rattle.lineage.specs.Lists.{among, first_of, cleared}
-use Rattle.lineage.specs.Graph.{place_of}
-use Rattle.lineage.specs.Numbers.{Width, num_at, numbers}
+use Rattle.lineage.specs.Lists.{first_of, cleared}
+use Rattle.lineage.specs.Numbers.{numbers}
 use Rattle.lineage.specs.Index.{Index}
 use Rattle.lineage.specs.Question.{place_in, answer}
 use Rattle.lineage.specs.Calls.{index_in}
-use Rattle.laws.specs.Rising.{Rises}
-use Rattle.laws.proofs.Lists.{at_position}
+use Rattle.laws.proofs.Grouped.{name_of_place}
 use Rattle.numbers.specs.Bounds.{vertex_bound}
-use Rattle.numbers.proofs.Numbers.{room, numbers_at}
+use Rattle.numbers.proofs.Numbers.{numbers_at, numbers_long}
 use Rattle.stored_header.specs.declared.Layout.{Layout}
 use Rattle.stored_header.specs.Header.{Laid}
 use Rattle.stored_header.proofs.Laid.{k_is}
@@ -26,18 +23,18 @@ use Rattle.stored.specs.Reading.{numbers_of}
 use Rattle.stored.proofs.Contents.{children_many, stretch_of, names_only}
 use Rattle.sound_places.specs.Lent.{SoundBytes, Lent}
 use Rattle.sound_places.proofs.Lent.{lent}
-use Rattle.sound_places.proofs.Vertices.{lent_sound, list_rises, list_low, name_listed, vertex_low, vertex_placed}
+use Rattle.sound_places.proofs.Vertices.{lent_sound}
 use Rattle.reach_sweep.specs.declared.groups.Ranks.{Ranks}
 use Rattle.reach_sweep.specs.Fit.{names_of, children_of}
 use Rattle.reach_sweep.specs.Sweep.{marked}
 use Rattle.reach_climb.specs.Climb.{climbed}
 use Rattle.reach.specs.Fit.{RanksOf}
 use Rattle.reach.specs.Marks.{mark_in}
-use Rattle.reach.proofs.Fitted.{index_sound, labels_some, names_count, index_is, names_are}
+use Rattle.reach.proofs.Fitted.{index_sound, labels_some, names_count, index_is, names_are, names_fit}
 use Rattle.chain_steps.specs.Chain.{steps_by, chain_of, chain_from}
 use Rattle.chain_steps.specs.Steps.{Trail}
 use Rattle.chain.specs.Marks.{climbed_in, Exact}
-use Rattle.chain.proofs.Marked.{climb_exactly, climb_long, climb_cleared}
+use Rattle.chain.proofs.Marked.{climb_exactly, climb_cleared}
 use Rattle.chain.proofs.Traced.{steps_chain, trail, level_low, marked_says}
 
 -- the target's group marked, on marks that are 0 below n, and the climb from there
@@ -60,9 +57,6 @@ module _
     pub reaching_exactly : Exact (index_in b) (place_in (index_in b) v) after
     reaching_exactly = rw after_is (climb_exactly (index_sound O) (labels_some O) v target before there)
 
-    pub reaching_long : length after ≡ length before
-    reaching_long = ap length after_is ∙ climb_long (index_sound O) (labels_some O) v target before there
-
     -- marks that were cleared before, cleared again, are as they were
     pub marks_again : {m : List ℕ} → m ≡ cleared l.n after → m ≡ before
     marks_again e =
@@ -80,14 +74,13 @@ climbed_is {b} O {ranks} R before e =
     let many : length (index_in b).children ≡ ranks.groups.rows.k = omega (arith, R.many, children_many b, k_is O.laid) in
     rw (many, ← R.names, ← R.rows, ← R.by_rank) e
 
--- what is read of source and target: their names, their places, and the source's level
-pub record Ways (w k : ℕ) (names groups levels : List ℕ) (u v name x t lev : ℕ) : Type 0 where
-  pub named : name ≡ num_at w names u
-  pub source : x ≡ place_of (numbers w groups k) name
-  pub end : ℕ
-  pub ended : end ≡ num_at w names v
-  pub target : t ≡ place_of (numbers w groups k) end
-  pub high : lev ≡ num_at w levels x
+-- what is read of source and target: the source's name, their places, and the source's level
+pub record Ways (I : Index) (w n k : ℕ) (names levels : List ℕ) (u v name x t lev : ℕ) : Type 0 where
+  pub named : name ≡ get_or (numbers w names n) u 0
+  pub source : x ≡ place_in I u
+  pub low : x < k
+  pub target : t ≡ place_in I v
+  pub high : lev ≡ get_or (numbers w levels k) x 0
 
 -- all sections but the labels, which are not read
 pub but_labels :
@@ -125,65 +118,42 @@ module _
     rows_long : length (children_in w starts children k c) ≡ k
     rows_long = children_long w starts children k c
 
-    -- the place of a vertex's group can be found, by its name
-    pub can_place :
-        {u name : ℕ} → u < l.n → name ≡ num_at w names u
-        → record {
-          width : Width w;
-          k_in_bounds : (w * k ≤ length groups) × (k ≤ l.n);
-          rises : Rises (numbers w groups k);
-          by_index : (y : ℕ) → among y (numbers w groups k) ≡ true → y < l.n;
-          k_value : among name (numbers w groups k) ≡ true;
-        }
-    can_place h named = record {
-      width = S.width;
-      k_in_bounds = (omega (arith, S.groups_long), S.groups_few);
-      rises = list_rises S;
-      by_index = list_low S;
-      k_value = name_listed S h named;
-    }
-
-    -- and its level read
-    pub can_level : {u name x : ℕ} → u < l.n → name ≡ num_at w names u → x ≡ place_of (numbers w groups k) name → record { width : Width w; w_in_bounds : w * x + w ≤ length levels }
-    can_level {x = x} h named placed = record { width = S.width; w_in_bounds = room w x k (length levels) (vertex_low S h named placed) (omega (arith, S.levels_long)) }
+    -- where the mark of a group stands whose name is read
+    pub name_marked : {u name : ℕ} → u < l.n → name ≡ get_or (numbers w names l.n) u 0 → (marks : ℕ) → l.n ≤ marks → name < marks
+    name_marked {u} h named marks room = omega (arith, named, numbers_at w names l.n u h, (names_fit O P marks room).name_low u h)
 
     -- the target's group is reached from exactly the marked groups
     module _ {u v : ℕ} (hu : u < l.n) (hv : v < l.n) {marks : List ℕ} (E : Exact (index_in b) (place_in (index_in b) v) marks) where
       -- the mark at the source's name says what a question says
-      pub mark_says : {name : ℕ} → name ≡ num_at w names u → eqb (get_or marks name 0) 1 ≡ (answer (index_in b) u v).says
+      pub mark_says : {name : ℕ} → name ≡ get_or (numbers w names l.n) u 0 → eqb (get_or marks name 0) 1 ≡ (answer (index_in b) u v).says
       mark_says named =
-          ap (λ (x : ℕ). eqb (get_or marks x 0) 1) (named ∙ sym (numbers_at w names l.n u hu) ∙ ap (λ (s : List ℕ). get_or s u 0) (names_are O P))
+          ap (λ (x : ℕ). eqb (get_or marks x 0) 1) (named ∙ ap (λ (s : List ℕ). get_or s u 0) (names_are O P))
           ∙ marked_says (index_sound O) (labels_some O) (omega (arith, names_count O)) (omega (arith, names_count O)) E
 
       -- on a yes, with what was read
-      module _ {name x t lev : ℕ} (R : Ways w k names groups levels u v name x t lev) (yes : get_or marks name 0 ≡ 1) where
-        x_low : x < k
-        x_low = vertex_low S hu R.named R.source
-
+      module _ {name x t lev : ℕ} (R : Ways (index_in b) w l.n k names levels u v name x t lev) (yes : get_or marks name 0 ≡ 1) where
         x_is : x ≡ place_in I u
-        x_is = vertex_placed S hu R.named R.source
+        x_is = R.source ∙ ap (λ (J : Index). place_in J u) (index_is O P)
 
         t_is : t ≡ place_in I v
-        t_is = vertex_placed S hv R.ended R.target
+        t_is = R.target ∙ ap (λ (J : Index). place_in J v) (index_is O P)
 
         exact : Exact I t marks
         exact = rw t_is (rw (index_is O P) at E)
 
-        level_is : lev ≡ get_or (numbers w levels k) x 0
-        level_is = R.high ∙ sym (numbers_at w levels k x x_low)
-
         named_at : get_or (numbers w groups k) x 0 ≡ name
-        named_at = rw R.source (at_position name (numbers w groups k) (name_listed S hu R.named))
+        unfolding index_from
+        named_at = rw (x_is, R.named) (name_of_place (lent_sound S) u (omega (arith, numbers_long w names l.n)))
 
         abbrev next : ℕ → ℕ
         next p = first_of (marked (numbers w groups k) marks) (get_or (children_in w starts children k c) p []) k
 
         pub trail_in : Trail k (marked (numbers w groups k) marks) next t x lev
         unfolding index_from
-        trail_in = rw level_is (trail {I = I} (lent_sound S) exact rows_long x (omega (arith, x_low, rows_long)) (rw named_at (eq-eqb _ 1 yes)))
+        trail_in = rw R.high (trail {I = I} (lent_sound S) exact rows_long x (omega (arith, R.low, rows_long)) (rw named_at (eq-eqb _ 1 yes)))
 
         pub level_few : lev ≤ vertex_bound
-        level_few = omega (arith, level_is, level_low (lent_sound S) x (omega (arith, x_low, rows_long)), rows_long, O.laid)
+        level_few = omega (arith, R.high, level_low (lent_sound S) x (omega (arith, R.low, rows_long)), rows_long, O.laid)
 
         pub steps_are : steps_by (numbers w groups k) next t (suc lev) x ≡ chain_of (index_in b) u v
         unfolding index_from chain_of
@@ -191,5 +161,5 @@ module _
             steps_chain {I = I} (lent_sound S) exact rows_long (suc lev) x
             ∙ subst (λ (J : Index). chain_from I t (suc lev) x ≡ chain_of J u v) (sym (index_is O P))
             (ap (λ (p : ℕ). chain_from I p (suc lev) x) t_is
-            ∙ ap (λ (f : ℕ). chain_from I (place_in I v) (suc f) x) level_is
+            ∙ ap (λ (f : ℕ). chain_from I (place_in I v) (suc f) x) R.high
             ∙ ap (λ (p : ℕ). chain_from I (place_in I v) (suc (get_or (numbers w levels k) p 0)) p) x_is)

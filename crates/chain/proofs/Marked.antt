@@ -11,7 +11,7 @@ use Rattle.lineage.specs.Question.{place_in}
 use Rattle.laws.specs.Sound.{SoundLabelling, Sound}
 use Rattle.laws.proofs.Grouped.{place_low}
 use Rattle.numbers.proofs.Cleared.{cleared_long, cleared_past}
-use Rattle.reach_climb.proofs.Climbed.{climbed_long, climbed_exactly, climbed_past}
+use Rattle.reach_climb.proofs.Climbed.{climbed_exactly, climbed_past}
 use Rattle.reach.specs.Marks.{first_labels, mark_in}
 use Rattle.reach.proofs.Marked.{mark_long, mark_exactly, mark_past, first_sound, start_only}
 use Rattle.chain.specs.Marks.{climbed_in, Exact}
@@ -43,14 +43,7 @@ module _
           ((mark_exactly S v hv clear there (place_in I v) target).1 (inl refl)) (start_only S some v hv marks room);
     }
 
-    -- the marks are as many as before, and cleared again they are as if cleared before
-    pub climb_long : length (climbed_in I start) ≡ length marks
-    unfolding climbed_in
-    climb_long =
-        climbed_long I.groups I.children (first_labels I.labels).by_rank (length I.children) start
-        ∙ mark_long S v hv clear
-        ∙ cleared_long (length I.names) marks room
-
+    -- cleared again the marks are as if cleared before
     pub climb_cleared : cleared (length I.names) (climbed_in I start) ≡ clear
     unfolding climbed_in cleared
     climb_cleared =

@@ -2,15 +2,14 @@
 use mathlib.Core.Bool.{true, false}
 use mathlib.Core.Path.{◌≡◌, ◌∙◌}
 use mathlib.Core.List.{List}
-use Prim.Native.Nat.{ℕ, ◌≤◌, ◌<◌}
+use Prim.Native.Nat.{ℕ, ◌≤◌}
 use native.Mathlib.Omega.{arith}
 use lib.ListN.{length}
-use borrow.Author.Tests.{lt-ltb, le-ltb}
-use Rattle.std.specs.Prelude.{Option, Some, None, Result, Ok, Err}
+use borrow.Author.Tests.{le-ltb}
+use Rattle.std.specs.Prelude.{Option, Some, None, Result, Ok}
 use Rattle.lineage.specs.Index.{Index}
 use Rattle.lineage.specs.Question.{answer}
 use Rattle.refusals.specs.declared.Refusal.{Refusal}
-use Rattle.refusals.specs.declared.Refusal.TheVariants.{ListShort}
 use Rattle.numbers.specs.Put.{put}
 use Rattle.numbers.proofs.Put.{put_start}
 use Rattle.chain_steps.specs.Chain.{chain_of}
@@ -18,9 +17,6 @@ use Rattle.chain.specs.Chained.{Fills, Shows}
 
 -- the steps found, which were counted
 module _ {found out : List ℕ} {count : ℕ} (counted : count ≡ length found) where
-  pub fills_short : length out < count → Fills found out (Err (ListShort count)) out
-  fills_short h = let short = lt-ltb (length out) (length found) (omega arith) in record { answers = rw (counted, short); writes = rw short }
-
   pub fills_all : count ≤ length out → {written : List ℕ} → written ≡ put out 0 found → Fills found out (Ok (Some count)) written
   fills_all h e = let room = le-ltb (length out) (length found) (omega arith) in record { answers = rw (counted, room); writes = e ∙ put_start out found ∙ rw room }
 

@@ -7,7 +7,6 @@ ghost use Rattle.lineage.specs.Lists.{cleared};
 ghost use Rattle.lineage.specs.Question.{place_in};
 ghost use Rattle.lineage.specs.Calls.{forms_taken, ordinary, index_in};
 ghost use Rattle.numbers.specs.Bounds.{vertex_bound};
-ghost use Rattle.sound_places.specs.Lent.{SoundBytes};
 ghost use Rattle.reach_sweep.specs.Fit.{Spots};
 ghost use Rattle.chain_steps.specs.Steps.{TrailIn, steps_in};
 ghost use Rattle.chain.specs.Marks.{climbed_in, Exact};
@@ -15,22 +14,21 @@ ghost use Rattle.chain.specs.Traced.{chain_answer, chain_marks, chain_work, chai
 ghost use Rattle.chain.specs.Chained.{chained_of, Fills, Shows};
 
 use chain_steps::{count_steps, write_chain};
-use numbers::{clear_marks, clear_words, num};
+use numbers::{clear_marks, clear_words};
 use open::contents_sound;
 use reach_sweep::groups::Groups;
 use refusals::Refusal;
-use sound_places::place_of;
-use stored::parts;
+use sound_places::SoundImage;
+use stored::parts::Image;
 use stored::reading::{Numbers, Rows};
-use stored_header::{Layout, words_needed};
+use stored_header::words_needed;
 
 // The climb through all ranks, by the first labelling: afterwards a group is marked exactly where it reaches one marked before.
-fn climb_up(index: &[u8], l: Layout, marks: &mut [u8])
-    requires sound_bytes { SoundBytes index.now l }
-    requires n_in_bounds { l.n ≤ length marks.old }
-    ensures { marks.new ≡ climbed_in (index_in index.now) marks.old }
+fn climb_up(index: &SoundImage, marks: &mut [u8])
+    requires { index.now.image.layout.n ≤ length marks.old }
+    ensures { marks.new ≡ climbed_in (index_in index.now.image.bytes.now) marks.old }
 {
-    reach_climb::climb(&reach::ranks_of(index, l), marks);
+    reach_climb::climb(&reach::ranks_of(index), marks);
 }
 
 // The steps from the marked group at place x, which is at most `lev` high, down to the target: refusal 16, or the steps.
@@ -57,34 +55,42 @@ fn show(
 
 // The steps from u's group to v's over sound bytes, where exactly the groups that reach v's are marked: a no, refusal 16, or the steps.
 fn trace(
-    index: &[u8],
-    l: Layout,
+    index: &SoundImage,
     u: usize,
     v: usize,
     marks: &[u8],
     steps: &mut [u32],
 ) -> Result<Option<u32>, Refusal>
-    requires sound_bytes { SoundBytes index.now l }
-    requires n_in_bounds { (l.n ≤ length marks.now) × ((u < l.n) × (v < l.n)) }
-    requires exact { Exact (index_in index.now) (place_in (index_in index.now) v) marks.now }
-    ensures { Shows (index_in index.now) u v steps.old result steps.new }
+    requires n_in_bounds { (index.now.image.layout.n ≤ length marks.now) × ((u < index.now.image.layout.n) × (v < index.now.image.layout.n)) }
+    requires exact { Exact (index_in index.now.image.bytes.now) (place_in (index_in index.now.image.bytes.now) v) marks.now }
+    ensures { Shows (index_in index.now.image.bytes.now) u v steps.old result steps.new }
 {
+    let l = index.image.layout;
     let w = l.width;
-    let n = l.n;
     let k = l.k;
-    let names = parts::names(index, l);
-    let groups = parts::groups(index, l);
-    let levels = parts::levels(index, l);
-    let starts = parts::starts(index, l);
-    let children = parts::children(index, l);
-    let name = num(names, w, u);
+    let names = index.image.names();
+    let groups = index.image.groups();
+    let levels = index.image.levels();
+    let starts = index.image.starts();
+    let children = index.image.children();
+    let names = Numbers {
+        bytes: names,
+        width: w,
+        len: l.n,
+    };
+    let name = names.get(u);
     if marks[name] != 1 {
         return Ok(None);
     }
-    let x = place_of(groups, w, n, k, name);
-    let t = place_of(groups, w, n, k, num(names, w, v));
-    let lev = num(levels, w, x);
-    let names = Numbers {
+    let x = index.place(u);
+    let t = index.place(v);
+    let levels = Numbers {
+        bytes: levels,
+        width: w,
+        len: k,
+    };
+    let lev = levels.get(x);
+    let groups = Numbers {
         bytes: groups,
         width: w,
         len: k,
@@ -96,28 +102,36 @@ fn trace(
         k,
         c: l.c,
     };
-    show(&Groups { names, rows }, marks, steps, t, x, lev)
+    show(
+        &Groups {
+            names: groups,
+            rows,
+        },
+        marks,
+        steps,
+        t,
+        x,
+        lev,
+    )
 }
 
 // The chain of bytes whose contents are sound, on marks that are 0 below n, and are so afterwards: a no, refusal 16, or the steps.
 fn chain_sound(
-    index: &[u8],
-    l: Layout,
+    index: &SoundImage,
     u: usize,
     v: usize,
     marks: &mut [u8],
     steps: &mut [u32],
 ) -> Result<Option<u32>, Refusal>
-    requires sound_bytes { SoundBytes index.now l }
-    requires n_in_bounds { (l.n ≤ length marks.old) × ((u < l.n) × (v < l.n)) }
-    requires marks_value { marks.old ≡ cleared l.n marks.old }
-    ensures shows { Shows (index_in index.now) u v steps.old result steps.new }
+    requires n_in_bounds { (index.now.image.layout.n ≤ length marks.old) × ((u < index.now.image.layout.n) × (v < index.now.image.layout.n)) }
+    requires marks_value { marks.old ≡ cleared index.now.image.layout.n marks.old }
+    ensures shows { Shows (index_in index.now.image.bytes.now) u v steps.old result steps.new }
     ensures marks_unchanged { marks.new ≡ marks.old }
 {
-    reach::mark_group(index, l, marks, v);
-    climb_up(index, l, marks);
-    let r = trace(index, l, u, v, marks, steps);
-    clear_marks(marks, l.n);
+    reach::mark_group(index, marks, v);
+    climb_up(index, marks);
+    let r = trace(index, u, v, marks, steps);
+    clear_marks(marks, index.image.layout.n);
     r
 }
 
@@ -149,11 +163,16 @@ pub fn chain_taking(
     if n <= v {
         return Err(Refusal::BadVertex(1));
     }
+    let image = Image {
+        bytes: index,
+        layout: l,
+    };
     clear_words(work, words_needed(l));
-    if !contents_sound(index, l, marks) {
+    if !contents_sound(&image, marks) {
         return Err(Refusal::NotSound);
     }
-    chain_sound(index, l, u, v, marks, steps)
+    let sound = SoundImage { image };
+    chain_sound(&sound, u, v, marks, steps)
 }
 
 // The chain in a stored index of form 1 or 2.

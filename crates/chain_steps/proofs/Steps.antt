@@ -8,14 +8,17 @@ use native.Mathlib.Omega.{arith}
 use lib.Dec.{eqb}
 use lib.ListN.{length, get_or, set, length-set}
 use borrow.Author.Tests.{eq-eqb, ne_eqb}
+use Rattle.std.specs.List.{find}
+use Rattle.std.specs.Option.{unwrap_or}
+use Rattle.std.specs.Prelude.{Option, Some, None, is_some}
 use Rattle.numbers.specs.Put.{put}
 use Rattle.numbers.proofs.Put.{put_none, put_next, put_sets}
 use Rattle.chain_steps.specs.Chain.{onward, steps_by}
-use Rattle.chain_steps.specs.Steps.{Trail, Left, Stopped}
-
--- as long as nothing is written, all is left
-pub left_all : (before all : List ℕ) → Left before 0 all before 0 all
-left_all before all = record { long = refl; comes = refl; ends = refl }
+use Rattle.reach_sweep.specs.declared.groups.Groups.{Groups}
+use Rattle.reach_sweep.specs.Fit.{names_of, children_of}
+use Rattle.reach_sweep.specs.Sweep.{marked}
+use Rattle.reach_climb.proofs.Lowest.{first_found}
+use Rattle.chain_steps.specs.Steps.{Trail, TrailIn, next_in, Left, Stopped}
 
 module _ {before : List ℕ} {from : ℕ} {all out : List ℕ} {at : ℕ} {rest : List ℕ} (L : Left before from all out at rest) where
   -- nothing is left: all is written
@@ -118,6 +121,26 @@ module _ {k : ℕ} {good : ℕ → Bool} {next : ℕ → ℕ} {t p lev : ℕ} (T
           above = λ h. S.above high;
         }
 
+-- of a group on the trail, other than the target, a marked child is found: the next place
+module _
+    (g : Groups) (marks : List ℕ) {t p lev : ℕ} (T : TrailIn g marks t p lev) (ne : p ≡ t → ⊥) {found : Option ℕ}
+    (lowest : found ≡ find (marked (names_of g) marks) (get_or (children_of g) p []))
+  where
+    -- the first of them, or k
+    first : next_in g marks p ≡ unwrap_or found g.rows.k
+    unfolding next_in
+    first = first_found (marked (names_of g) marks) (get_or (children_of g) p []) g.rows.k ∙ ap (λ o. unwrap_or o g.rows.k) (sym lowest)
+
+    pub child_found : is_some found ≡ true
+    child_found = at found (rw first at (T.on p T.low T.here ne).0)
+      where
+        at : (o : Option ℕ) → unwrap_or o g.rows.k < g.rows.k → is_some o ≡ true
+        at None low = absurd (omega arith)
+        at (Some q) low = refl
+
+    pub child_next : {q : ℕ} → found ≡ Some q → q ≡ next_in g marks p
+    child_next e = sym (first ∙ ap (λ o. unwrap_or o g.rows.k) e)
+
 -- a run has stopped: at the target all is written, otherwise the names from the next place on are left
 module _
     {k : ℕ} {good : ℕ → Bool} {names : List ℕ} {next : ℕ → ℕ} {t p lev floor at : ℕ} {first all out out' : List ℕ} {place level behind : ℕ}
@@ -134,11 +157,6 @@ pub record Counting (k : ℕ) (good : ℕ → Bool) (names : List ℕ) (next : �
   pub trail : Trail k good next t p level
   pub fewer : level ≤ lev
   pub passed : lev + length (steps_by names next t (suc level) p) ≡ level + all
-
-pub counting_none :
-    {k : ℕ} {good : ℕ → Bool} (names : List ℕ) {next : ℕ → ℕ} {t x lev : ℕ} → Trail k good next t x lev
-    → Counting k good names next t (length (steps_by names next t (suc lev) x)) lev x lev
-counting_none names T = record { trail = T; fewer = omega arith; passed = refl }
 
 module _ {k : ℕ} {good : ℕ → Bool} {names : List ℕ} {next : ℕ → ℕ} {t all lev p level : ℕ} (C : Counting k good names next t all lev p level) where
   -- the target is passed last

@@ -47,7 +47,7 @@ fn write_steps(
             at: behind,
         };
     }
-    let q = lowest_marked(groups, marks, p);
+    let q = lowest_marked(groups, marks, p).unwrap();
     write_steps(groups, marks, out, t, q, lev - 1, floor, behind)
 }
 
@@ -77,7 +77,7 @@ pub fn write_chain(groups: &Groups, marks: &[u8], out: &mut [u32], t: usize, x: 
         if last == t {
             return;
         }
-        place = lowest_marked(groups, marks, last);
+        place = lowest_marked(groups, marks, last).unwrap();
         level = stop.level - 1;
     }
 }
@@ -92,7 +92,7 @@ pub fn count_steps(groups: &Groups, marks: &[u8], t: usize, x: usize, lev: usize
     let mut place = x;
     let mut level = lev;
     while place != t {
-        place = lowest_marked(groups, marks, place);
+        place = lowest_marked(groups, marks, place).unwrap();
         level -= 1;
     }
     lev - level + 1

@@ -19,7 +19,7 @@ use Rattle.stored_header.specs.declared.Row.{Row}
 use Rattle.stored_header.specs.declared.Layout.{Layout}
 use Rattle.stored_header.specs.Header.{Stride, row_of, counts, layout_by, Laid}
 use Rattle.stored_header.proofs.Forms.{form_within}
-use Rattle.sound_places.specs.Lent.{SoundBytes}
+use Rattle.sound_places.specs.declared.SoundImage.{SoundImage}
 use Rattle.refusals.specs.declared.Refusal.{Refusal}
 use Rattle.refusals.specs.declared.Refusal.TheVariants.{BeyondForm, OutputShort}
 use Rattle.convert.specs.Convert.{converted, beyond, fit_checks}
@@ -27,30 +27,31 @@ use Rattle.convert.specs.Converted.{converted_of, Turned}
 use Rattle.convert.specs.Fit.{Turns}
 use Rattle.convert.proofs.Written.{converted_long}
 
--- sound bytes, and another form that has as many numbers by place, with its row of the table
-pub record Other (b : List ℕ) (l : Layout) (form : ℕ) (row : Row) : Type 0 where
-  pub sound : SoundBytes b l
+-- another form that has as many numbers by place as sound bytes, with its row of the table
+pub record Other (s : SoundImage) (form : ℕ) (row : Row) : Type 0 where
   pub known : is_form form ≡ true
-  pub alike : (form_of form).by_place ≡ l.stride
+  pub alike : (form_of form).by_place ≡ s.image.layout.stride
   pub row_is : row ≡ row_of form
 
-module _ {b : List ℕ} {l : Layout} {form : ℕ} {row : Row} (O : Other b l form row) where
+module _ {s : SoundImage} {form : ℕ} {row : Row} (O : Other s form row) where
+  abbrev b : List ℕ
+  b = s.image.bytes.now
+
+  abbrev l : Layout
+  l = s.image.layout
+
   abbrev G : Form
   G = form_of form
 
   abbrev L : Laid b l
-  L = O.sound.laid
-
-  pub row_width : Width row.width
-  row_width = subst⁻¹ (λ (r : Row). Width r.width) O.row_is (form_within form).width
+  L = s.image.laid
 
   pub row_stride : Stride row.stride
   row_stride = subst⁻¹ (λ (r : Row). Stride r.stride) O.row_is (form_within form).stride
 
   -- the layout of the same counts at the other form
-  pub turns : {to : Layout} → to ≡ layout_by row.width row.stride (counts l.n l.k l.c l.d) → Turns b l form to
+  pub turns : {to : Layout} → to ≡ layout_by row.width row.stride (counts l.n l.k l.c l.d) → Turns s form to
   turns e = record {
-    sound = O.sound;
     known = O.known;
     alike = O.alike;
     laid = e ∙ ap₂ (λ (r : Row) (z : Layout). layout_by r.width r.stride (counts z.n z.k z.c z.d)) O.row_is L.is;
@@ -60,19 +61,16 @@ module _ {b : List ℕ} {l : Layout} {form : ℕ} {row : Row} (O : Other b l for
     -- the checks stop at number i: 19, 9, none
     turned_at : (i : ℕ) → Stops (fit_checks G b (length out)) i → {r : Result ℕ Refusal} → converted_of r ≡ stopped (fit_checks G b (length out)) i (length (converted G b))
         → Turned G b out r (cond (ltb i 2) out (converted G b ++ drop (length (converted G b)) out))
-    turned_at i s e = record {
-      answers = e ∙ sym (stops_outcome (length (converted G b)) (fit_checks G b (length out)) i s);
-      writes = rw (stops_early (fit_checks G b (length out)) [] i s);
+    turned_at i S e = record {
+      answers = e ∙ sym (stops_outcome (length (converted G b)) (fit_checks G b (length out)) i S);
+      writes = rw (stops_early (fit_checks G b (length out)) [] i S);
     }
 
     module _ {t : Bool} (told : t ≡ beyond G (counts l.n l.k l.c l.d)) where
       beyond_is : beyond G (counts_in b) ≡ t
       beyond_is = sym (told ∙ ap (λ (z : Layout). beyond G (counts z.n z.k z.c z.d)) L.is)
 
-      pub turned_beyond : t ≡ true → Turned G b out (Err BeyondForm) out
-      turned_beyond h = turned_at 0 (beyond_is ∙ h) refl
-
-      module _ (within : t ≡ false) {to : Layout} (T : Turns b l form to) where
+      module _ (within : t ≡ false) {to : Layout} (T : Turns s form to) where
         pub turned_short : length out < to.total → Turned G b out (Err (OutputShort to.total)) out
         turned_short h = turned_at 1 (beyond_is ∙ within, lt-ltb (length out) (length (converted G b)) (omega (arith, converted_long T))) (ap (refused 9) (converted_long T))
 

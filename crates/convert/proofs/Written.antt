@@ -25,6 +25,7 @@ use Rattle.stored.proofs.Contents.{contents_starts}
 use Rattle.stored.proofs.Offsets.{lengths, put_sections, sections_more, sections_put_lem, offsets_last, offsets_within}
 use Rattle.stored.proofs.Encoded.{header_fits}
 use Rattle.stored.proofs.Decoded.{sections_in, section_long, sections_are, counts_are}
+use Rattle.sound_places.specs.declared.SoundImage.{SoundImage}
 use Rattle.convert.specs.Convert.{converted}
 use Rattle.convert.specs.Fit.{Turns}
 
@@ -54,7 +55,13 @@ section_next v F b s i low =
     ∙ sections_more v X s 48 i low
     ∙ ap (λ (n : ℕ). put_sections v s 48 (take n X)) (sym (add-one i))
 
-module _ {b : List ℕ} {l : Layout} {form : ℕ} {to : Layout} (T : Turns b l form to) where
+module _ {s : SoundImage} {form : ℕ} {to : Layout} (T : Turns s form to) where
+  abbrev b : List ℕ
+  b = s.image.bytes.now
+
+  abbrev l : Layout
+  l = s.image.layout
+
   abbrev F : Form
   F = form_in b
 
@@ -68,16 +75,13 @@ module _ {b : List ℕ} {l : Layout} {form : ℕ} {to : Layout} (T : Turns b l f
   z = F.by_place
 
   abbrev L : Laid b l
-  L = T.sound.laid
+  L = s.image.laid
 
   same : G.by_place ≡ z
   same = T.alike ∙ stride_is L
 
   laid_as : to ≡ layout_by G.width z a
   laid_as = T.laid ∙ ap (λ (y : ℕ). layout_by G.width y a) same
-
-  pub turned_width : Width to.width
-  turned_width = subst⁻¹ (λ (t : Layout). Width t.width) T.laid (form_within form).width
 
   -- The header is that of the same counts at the other form, and its numbers are of 32 bits.
   header_is : header_of form to ≡ header G a
@@ -102,12 +106,9 @@ module _ {b : List ℕ} {l : Layout} {form : ℕ} {to : Layout} (T : Turns b l f
   pub total_small : to.total < 2 ^ 32
   total_small = header_small.1.1.1.1.1.1.1.1.1.1.1.0
 
-  pub header_room : {n : ℕ} → to.total ≤ n → 48 ≤ n
-  header_room h = omega (arith, sited_by to G.width G.by_place a T.laid)
-
   -- Header and sections are the index at the other form, and as long as its layout says.
   starts : starts_pass (section F.width z a b 3) a.k a.c ≡ true
-  starts = contents_starts F b T.sound.contents
+  starts = contents_starts F b s.contents
 
   bytes_are_lem : written 4 (header_of form to) ++ joined (map (written to.width) (sections_in F b)) ≡ converted G b
   unfolding encode
@@ -127,8 +128,8 @@ module _ {b : List ℕ} {l : Layout} {form : ℕ} {to : Layout} (T : Turns b l f
       ∙ sym (offsets_last to.width front X 48 (sym (written_long 4 (header_of form to))))
       ∙ ap length bytes_are_lem
 
-  pub sections_whole : (out s t : List ℕ) → s ≡ put out 0 (written 4 (header_of form to)) → t ≡ sections_put b to s 6 → t ≡ put out 0 (converted G b)
-  sections_whole out s t e f =
+  pub sections_whole : (out h t : List ℕ) → h ≡ put out 0 (written 4 (header_of form to)) → t ≡ sections_put b to h 6 → t ≡ put out 0 (converted G b)
+  sections_whole out h t e f =
       let X : List (List ℕ) = sections_in F b in
       f
       ∙ ap (λ (x : List ℕ). put_sections to.width x 48 X) e
@@ -143,33 +144,22 @@ module _ {b : List ℕ} {l : Layout} {form : ℕ} {to : Layout} (T : Turns b l f
     section_is : section l.width l.stride a b i ≡ section F.width z a b i
     section_is = ap₂ (λ (v y : ℕ). section v y a b i) (width_is L) (stride_is L)
 
-    pub sections_next : (s t u : List ℕ)
-        → t ≡ sections_put b to s i
+    pub sections_next : (h t u : List ℕ)
+        → t ≡ sections_put b to h i
         → u ≡ put t (get_or (offsets_of to) i 0) (written to.width (section l.width l.stride a b i))
-        → u ≡ sections_put b to s (i + 1)
-    sections_next s t u e f =
+        → u ≡ sections_put b to h (i + 1)
+    sections_next h t u e f =
         f
         ∙ ap (λ (x : List ℕ). put t (get_or (offsets_of to) i 0) (written to.width x)) section_is
         ∙ ap₂ (λ (x : List ℕ) (p : ℕ). put x p (written to.width (section F.width z a b i))) e offset_is
-        ∙ section_next to.width F b s i low
+        ∙ section_next to.width F b h i low
 
     -- at is its offset, and size the number of its numbers
     module _ {at size : ℕ} (at_is : at ≡ get_or (offsets_of to) i 0) (size_is : size ≡ get_or (sizes l.stride l.n l.k l.c l.d) i 0) where
       size_in : size ≡ get_or (sizes z a.n a.k a.c a.d) i 0
       size_in = size_is ∙ ap (λ (t : Layout). get_or (sizes t.stride t.n t.k t.c t.d) i 0) L.is
 
-      pub section_room : {n : ℕ} → to.total ≤ n → at + to.width * size ≤ n
-      section_room room =
-          let s : List ℕ = sizes z a.n a.k a.c a.d in
-          let total : to.total ≡ get_or (offsets to.width z a.n a.k a.c a.d) 6 0 =
-          subst⁻¹ (λ (t : Layout). t.total ≡ get_or (offsets t.width z a.n a.k a.c a.d) 6 0) laid_as refl in
-          let bytes : to.width * size ≡ to.width * get_or s i 0 = ap (λ (n : ℕ). to.width * n) size_in in
-          omega (arith, at_is, offset_is, offsets_within to.width b 48 s i low)
-
       module _ {r : List ℕ} (S : Section b l i r) where
-        pub section_held : l.width * size ≤ length r
-        section_held = omega (arith, ap (λ (n : ℕ). l.width * n) size_is, S.long)
-
         pub section_copied : (out : List ℕ) {t : List ℕ} → t ≡ put out at (written to.width (numbers l.width r size))
             → t ≡ put out (get_or (offsets_of to) i 0) (written to.width (section l.width l.stride a b i))
         unfolding section

@@ -6,7 +6,6 @@ ghost use Rattle.lineage.specs.Numbers.{written};
 ghost use Rattle.lineage.specs.Stored.{counts_in, form_of, is_form, section};
 ghost use Rattle.numbers.specs.Put.{put};
 ghost use Rattle.stored_header.specs.Header.{counts, offsets_of};
-ghost use Rattle.sound_places.specs.Lent.{SoundBytes};
 ghost use Rattle.convert.specs.Convert.{converted, beyond, convert_answer, convert_marks, convert_work, convert_output};
 ghost use Rattle.convert.specs.Converted.{converted_of, Turned};
 ghost use Rattle.convert.specs.Fit.{Turns};
@@ -14,30 +13,33 @@ ghost use Rattle.convert.specs.Fit.{Turns};
 use numbers::clear_words;
 use open::contents_sound;
 use refusals::Refusal;
+use sound_places::SoundImage;
 use stored::parts;
+use stored::parts::Image;
 use stored_header::{Layout, words_needed};
 
 // Copies the numbers of section i to where the other layout has it, in its width.
-fn copy_section(index: &[u8], l: Layout, form: usize, to: Layout, out: &mut [u8], i: usize)
-    requires turns { Turns index.now l form to }
+fn copy_section(index: &SoundImage, form: usize, to: Layout, out: &mut [u8], i: usize)
+    requires turns { Turns index.now form to }
     requires i_bound { (i < 6) × (to.total ≤ length out.old) }
-    ensures { out.new ≡ put out.old (get_or (offsets_of to) i 0) (written to.width (section l.width l.stride (counts_in index.now) index.now i)) }
+    ensures { out.new ≡ put out.old (get_or (offsets_of to) i 0) (written to.width (section index.now.image.layout.width index.now.image.layout.stride (counts_in index.now.image.bytes.now) index.now.image.bytes.now i)) }
 {
+    let l = index.image.layout;
     let at = parts::offset(to, i);
     let size = parts::size(l, i);
-    let from = parts::section(index, l, i);
+    let from = index.image.section(i);
     numbers::copy_numbers(out, at, to.width, from, l.width, size)
 }
 
 // Writes the index of sound bytes at another form: its header, and then section after section.
-fn write_as(index: &[u8], l: Layout, form: usize, to: Layout, out: &mut [u8])
-    requires turns { Turns index.now l form to }
+fn write_as(index: &SoundImage, form: usize, to: Layout, out: &mut [u8])
+    requires turns { Turns index.now form to }
     requires total_in_bounds { to.total ≤ length out.old }
-    ensures { out.new ≡ put out.old 0 (converted (form_of form) index.now) }
+    ensures { out.new ≡ put out.old 0 (converted (form_of form) index.now.image.bytes.now) }
 {
     stored_header::write_header(out, form, to);
     for i in 0..6 {
-        copy_section(index, l, form, to, out, i);
+        copy_section(index, form, to, out, i);
     }
 }
 
@@ -50,11 +52,11 @@ fn is_beyond(form: usize, l: Layout) -> bool
 }
 
 // Sound bytes turned into the form with this number, which has as many numbers by place: refusals 19 and 9, or what is written.
-fn convert_sound(index: &[u8], l: Layout, form: usize, out: &mut [u8]) -> Result<u32, Refusal>
-    requires sound_bytes { SoundBytes index.now l }
-    requires form_value { (is_form form ≡ true) × ((form_of form).by_place ≡ l.stride) }
-    ensures { Turned (form_of form) index.now out.old result out.new }
+fn convert_sound(index: &SoundImage, form: usize, out: &mut [u8]) -> Result<u32, Refusal>
+    requires { (is_form form ≡ true) × ((form_of form).by_place ≡ index.now.image.layout.stride) }
+    ensures { Turned (form_of form) index.now.image.bytes.now out.old result out.new }
 {
+    let l = index.image.layout;
     let row = stored_header::form_row(form);
     let to = stored_header::lay_out(row.width, row.stride, l.n, l.k, l.c, l.d);
     let beyond = is_beyond(form, l);
@@ -65,7 +67,7 @@ fn convert_sound(index: &[u8], l: Layout, form: usize, out: &mut [u8]) -> Result
     if short {
         return Err(Refusal::OutputShort(to.total as u32));
     }
-    write_as(index, l, form, to, out);
+    write_as(index, form, to, out);
     Ok(to.total as u32)
 }
 
@@ -86,12 +88,16 @@ fn convert_between(
     ensures work_after { work.new ≡ convert_work from index.now (length marks.old) work.old }
     ensures out_after { out.new ≡ convert_output from to index.now (length marks.old) (length work.old) out.old }
 {
-    let l = stored_header::admit(from, from, index, marks.len(), work.len())?;
-    clear_words(work, words_needed(l));
-    if !contents_sound(index, l, marks) {
+    let layout = stored_header::admit(from, from, index, marks.len(), work.len())?;
+    let image = Image {
+        bytes: index,
+        layout,
+    };
+    clear_words(work, words_needed(layout));
+    if !contents_sound(&image, marks) {
         return Err(Refusal::NotSound);
     }
-    convert_sound(index, l, to, out)
+    convert_sound(&SoundImage { image }, to, out)
 }
 
 // Turns an index of form 1 into form 2. Form 1 needs no words.

@@ -1,4 +1,4 @@
--- What `ask_all_exceptions` answers and leaves, by where its checks stop: at one of those up to 15, at 20, 2 or 16, or behind them. A pair inside a call that is not refused
+-- What `ask_all_exceptions` answers and leaves, by where its checks stop: at one of those up to 20, at 2 or 16, or behind them. A pair inside a call that is not refused
 -- gets what a single question gets: 10 to 13, 15 and 20 do not apply to it, and 14 is left.
 use mathlib.Core.Bool.{Bool, true, false, not, cond}
 use mathlib.Core.Path.{◌≡◌, refl, sym, ap, subst, ◌∙◌}
@@ -9,6 +9,13 @@ use native.Mathlib.Nat.{div-lt_iff_lt-mul, mul-div-le}
 use lib.Dec.{eqb, leb, ltb}
 use lib.ListN.{length, get_or, drop}
 use borrow.Author.Tests.{lt-ltb}
+use Rattle.std.specs.Prelude.{Result, Err, IsErrAnd}
+use Rattle.std.proofs.lemmas.Result.{err_from_is_err_and}
+use Rattle.refusals.specs.declared.Refusal.{Refusal}
+use Rattle.refusals.specs.Refusals.{number_of, extra_of}
+use Rattle.ask_all.specs.declared.BatchRefusal.{BatchRefusal}
+use Rattle.ask_all.specs.declared.BatchRefusal.TheVariants.{Refused}
+use Rattle.ask_all.specs.Batched.{batched_of, Own}
 use Rattle.lineage.specs.Lists.{upto, joined}
 use Rattle.lineage.specs.Stored.{counts_in}
 use Rattle.lineage.specs.Calls.{Check, check, Outcome, refused, answered, outcome, contents_check, index_in}
@@ -19,10 +26,10 @@ use Rattle.laws_exceptions.specs.Exceptions.{says_by_exceptions}
 use Rattle.numbers.specs.Put.{put}
 use Rattle.numbers.proofs.Put.{put_start}
 use Rattle.stored_header.specs.declared.Layout.{Layout}
-use Rattle.stored_header.specs.Header.{layout_in}
 use Rattle.stored_header.proofs.Laid.{n_is}
-use Rattle.exceptions.specs.Calls.{form_one_checks, sound_checks, belong_check, exceptions_asked}
-use Rattle.exceptions.proofs.Refusals.{AdmitsSound, sound_passed, sound_given}
+use Rattle.sound_places.specs.declared.SoundImage.{SoundImage}
+use Rattle.exceptions.specs.Calls.{form_one_checks, belong_check, open_late, listed_checks, exceptions_asked}
+use Rattle.exceptions.proofs.Refusals.{AdmitsLists, header_of, listed_passed, listed_sound, sound_bytes_are}
 use Rattle.exceptions_all.specs.Pairs.{pair_three, threes}
 use Rattle.exceptions_all.specs.Batch.{three_of, asked_at, all_exceptions, exceptions_answers}
 use Rattle.exceptions_all.proofs.Pairs.{threes_long}
@@ -63,26 +70,39 @@ module _ (b lists : List ℕ) (marks : ℕ) (passes : Pass (form_one_checks b ma
       put_start answers _
       ∙ rw (threes_long (counts_in b).n (says_by_exceptions (index_in b)) sources targets (length sources)) (ap (λ (z : List ℕ). z ++ drop (3 * length sources) answers) same)
 
--- none of the checks up to 15 is 16
+-- none of the checks up to 20 is 16
 abbrev Other : ℕ → ℕ → Type 0
 Other number extra = number ≡ 16 → ⊥
 
-abbrev Any : Layout → Type 0
+abbrev Any : List ℕ × Layout → Type 0
 Any l = Unit {0}
 
-pub sound_own : (b : List ℕ) (m : ℕ) {x y : ℕ} → refused x y ≡ outcome (sound_checks b m) (layout_in b) → x ≡ 16 → ⊥
-sound_own b m e =
+pub listed_own : (b lists : List ℕ) (m : ℕ) {x y : ℕ} → refused x y ≡ outcome (listed_checks b lists m) (header_of b) → x ≡ 16 → ⊥
+listed_own b lists m e =
     subst (Told Other Any) (sym e)
-    (outcome_told (layout_in b) Other Any (sound_checks b m)
-    ((λ z. omega (arith, z)), ((λ z. omega (arith, z)), ((λ z. omega (arith, z)), ((λ z. omega (arith, z)), ((λ z. omega (arith, z)), ((λ z. omega (arith, z)), tt))))))
+    (outcome_told (header_of b) Other Any (listed_checks b lists m) (
+      (λ z. omega (arith, z)),
+      ((λ z. omega (arith, z)), ((λ z. omega (arith, z)), ((λ z. omega (arith, z)), ((λ z. omega (arith, z)), ((λ z. omega (arith, z)), ((λ z. omega (arith, z)), tt)))))),
+    )
     tt)
+
+-- what is answered where `?` passed a refusal on
+module _ (r : Result ℕ BatchRefusal) (e : Refusal) (passed : IsErrAnd r (λ y. y ≡ Refused e)) where
+  result_is : r ≡ Err (Refused e)
+  result_is = let (y, is, same) = err_from_is_err_and r passed in is ∙ ap Err same
+
+  pub batch_passed : {o : Outcome ℕ} → refused (number_of e) (extra_of e) ≡ o → batched_of r ≡ o
+  batch_passed says = rw result_is says
+
+  pub own_passed : (number_of e ≡ 16 → ⊥) → Own r
+  own_passed other = rw result_is other
 
 module _ (b lists sources targets answers marks : List ℕ) where
   abbrev shared : List Check
-  shared = sound_checks b (length marks)
+  shared = listed_checks b lists (length marks)
 
   abbrev late : List Check
-  late = belong_check b lists ∷ check (not (eqb (length sources) (length targets))) 2 0 ∷ check (ltb (length answers) (3 * length sources)) 16 (length sources) ∷ []
+  late = check (not (eqb (length sources) (length targets))) 2 0 ∷ check (ltb (length answers) (3 * length sources)) 16 (length sources) ∷ []
 
   -- what may be answered, and what the answers may hold afterwards
   abbrev pub Asks : Outcome ℕ → List ℕ → Type 0
@@ -97,23 +117,24 @@ module _ (b lists sources targets answers marks : List ℕ) where
   unfolding all_exceptions exceptions_answers
   all_by C = (sym C.says, rw C.all refl)
 
-  -- the checks up to 15 stop it
-  pub all_refused : {x y : ℕ} → refused x y ≡ outcome shared (layout_in b) → Asks (refused x y) answers
-  all_refused e = all_by (refused_comes (length sources) (layout_in b) shared [] late _ _ (sym e))
+  -- the checks up to 20 stop it
+  pub all_refused : {x y : ℕ} → refused x y ≡ outcome shared (header_of b) → Asks (refused x y) answers
+  all_refused e = all_by (refused_comes (length sources) (header_of b) shared [] late _ _ (sym e))
 
-  module _ {l : Layout} (A : AdmitsSound b (length marks) l) where
-    all_behind : (i : ℕ) → Stops late i → Asks (stopped late i (length sources)) (written (ltb i 3))
-    all_behind i s = all_by (stops_comes (length sources) shared [] late i (sound_passed A) s)
+  module _ {s : SoundImage} (A : AdmitsLists b lists (length marks) s) where
+    all_behind : (i : ℕ) → Stops late i → Asks (stopped late i (length sources)) (written (ltb i 2))
+    all_behind i stops = all_by (stops_comes (length sources) shared [] late i (listed_passed A) stops)
 
-    -- 20, 2 or 16
-    pub all_stopped : (i : ℕ) → i < 3 → Stops late i → Asks (stopped late i (length sources)) answers
-    all_stopped i h s = rw (lt-ltb i 3 h) at (all_behind i s)
+    -- 2 or 16
+    pub all_stopped : (i : ℕ) → i < 2 → Stops late i → Asks (stopped late i (length sources)) answers
+    all_stopped i h stops = rw (lt-ltb i 2 h) at (all_behind i stops)
 
     -- none, and the pairs are answered
     pub all_answered :
-        Stops late 3 → {a : List ℕ} → a ≡ put answers 0 (threes l.n (says_by_exceptions (index_in b)) sources targets (length sources)) → Asks (answered (length sources)) a
-    all_answered s e =
-        let (o, a) = all_behind 3 s in
-        let first = pass_front (form_one_checks b (length marks)) (contents_check b ∷ []) (sound_passed A) in
-        let sound = (pass_behind (form_one_checks b (length marks)) (contents_check b ∷ []) (sound_passed A)).0 in
-        (o, e ∙ rw (n_is (sound_given A).laid) (answers_are b lists (length marks) first sound s.0 sources targets answers) ∙ a)
+        Stops late 2 → {a : List ℕ} → a ≡ put answers 0 (threes s.image.layout.n (says_by_exceptions (index_in s.image.bytes.now)) sources targets (length sources))
+        → Asks (answered (length sources)) a
+    all_answered stops e =
+        let (o, a) = all_behind 2 stops in
+        let first = pass_front (form_one_checks b (length marks)) (open_late b lists) (listed_passed A) in
+        let (sound, (belong, _)) = pass_behind (form_one_checks b (length marks)) (open_late b lists) (listed_passed A) in
+        (o, e ∙ rw (n_is s.image.laid, sound_bytes_are (listed_sound A)) (answers_are b lists (length marks) first sound belong sources targets answers) ∙ a)

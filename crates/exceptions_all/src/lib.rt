@@ -6,7 +6,6 @@ ghost use Rattle.lineage.specs.Calls.{index_in};
 ghost use Rattle.laws_exceptions.specs.Exceptions.{encode_exceptions, says_by_exceptions};
 ghost use Rattle.refusals.specs.Refusals.{number_of, extra_of};
 ghost use Rattle.numbers.specs.Put.{put};
-ghost use Rattle.sound_places.specs.Lent.{SoundBytes};
 ghost use Rattle.exceptions.specs.Calls.{exception_marks};
 ghost use Rattle.exceptions_all.specs.Pairs.{pair_three, threes, by_place, Ready};
 ghost use Rattle.exceptions_all.specs.Batch.{all_exceptions, exceptions_answers};
@@ -14,15 +13,12 @@ ghost use Rattle.ask_all.specs.Batched.{batched_of, Own};
 
 use ask_all::BatchRefusal;
 use ask_pairs::places::lay_out;
-use exceptions::admit_sound;
+use exceptions::admit_lists;
 use exceptions_ask::reaches;
-use exceptions_lists::exceptions_match;
 use refusals::Refusal;
-use stored::parts;
-use stored_header::Layout;
-
-// The vertices that form 1 has at most, each with a word for the place of its group.
-const MOST_VERTICES: usize = 4096;
+use sound_places::SoundImage;
+use stored::reading::Labels;
+use stored_header::MOST_VERTICES_FORM_1;
 
 // Writes three numbers from position at on.
 fn put_three(answers: &mut [u32], at: usize, refusal: u32, extra: u32, yes: u32)
@@ -44,105 +40,94 @@ fn put_refused(answers: &mut [u32], at: usize, r: Refusal)
 
 // Answers one pair, with the place of every vertex's group in a table: 14, source first, or yes or no.
 fn put_pair(
-    labels: &[u8],
+    labels: &Labels,
     lists: &[u8],
     places: &[u32],
-    w: usize,
-    z: usize,
-    n: usize,
-    k: usize,
-    d: usize,
     u: usize,
     v: usize,
     answers: &mut [u32],
     at: usize,
 )
-    requires ready { Ready w z n k d labels.now lists.now places.now }
+    requires ready { Ready labels.now lists.now places.now }
     requires at_in_bounds { at + 3 ≤ length answers.old }
-    ensures { answers.new ≡ put answers.old at (pair_three n (by_place w z k d labels.now lists.now places.now) u v) }
+    ensures { answers.new ≡ put answers.old at (pair_three (length places.now) (by_place labels.now lists.now places.now) u v) }
 {
-    if n <= u {
+    if places.len() <= u {
         put_refused(answers, at, Refusal::BadVertex(0));
         return;
     }
-    if n <= v {
+    if places.len() <= v {
         put_refused(answers, at, Refusal::BadVertex(1));
         return;
     }
     let x = places[u] as usize;
     let y = places[v] as usize;
-    let yes = reaches(labels, lists, w, z, k, d, x, y);
+    let yes = reaches(labels, lists, x, y);
     put_three(answers, at, 0, 0, yes as u32)
 }
 
 // Answers the pairs one by one.
 fn ask_each(
-    labels: &[u8],
+    labels: &Labels,
     lists: &[u8],
     places: &[u32],
-    w: usize,
-    z: usize,
-    n: usize,
-    k: usize,
-    d: usize,
     sources: &[u32],
     targets: &[u32],
     answers: &mut [u32],
 )
-    requires ready { Ready w z n k d labels.now lists.now places.now }
+    requires ready { Ready labels.now lists.now places.now }
     requires sources_len { (length sources.now ≡ length targets.now) × (3 * length sources.now ≤ length answers.old) }
-    ensures { answers.new ≡ put answers.old 0 (threes n (by_place w z k d labels.now lists.now places.now) sources.now targets.now (length sources.now)) }
+    ensures { answers.new ≡ put answers.old 0 (threes (length places.now) (by_place labels.now lists.now places.now) sources.now targets.now (length sources.now)) }
 {
     for i in 0..sources.len() {
         let u = sources[i] as usize;
         let v = targets[i] as usize;
-        put_pair(labels, lists, places, w, z, n, k, d, u, v, answers, 3 * i);
+        put_pair(labels, lists, places, u, v, answers, 3 * i);
     }
 }
 
 // Answers the pairs over sound bytes and lists that belong to them: the places are laid out once, in words that suffice.
 fn ask_placed(
-    index: &[u8],
-    l: Layout,
+    index: &SoundImage,
     lists: &[u8],
     places: &mut [u32],
     sources: &[u32],
     targets: &[u32],
     answers: &mut [u32],
 )
-    requires sound_bytes { SoundBytes index.now l }
-    requires n_bound { (l.n ≤ 4096) × ((l.n ≤ length places.old) × (lists.now ≡ encode_exceptions (index_in index.now))) }
+    requires n_bound { (index.now.image.layout.n ≤ 4096) × ((index.now.image.layout.n ≤ length places.old) × (lists.now ≡ encode_exceptions (index_in index.now.image.bytes.now))) }
     requires sources_len { (length sources.now ≡ length targets.now) × (3 * length sources.now ≤ length answers.old) }
-    ensures { answers.new ≡ put answers.old 0 (threes l.n (says_by_exceptions (index_in index.now)) sources.now targets.now (length sources.now)) }
+    ensures { answers.new ≡ put answers.old 0 (threes index.now.image.layout.n (says_by_exceptions (index_in index.now.image.bytes.now)) sources.now targets.now (length sources.now)) }
 {
-    let w = l.width;
-    let n = l.n;
-    let k = l.k;
-    let names = parts::names(index, l);
-    let groups = parts::groups(index, l);
-    let labels = parts::labels(index, l);
-    lay_out(names, groups, w, n, k, &mut places[..n]);
-    ask_each(
-        labels, lists, places, w, l.stride, n, k, l.d, sources, targets, answers,
-    )
+    let l = index.image.layout;
+    let names = index.image.names();
+    let groups = index.image.groups();
+    let labels = Labels {
+        bytes: index.image.labels(),
+        width: l.width,
+        z: l.stride,
+        k: l.k,
+        d: l.d,
+    };
+    let table = &mut places[..l.n];
+    lay_out(names, groups, l.width, l.n, l.k, table);
+    ask_each(&labels, lists, table, sources, targets, answers)
 }
 
 // The same with the table of places in an array.
 fn ask_sound(
-    index: &[u8],
-    l: Layout,
+    index: &SoundImage,
     lists: &[u8],
     sources: &[u32],
     targets: &[u32],
     answers: &mut [u32],
 )
-    requires sound_bytes { SoundBytes index.now l }
-    requires n_bound { (l.n ≤ 4096) × (lists.now ≡ encode_exceptions (index_in index.now)) }
+    requires n_bound { (index.now.image.layout.n ≤ 4096) × (lists.now ≡ encode_exceptions (index_in index.now.image.bytes.now)) }
     requires sources_len { (length sources.now ≡ length targets.now) × (3 * length sources.now ≤ length answers.old) }
-    ensures { answers.new ≡ put answers.old 0 (threes l.n (says_by_exceptions (index_in index.now)) sources.now targets.now (length sources.now)) }
+    ensures { answers.new ≡ put answers.old 0 (threes index.now.image.layout.n (says_by_exceptions (index_in index.now.image.bytes.now)) sources.now targets.now (length sources.now)) }
 {
-    let mut places = [0u32; MOST_VERTICES];
-    ask_placed(index, l, lists, &mut places, sources, targets, answers)
+    let mut places = [0u32; MOST_VERTICES_FORM_1];
+    ask_placed(index, lists, &mut places, sources, targets, answers)
 }
 
 // Answers all pairs by three numbers each, over a stored index of form 1 and its exception lists: refusals 10 to 13, 15, 20, 2 and 16 in order, or the number of
@@ -160,10 +145,7 @@ pub fn ask_all_exceptions(
     ensures marks_after { marks.new ≡ exception_marks index.now marks.old }
     ensures answers_after { answers.new ≡ exceptions_answers index.now lists.now sources.now targets.now (length marks.old) answers.old }
 {
-    let l = admit_sound(index, marks)?;
-    if !exceptions_match(index, l, marks, lists) {
-        return Err(BatchRefusal::Refused(Refusal::OtherLists));
-    }
+    let sound = admit_lists(index, lists, marks)?;
     let pairs = sources.len();
     if pairs != targets.len() {
         return Err(BatchRefusal::Refused(Refusal::ListsDiffer));
@@ -171,6 +153,6 @@ pub fn ask_all_exceptions(
     if answers.len() / 3 < pairs {
         return Err(BatchRefusal::AnswersShort(pairs));
     }
-    ask_sound(index, l, lists, sources, targets, answers);
+    ask_sound(&sound, lists, sources, targets, answers);
     Ok(pairs)
 }

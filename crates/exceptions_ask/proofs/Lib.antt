@@ -1,3 +1,3 @@
 -- The laws that the proofs of this crate and of those above cite.
 pub mod Listed
-pub mod Placed
+pub mod Contained

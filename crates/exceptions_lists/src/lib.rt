@@ -7,23 +7,21 @@ ghost use Rattle.lineage.specs.Numbers.{written};
 ghost use Rattle.lineage.specs.Calls.{index_in};
 ghost use Rattle.laws_exceptions.specs.Exceptions.{exception_rows, encode_exceptions};
 ghost use Rattle.numbers.specs.Put.{put};
-ghost use Rattle.sound_places.specs.Lent.{SoundBytes};
 ghost use Rattle.exceptions_lists.specs.Lists.{entries_to, ends_to, list_stands};
 
 use exceptions_rows::{count_row, match_row, write_row};
 use numbers::{num, put_at};
-use stored_header::Layout;
+use sound_places::SoundImage;
 
 // How many entries all lists have.
-pub fn count_exceptions(index: &[u8], l: Layout, marks: &mut [u8]) -> usize
-    requires sound_bytes { SoundBytes index.now l }
-    requires n_in_bounds { (l.n ≤ length marks.old) × (marks.old ≡ cleared l.n marks.old) }
-    ensures value { result ≡ length (joined (exception_rows (index_in index.now))) }
+pub fn count_exceptions(index: &SoundImage, marks: &mut [u8]) -> usize
+    requires { (index.now.image.layout.n ≤ length marks.old) × (marks.old ≡ cleared index.now.image.layout.n marks.old) }
+    ensures value { result ≡ length (joined (exception_rows (index_in index.now.image.bytes.now))) }
     ensures marks_unchanged { marks.new ≡ marks.old }
 {
     let mut count = 0;
-    for x in 0..l.k {
-        count += count_row(index, l, marks, x);
+    for x in 0..index.image.layout.k {
+        count += count_row(index, marks, x);
     }
     count
 }
@@ -39,45 +37,44 @@ fn write_head(out: &mut [u8], k: usize, entries: usize)
 }
 
 // Writes where each list ends, counted in entries, and the lists.
-fn write_lists(index: &[u8], l: Layout, marks: &mut [u8], out: &mut [u8])
-    requires sound_bytes { SoundBytes index.now l }
-    requires n_in_bounds { (l.n ≤ length marks.old) × (marks.old ≡ cleared l.n marks.old) }
-    requires index_in_bounds { 4 * (l.k + 3 + length (joined (exception_rows (index_in index.now)))) ≤ length out.old }
-    ensures out_after { out.new ≡ put out.old 12 (written 4 (ends_to (index_in index.now) l.k ++ joined (exception_rows (index_in index.now)))) }
+fn write_lists(index: &SoundImage, marks: &mut [u8], out: &mut [u8])
+    requires n_in_bounds { (index.now.image.layout.n ≤ length marks.old) × (marks.old ≡ cleared index.now.image.layout.n marks.old) }
+    requires index_in_bounds { 4 * (index.now.image.layout.k + 3 + length (joined (exception_rows (index_in index.now.image.bytes.now)))) ≤ length out.old }
+    ensures out_after { out.new ≡ put out.old 12 (written 4 (ends_to (index_in index.now.image.bytes.now) index.now.image.layout.k ++ joined (exception_rows (index_in index.now.image.bytes.now)))) }
     ensures marks_unchanged { marks.new ≡ marks.old }
 {
-    let first = l.k + 3;
+    let k = index.image.layout.k;
+    let first = k + 3;
     let mut at = first;
-    for x in 0..l.k {
-        at = write_row(index, l, marks, x, out, at);
+    for x in 0..k {
+        at = write_row(index, marks, x, out, at);
         put_at(out, 4 * (x + 3), 4, at - first);
     }
 }
 
 // Writes the lists, of which the number of entries is given, to the front of the output.
-pub fn write_exceptions(index: &[u8], l: Layout, marks: &mut [u8], out: &mut [u8], entries: usize)
-    requires sound_bytes { SoundBytes index.now l }
-    requires n_in_bounds { (l.n ≤ length marks.old) × (marks.old ≡ cleared l.n marks.old) }
-    requires entries_value { (entries ≡ length (joined (exception_rows (index_in index.now)))) × (4 * (l.k + 3 + entries) ≤ length out.old) }
-    ensures out_after { out.new ≡ put out.old 0 (encode_exceptions (index_in index.now)) }
+pub fn write_exceptions(index: &SoundImage, marks: &mut [u8], out: &mut [u8], entries: usize)
+    requires n_in_bounds { (index.now.image.layout.n ≤ length marks.old) × (marks.old ≡ cleared index.now.image.layout.n marks.old) }
+    requires entries_value { (entries ≡ length (joined (exception_rows (index_in index.now.image.bytes.now)))) × (4 * (index.now.image.layout.k + 3 + entries) ≤ length out.old) }
+    ensures out_after { out.new ≡ put out.old 0 (encode_exceptions (index_in index.now.image.bytes.now)) }
     ensures marks_unchanged { marks.new ≡ marks.old }
 {
-    write_head(out, l.k, entries);
-    write_lists(index, l, marks, out)
+    write_head(out, index.image.layout.k, entries);
+    write_lists(index, marks, out)
 }
 
 // Whether each list ends and stands in the stored numbers, of which there are `most`, as it should, and they end with the last.
-fn lists_stand(index: &[u8], l: Layout, marks: &mut [u8], lists: &[u8], most: usize) -> bool
-    requires sound_bytes { SoundBytes index.now l }
-    requires n_in_bounds { (l.n ≤ length marks.old) × (marks.old ≡ cleared l.n marks.old) }
-    requires k_bound { (l.k + 3 ≤ most) × (4 * most ≤ length lists.now) }
-    ensures value { result ≡ (all_below l.k (list_stands (index_in index.now) lists.now (l.k + 3) most) && eqb (l.k + 3 + entries_to (index_in index.now) l.k) most) }
+fn lists_stand(index: &SoundImage, marks: &mut [u8], lists: &[u8], most: usize) -> bool
+    requires n_in_bounds { (index.now.image.layout.n ≤ length marks.old) × (marks.old ≡ cleared index.now.image.layout.n marks.old) }
+    requires k_bound { (index.now.image.layout.k + 3 ≤ most) × (4 * most ≤ length lists.now) }
+    ensures value { result ≡ (all_below index.now.image.layout.k (list_stands (index_in index.now.image.bytes.now) lists.now (index.now.image.layout.k + 3) most) && eqb (index.now.image.layout.k + 3 + entries_to (index_in index.now.image.bytes.now) index.now.image.layout.k) most) }
     ensures marks_unchanged { marks.new ≡ marks.old }
 {
-    let first = l.k + 3;
+    let k = index.image.layout.k;
+    let first = k + 3;
     let mut at = first;
-    for x in 0..l.k {
-        let Some(next) = match_row(index, l, marks, x, lists, at, most) else {
+    for x in 0..k {
+        let Some(next) = match_row(index, marks, x, lists, at, most) else {
             return false;
         };
         if num(lists, 4, x + 3) != next - first {
@@ -89,14 +86,13 @@ fn lists_stand(index: &[u8], l: Layout, marks: &mut [u8], lists: &[u8], most: us
 }
 
 // Whether the stored bytes are the exception lists of the index.
-pub fn exceptions_match(index: &[u8], l: Layout, marks: &mut [u8], lists: &[u8]) -> bool
-    requires sound_bytes { SoundBytes index.now l }
-    requires n_in_bounds { (l.n ≤ length marks.old) × (marks.old ≡ cleared l.n marks.old) }
-    requires k_bound { l.k ≤ 4096 }
-    ensures value { result ≡ same_list lists.now (encode_exceptions (index_in index.now)) }
+pub fn exceptions_match(index: &SoundImage, marks: &mut [u8], lists: &[u8]) -> bool
+    requires n_in_bounds { (index.now.image.layout.n ≤ length marks.old) × (marks.old ≡ cleared index.now.image.layout.n marks.old) }
+    requires k_bound { index.now.image.layout.k ≤ 4096 }
+    ensures value { result ≡ same_list lists.now (encode_exceptions (index_in index.now.image.bytes.now)) }
     ensures marks_unchanged { marks.new ≡ marks.old }
 {
-    let k = l.k;
+    let k = index.image.layout.k;
     if lists.len() < 4 * (k + 3) {
         return false;
     }
@@ -110,5 +106,5 @@ pub fn exceptions_match(index: &[u8], l: Layout, marks: &mut [u8], lists: &[u8])
     if num(lists, 4, 2) != 0 {
         return false;
     }
-    lists_stand(index, l, marks, lists, most)
+    lists_stand(index, marks, lists, most)
 }

@@ -3,15 +3,12 @@ use mathlib.Core.Bool.{Bool, true, false, not, not-not, ◌&&◌, ◌||◌}
 use mathlib.Core.Path.{◌≡◌, refl, sym, ap, ◌∙◌}
 use mathlib.Core.List.{List, [], ◌∷◌, ◌++◌, map, map-append}
 use Prim.Native.Nat.{ℕ, zero, suc, ◌+◌, ◌*◌, ◌<◌}
-use native.Mathlib.Omega.{arith}
 use Rattle.lineage.specs.Lists.{upto, all_below}
 use Rattle.lineage.specs.Labels.{Labelling}
 use Rattle.lineage.specs.Question.{outside, some_labelling}
 use Rattle.numbers.specs.Regions.{Part}
-use Rattle.stored.specs.Sections.{Labellings, labelling_in, tuples_of, places_of, labels_in}
-use Rattle.stored.proofs.Held.{tuples_few}
+use Rattle.stored.specs.Sections.{labelling_in, tuples_of, places_of, labels_in}
 use Rattle.stored.proofs.Sections.{s_at, e_at}
-use Rattle.sound_ranks.specs.Fit.{Tuples}
 use Rattle.exceptions_marks.specs.Marks.{lies_in}
 
 -- no labelling passes exactly where each does not
@@ -35,10 +32,6 @@ module _ (p : Labelling → Bool) where
       ap (λ (b : Bool). b && not (p (f d))) (each_table f d)
       ∙ some_behind (map f (upto d)) (f d)
       ∙ ap (λ (ls : List Labelling). not (some_labelling p ls)) (sym (map-append f (upto d) (d ∷ [])))
-
--- the numbers by place of labelling j can be read
-pub tuples_held : {w z k d : ℕ} {labels tuples : List ℕ} → Labellings w z labels k d → (j : ℕ) → Part labels (w * (j * ((z + 1) * k))) (w * (z * k)) tuples → Tuples w z tuples k
-tuples_held D j P = record { stride = D.stride; held = record { width = D.width; long = omega (arith, P.long); few = omega (arith, tuples_few D) } }
 
 module _ (w z k : ℕ) (labels : List ℕ) (x y : ℕ) where
   -- labelling j of the labels, and whether y's outer interval lies in x's there

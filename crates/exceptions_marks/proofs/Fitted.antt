@@ -1,6 +1,6 @@
 -- What the sections of sound bytes hold, as the index has it: the names of its groups, its labellings, and of the first of them s, e and the places by rank.
 use mathlib.Core.Bool.{Bool, false, not, cond}
-use mathlib.Core.Path.{◌≡◌, refl, sym, ap, subst⁻¹, ◌∙◌}
+use mathlib.Core.Path.{◌≡◌, sym, ap, ◌∙◌}
 use mathlib.Core.List.{List, [], ◌∷◌}
 use Prim.Native.Nat.{ℕ, ◌+◌, ◌-◌, ◌*◌, ◌≤◌, ◌<◌}
 use native.Mathlib.Nat.{not-suc-le-zero}
@@ -9,11 +9,9 @@ use lib.ListN.{length, get_or}
 use Rattle.lineage.specs.Labels.{Labelling}
 use Rattle.lineage.specs.Index.{Index}
 use Rattle.lineage.specs.Numbers.{Width, num_at, numbers}
-use Rattle.lineage.specs.Stored.{sizes, counts_in, stretch}
 use Rattle.lineage.specs.Question.{outside, some_labelling}
 use Rattle.lineage.specs.Calls.{index_in}
 use Rattle.laws.specs.Sound.{SoundLabelling}
-use Rattle.laws.proofs.Parts.{part_length}
 use Rattle.laws.proofs.Lists.{table_at}
 use Rattle.laws.proofs.Inverse.{e_most}
 use Rattle.laws_answers.specs.Answers.{Member, front}
@@ -23,10 +21,9 @@ use Rattle.laws_exceptions.proofs.Ranks.{s_some, s_most}
 use Rattle.numbers.specs.Regions.{Part}
 use Rattle.numbers.proofs.Numbers.{room, numbers_at}
 use Rattle.stored_header.specs.declared.Layout.{Layout}
-use Rattle.stored_header.specs.Header.{layout_in, Laid}
+use Rattle.stored_header.specs.Header.{Laid}
 use Rattle.stored.specs.Sections.{Section, Six, children_in, Labellings, labelling_in, tuples_of, places_of, labels_in, index_from}
-use Rattle.stored.proofs.Offsets.{offsets_within}
-use Rattle.stored.proofs.Contents.{stretch_of, with_rows, names_only, index_at_lem, children_many}
+use Rattle.stored.proofs.Contents.{stretch_of, whole, with_rows, index_at_lem, children_many}
 use Rattle.stored.proofs.Sections.{s_at, e_at}
 use Rattle.stored_header.proofs.Laid.{k_is}
 use Rattle.sound_places.specs.Lent.{SoundBytes, Lent}
@@ -39,26 +36,15 @@ first_of_lem : (labels : List Labelling) → 0 < length labels → Member (first
 first_of_lem [] h = absurd (not-suc-le-zero h)
 first_of_lem (l ∷ labels) h = front
 
--- The sections of bytes, of which only some are read: each of the others stands where the header says.
-stands_at : (b : List ℕ) → Laid b (layout_in b) → Section b (layout_in b) 0 (stretch (layout_in b).width (layout_in b).stride (counts_in b) b 0)
-unfolding stretch
-stands_at b L =
-    let l : Layout = layout_in b in
-    let s : List ℕ = sizes l.stride l.n l.k l.c l.d in
-    record { is = refl; long = part_length b 48 (l.width * l.n) (omega (arith, offsets_within l.width b 48 s 0 (omega arith), L.long)) }
-
+-- The sections of bytes, of which only some are read.
 module _ {b : List ℕ} {l : Layout} (L : Laid b l) where
-  all_stand : Six b l (stretch_of L 0) (stretch_of L 1) (stretch_of L 2) (stretch_of L 3) (stretch_of L 4) (stretch_of L 5)
-  all_stand =
-      names_only L (subst⁻¹ (λ (z : Layout). Laid b z → Section b z 0 (stretch z.width z.stride (counts_in b) b 0)) L.is (stands_at b) L)
-
-  -- the group list is read, or it and the labels
+  -- the group list, or it and the labels
   pub with_groups : {groups : List ℕ} → Section b l 1 groups → Six b l (stretch_of L 0) groups (stretch_of L 2) (stretch_of L 3) (stretch_of L 4) (stretch_of L 5)
-  with_groups G = with_rows L G all_stand.labels_in all_stand.starts_in all_stand.children_in_lem
+  with_groups G = with_rows L G (whole L 5 (omega arith)) (whole L 3 (omega arith)) (whole L 4 (omega arith))
 
   pub with_labels_lem :
       {groups labels : List ℕ} → Section b l 1 groups → Section b l 5 labels → Six b l (stretch_of L 0) groups (stretch_of L 2) (stretch_of L 3) (stretch_of L 4) labels
-  with_labels_lem G M = with_rows L G M all_stand.starts_in all_stand.children_in_lem
+  with_labels_lem G M = with_rows L G M (whole L 3 (omega arith)) (whole L 4 (omega arith))
 
 module _ {b : List ℕ} {l : Layout} (O : SoundBytes b l) where
   pub first_in : Member (first_labels (index_in b).labels) (index_in b).labels

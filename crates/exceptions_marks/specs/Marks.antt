@@ -1,9 +1,16 @@
 -- What is read of the numbers by place of one labelling, and the marks that tell the exceptions of one group. A group's mark stands at its name.
 use Rattle.std.specs.Prelude.{Bool, ◌&&◌, cond, ◌≡◌, List, ℕ, ◌+◌, ◌-◌, ◌*◌, ◌<◌, eqb, leb, length, get_or, drop}
 use Rattle.lineage.specs.Graph.{leads}
+use Rattle.lineage.specs.Labels.{Labelling}
 use Rattle.lineage.specs.Index.{Index}
 use Rattle.lineage.specs.Numbers.{num_at}
 use Rattle.laws_exceptions.specs.Exceptions.{is_exception}
+use Rattle.stored.specs.Sections.{labels_in}
+use Rattle.stored.specs.declared.reading.Labels.{Labels}
+
+-- the labellings that lent labels hold
+abbrev pub labels_of : Labels → List Labelling
+labels_of m = labels_in m.width m.z m.bytes.now m.k m.d
 
 -- y's outer interval lies in x's: s(x) is not above s(y), nor e(y) above e(x)
 abbrev pub lies_in : (w z : ℕ) → List ℕ → (x y : ℕ) → Bool

@@ -14,19 +14,20 @@ use Rattle.lineage.specs.Numbers.{num_at}
 use Rattle.lineage.specs.Calls.{index_in}
 use Rattle.laws_exceptions.specs.Exceptions.{is_exception, exceptions_of, entry, entries_of}
 use Rattle.stored_header.specs.declared.Layout.{Layout}
+use Rattle.stored.specs.Rows.{Places}
 use Rattle.stored.specs.Sections.{Six, children_in, labels_in}
 use Rattle.sound_places.specs.Lent.{SoundBytes}
 use Rattle.reach.proofs.Fitted.{spots}
 use Rattle.exceptions_marks.specs.Marks.{Excepted}
-use Rattle.exceptions_marks.proofs.Fitted.{children_are, labels_are_lem, places_many, labelled, name_was}
-use Rattle.exceptions_rows.specs.Rows.{Telling, kinds_alone, entry_told}
+use Rattle.exceptions_marks.proofs.Fitted.{children_are, labels_are_lem, places_many, name_was}
+use Rattle.exceptions_rows.specs.Rows.{kinds_alone, entry_told}
 
 module _
     {b : List ℕ} {l : Layout} {names groups levels starts children labels : List ℕ}
     (O : SoundBytes b l) (P : Six b l names groups levels starts children labels)
   where
-    pub telling : Telling l.width l.stride l.k l.c l.d starts children labels
-    telling = record { below = (spots O P l.n (omega arith)).below; labelled = labelled O P }
+    pub placed : Places l.width starts children l.k l.c
+    placed = (spots O P l.n (omega arith)).below
 
     -- the group at place y, whose name was read
     module _ {y name : ℕ} (h : y < l.k) (named : name ≡ num_at l.width groups y) where

@@ -1,23 +1,25 @@
 -- The kind of an entry, from the children of x gone through one by one: some child contains y, or none does.
 use mathlib.Core.Bool.{Bool, true, false}
-use mathlib.Core.Path.{◌≡◌, sym, ◌∙◌}
+use mathlib.Core.Path.{◌≡◌, sym, ap, ◌∙◌}
 use mathlib.Core.List.{List, []}
-use Prim.Native.Nat.{ℕ, ◌+◌, ◌≤◌, ◌<◌}
+use Prim.Native.Nat.{ℕ, ◌≤◌, ◌<◌}
 use native.Mathlib.Omega.{arith}
-use borrow.Author.Count.{below_more}
 use borrow.Author.Tests.{eq-eqb, ne_eqb}
 use lib.ListN.{length, get_or}
 use Rattle.lineage.specs.Lists.{any, position}
-use Rattle.lineage.specs.Numbers.{num_at}
 use Rattle.lineage.specs.Index.{Index}
 use Rattle.laws.proofs.Tests.{is_false, clash}
-use Rattle.laws.proofs.Lists.{any_in, in_any, in_get_d, position_low, at_position}
+use Rattle.laws.proofs.Lists.{any_in, in_any}
+use Rattle.laws.proofs.Positions.{in_get_d, position_low, at_position}
 use Rattle.laws_exceptions.specs.Exceptions.{contains, is_indirect}
-use Rattle.stored.specs.Rows.{Row}
-use Rattle.stored.specs.Sections.{children_in, labels_in}
-use Rattle.stored.proofs.Row.{row_has, child_was}
+use Rattle.stored.specs.Rows.{Places}
+use Rattle.stored.specs.Reading.{rows_of}
+use Rattle.stored.specs.declared.reading.Rows.{Rows}
+use Rattle.stored.specs.declared.reading.Labels.{Labels}
+use Rattle.stored.proofs.Row.{row_low}
 use Rattle.stored.proofs.Sections.{labels_long}
-use Rattle.exceptions_rows.specs.Rows.{Telling, kinds_alone}
+use Rattle.exceptions_marks.specs.Marks.{labels_of}
+use Rattle.exceptions_rows.specs.Rows.{kinds_alone}
 
 -- no number of a list passes where none does by its position
 any_fails : (p : ℕ → Bool) (xs : List ℕ) → ((i : ℕ) → i < length xs → p (get_or xs i 0) ≡ false) → any p xs ≡ false
@@ -27,49 +29,40 @@ any_fails p xs none =
     let (x, i, e) = in_any p xs t in
     clash e (rw (at_position x xs i) at (none (position x xs) (position_low x xs i))))
 
--- the row of x, and of a list of children none of the first i of which contains y
-abbrev pub children_at : (w k c : ℕ) → (starts children : List ℕ) → ℕ → List ℕ
-children_at w k c starts children x = get_or (children_in w starts children k c) x []
-
-abbrev pub told : (w z k c d : ℕ) → (starts children labels : List ℕ) → Index
-told w z k c d starts children labels = kinds_alone (children_in w starts children k c) (labels_in w z labels k d)
-
+-- none of the first i of a list of places contains y
 pub record Trying (I : Index) (row : List ℕ) (y i : ℕ) : Type 0 where
-  pub within : i ≤ length row
   pub none : (j : ℕ) → j < i → contains I (get_or row j 0) y ≡ false
 
-module _ (w z k c d : ℕ) (starts children labels : List ℕ) (x y : ℕ) where
-  abbrev I : Index
-  I = told w z k c d starts children labels
+-- what is told of rows and labels alone
+abbrev pub told_of : Rows → Labels → Index
+told_of rows labels = kinds_alone (rows_of rows) (labels_of labels)
 
-  abbrev row : List ℕ
-  row = children_at w k c starts children x
+module _ (rows : Rows) (labels : Labels) (x y : ℕ) where
+  abbrev told : Index
+  told = told_of rows labels
 
   -- under several labellings there is one kind
-  pub kind_one : (d ≡ 1 → ⊥) → false ≡ is_indirect I x y
-  kind_one n = rw (labels_long w z labels k d, ne_eqb d 1 n)
+  pub kind_one : (labels.d ≡ 1 → ⊥) → false ≡ is_indirect told x y
+  kind_one n = rw (labels_long labels.width labels.z labels.bytes.now labels.k labels.d, ne_eqb labels.d 1 n)
 
-  kind_by_lem : d ≡ 1 → {r : Bool} → r ≡ any (λ h. contains I h y) row → r ≡ is_indirect I x y
-  kind_by_lem one e = rw (labels_long w z labels k d, eq-eqb d 1 one) e
+  -- the children of x, as they were read
+  module _ {xs : List ℕ} {len : ℕ} (are : xs ≡ get_or (rows_of rows) x []) (many : len ≡ length (get_or (rows_of rows) x [])) where
+    has : len ≡ length xs
+    has = many ∙ ap length (sym are)
 
-  module _ {from len i : ℕ} (one : d ≡ 1) (T : Telling w z k c d starts children labels) (R : Row w starts k c x from len) (K : Trying I row y i) where
-    -- the next child, as it was read
-    module _ (low : i < len) {h : ℕ} (is : h ≡ num_at w children (from + i)) {r : Bool} (test : r ≡ contains I h y) where
-      here : get_or row i 0 ≡ h
-      here = sym (child_was T.below.entries R low is)
+    -- each is a place
+    pub child_placed : Places rows.width rows.starts.now rows.children.now rows.k rows.c → x < rows.k → (i : ℕ) → i < len → {h : ℕ} → h ≡ get_or xs i 0 → h < rows.k
+    child_placed P low i l e = omega (arith, e, ap (λ (s : List ℕ). get_or s i 0) are, row_low P low i (omega (arith, many, l)))
 
-      there : i < length row
-      there = omega (arith, row_has T.below.entries R)
+    module _ (one : labels.d ≡ 1) {i : ℕ} (K : Trying told xs y i) where
+      kind_by_lem : {r : Bool} → r ≡ any (λ h. contains told h y) xs → r ≡ is_indirect told x y
+      kind_by_lem e = rw (labels_long labels.width labels.z labels.bytes.now labels.k labels.d, eq-eqb labels.d 1 one, ← are) e
 
-      pub trying_found : r ≡ true → true ≡ is_indirect I x y
-      trying_found t = kind_by_lem one (sym (any_in (λ q. contains I q y) h row (rw here at (in_get_d row i there)) (sym test ∙ t)))
+      -- the next child contains y
+      pub trying_found : i < len → {h : ℕ} → h ≡ get_or xs i 0 → {r : Bool} → r ≡ contains told h y → r ≡ true → true ≡ is_indirect told x y
+      trying_found l {h} is test t =
+          kind_by_lem (sym (any_in (λ q. contains told q y) h xs (rw (← is) at (in_get_d xs i (omega (arith, has, l)))) (sym test ∙ t)))
 
-      pub trying_more : r ≡ false → Trying I row y (i + 1)
-      trying_more f = record {
-        within = omega (arith, there);
-        none = below_more (λ j. contains I (get_or row j 0) y ≡ false) i K.none (rw here (sym test ∙ f));
-      }
-
-    -- all children
-    pub trying_all : len ≤ i → false ≡ is_indirect I x y
-    trying_all m = kind_by_lem one (sym (any_fails (λ q. contains I q y) row (λ j l. K.none j (omega (arith, row_has T.below.entries R)))))
+      -- none does
+      pub trying_all : len ≤ i → false ≡ is_indirect told x y
+      trying_all m = kind_by_lem (sym (any_fails (λ q. contains told q y) xs (λ j l. K.none j (omega (arith, has, m, l)))))

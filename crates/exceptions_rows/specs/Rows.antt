@@ -5,13 +5,6 @@ use Rattle.lineage.specs.Labels.{Labelling}
 use Rattle.lineage.specs.Index.{Index}
 use Rattle.lineage.specs.Numbers.{num_at}
 use Rattle.laws_exceptions.specs.Exceptions.{is_exception, entry}
-use Rattle.stored.specs.Rows.{Places}
-use Rattle.stored.specs.Sections.{Labellings}
-
--- children that are places, and labels
-pub record Telling (w z k c d : ℕ) (starts children labels : List ℕ) : Type 0 where
-  pub below : Places w starts children k c
-  pub labelled : Labellings w z labels k d
 
 -- an index of which only children and labels are told: an entry depends on nothing else
 abbrev pub kinds_alone : List (List ℕ) → List Labelling → Index

@@ -1,22 +1,21 @@
 -- What a call that takes one form alone lets through: numbers of its width, and one labelling where it takes no more; of form 4, pairs by place.
 use mathlib.Core.Bool.{◌&&◌}
-use mathlib.Core.Path.{◌≡◌, refl, ap, ◌∙◌}
+use mathlib.Core.Path.{◌≡◌, ap, ◌∙◌}
 use mathlib.Core.List.{List}
 use Prim.Native.Nat.{ℕ}
 use native.Mathlib.Omega.{arith}
 use lib.Dec.{leb}
 use borrow.Author.Tests.{leb-true, not-false}
 use Rattle.lineage.specs.Stored.{Form, Counts, header_at, counts_in, form_of, is_form}
-use Rattle.lineage.specs.Calls.{hierarchy, takes}
+use Rattle.lineage.specs.Calls.{takes}
 use Rattle.laws.specs.Checks.{Pass}
 use Rattle.laws.proofs.Tests.{both}
 use Rattle.stored_header.specs.declared.Layout.{Layout}
 use Rattle.stored_header.specs.Header.{header_checks}
-use Rattle.stored_header.proofs.Laid.{width_is, stride_is, d_is}
+use Rattle.stored_header.proofs.Laid.{width_is, d_is}
 use Rattle.stored_header.proofs.Admitted.{Admits, header_pass, admitted, admitted_laid}
 use Rattle.convert.specs.Convert.{only}
 use Rattle.convert.proofs.Theorems.{header_fit}
-use Rattle.hierarchy.specs.Fit.{Plain}
 
 module _ (form : ℕ) (b : List ℕ) (header : Pass (header_checks (only form) b)) where
   pub number_is : header_at b 0 ≡ form
@@ -47,6 +46,3 @@ module _ {form : ℕ} {b : List ℕ} {marks words : ℕ} {l : Layout} (A : Admit
 
   pub admitted_one : (form_of form).labellings ≡ 1 → l.d ≡ 1
   admitted_one few = d_is (admitted_laid A) ∙ one_labelling form b header few
-
-pub admitted_plain : {b : List ℕ} {marks words : ℕ} {l : Layout} → Admits hierarchy b marks words l → Plain l
-admitted_plain {b} A = record { pairs = stride_is (admitted_laid A) ∙ ap (λ (F : Form). F.by_place) (form_is 4 b (header {form = 4} A)); one = admitted_one {form = 4} A refl }

@@ -21,7 +21,7 @@ use Rattle.stored_header.specs.declared.Layout.{Layout}
 use Rattle.stored_header.specs.Header.{Laid}
 use Rattle.stored.specs.Sections.{Section, Six, tuples_of, places_of, labels_in, index_from, index_at}
 use Rattle.stored.proofs.Sections.{s_at, e_at, children_long}
-use Rattle.stored.proofs.Contents.{index_at_lem, stretch_of, with_names}
+use Rattle.stored.proofs.Contents.{index_at_lem, stretch_of, whole}
 use Rattle.sound_places.specs.Lent.{SoundBytes, Lent}
 use Rattle.sound_places.proofs.Lent.{lent}
 use Rattle.ask.specs.declared.Asked.{Asked}
@@ -32,8 +32,7 @@ use Rattle.hierarchy_labels.specs.Turned.{labelling_of}
 use Rattle.hierarchy_labels.proofs.Rules.{labels_one}
 use Rattle.hierarchy.specs.Fit.{Plain}
 
-module _ {b : List ℕ} {l : Layout} (S : SoundBytes b l) (P : Plain l) {names groups levels labels : List ℕ}
-    (N : Section b l 0 names) (G : Section b l 1 groups) (E : Section b l 2 levels) (M : Section b l 5 labels) where
+module _ {b : List ℕ} {l : Layout} (S : SoundBytes b l) (P : Plain l) {levels labels : List ℕ} (E : Section b l 2 levels) (M : Section b l 5 labels) where
   abbrev L : Laid b l
   L = S.laid
 
@@ -43,25 +42,30 @@ module _ {b : List ℕ} {l : Layout} (S : SoundBytes b l) (P : Plain l) {names g
   abbrev k : ℕ
   k = l.k
 
-  abbrev pub starts : List ℕ
+  -- the sections that are not read
+  abbrev names : List ℕ
+  names = stretch_of L 0
+
+  abbrev groups : List ℕ
+  groups = stretch_of L 1
+
+  abbrev starts : List ℕ
   starts = stretch_of L 3
 
-  abbrev pub children : List ℕ
+  abbrev children : List ℕ
   children = stretch_of L 4
 
   six : Six b l names groups levels starts children labels
-  six =
-      let rest : Six b l names groups (stretch_of L 2) starts children labels = with_names L G M N in
-      record {
-        names_in = N;
-        groups_in_lem = G;
-        levels_in = E;
-        starts_in = rest.starts_in;
-        children_in_lem = rest.children_in_lem;
-        labels_in = M;
-      }
+  six = record {
+    names_in = whole L 0 (omega arith);
+    groups_in_lem = whole L 1 (omega arith);
+    levels_in = E;
+    starts_in = whole L 3 (omega arith);
+    children_in_lem = whole L 4 (omega arith);
+    labels_in = M;
+  }
 
-  pub given : Lent l names groups levels starts children labels
+  given : Lent l names groups levels starts children labels
   given = lent L six S.contents
 
   abbrev I : Index
@@ -116,9 +120,13 @@ module _ {b : List ℕ} {l : Layout} (S : SoundBytes b l) (P : Plain l) {names g
     unfolding answer
     between_is u v ex et = rw (ex, et, named) refl
 
-    pub question_is : (u v : ℕ) {r : ℕ} → x ≡ place_in I u → t ≡ place_in I v → Decides w k x t levels labels r
+    pub question_is : (u v : ℕ) {r : ℕ} → x ≡ place_in (index_in b) u → t ≡ place_in (index_in b) v → Decides w k x t levels labels r
         → answer (index_in b) u v ≡ by_reason r (replicate l.n 0)
-    question_is u v ex et D = ap (λ (J : Index). answer J u v) (sym (index_at_lem L six)) ∙ between_is u v ex et ∙ D I levels_are_lem labels_are_lem (replicate l.n 0)
+    question_is u v ex et D =
+        let same : index_in b ≡ I = sym (index_at_lem L six) in
+        ap (λ (J : Index). answer J u v) same
+        ∙ between_is u v (ex ∙ ap (λ (J : Index). place_in J u) same) (et ∙ ap (λ (J : Index). place_in J v) same)
+        ∙ D I levels_are_lem labels_are_lem (replicate l.n 0)
 
 -- behind 14, where the contents are sound: the answer by its reason, and the marks, cleared below n, as they are
 module _ (b : List ℕ) (u v : ℕ) (marks : List ℕ) {l : Layout} (M : Laid b l) {m : List ℕ} (left : m ≡ cleared l.n marks) (passed : (contents_check b).applies ≡ false) where

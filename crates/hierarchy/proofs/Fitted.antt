@@ -1,12 +1,12 @@
 -- Behind 15: 4 by the number of labellings, 22 by the first child of two others, 9 by the length that the layout has there, or what is written.
-use mathlib.Core.Bool.{Bool, true, false, not, ◌&&◌, cond}
+use mathlib.Core.Bool.{Bool, true, false, not, not-not, ◌&&◌, cond}
 use mathlib.Core.Path.{◌≡◌, refl, sym, ap, ap₂, subst⁻¹, ◌∙◌}
 use mathlib.Core.List.{List, [], ◌∷◌, ◌++◌}
 use Prim.Native.Nat.{ℕ, ◌≤◌, ◌<◌}
 use native.Mathlib.Omega.{arith}
 use lib.Dec.{eqb, ltb}
 use lib.ListN.{length, get_or, drop}
-use borrow.Author.Tests.{lt-ltb, le-ltb, eq-eqb, ne_eqb, eqb-true, not-false}
+use borrow.Author.Tests.{lt-ltb, le-ltb, ltb-true, eqb-true, not-false}
 use Rattle.lineage.specs.Lists.{upto, any, first_of}
 use Rattle.lineage.specs.Numbers.{num_at}
 use Rattle.lineage.specs.Sound.{shared, is_tree}
@@ -15,8 +15,6 @@ use Rattle.lineage.specs.Calls.{refused, answered, index_in}
 use Rattle.laws.specs.Checks.{Stops, stopped}
 use Rattle.laws.proofs.Tests.{clash}
 use Rattle.laws.proofs.Checks.{stops_early, stops_outcome}
-use Rattle.laws.proofs.Lists.{in_any, upto_low}
-use Rattle.laws.proofs.Rising.{rises_upto, first_of_lem}
 use Rattle.numbers.specs.Put.{put}
 use Rattle.numbers.proofs.Put.{put_start}
 use Rattle.numbers.proofs.Numbers.{numbers_at}
@@ -27,8 +25,11 @@ use Rattle.stored_header.proofs.Forms.{form_within}
 use Rattle.stored_header.proofs.Laid.{k_is, d_is}
 use Rattle.stored.specs.Sections.{Section}
 use Rattle.stored.proofs.Contents.{children_many}
-use Rattle.sound_parents.proofs.First.{first_tells}
-use Rattle.std.specs.Prelude.{Result, Ok, Err}
+use Rattle.numbers.proofs.Found.{any_first, found_tells}
+use Rattle.std.specs.Prelude.{Option, Some, None, is_some, Result, Ok, Err}
+use Rattle.std.proofs.lemmas.Option.{cond_some}
+use Rattle.numbers.specs.Found.{found_below}
+use Rattle.sound_places.specs.Lent.{SoundBytes}
 use Rattle.refusals.specs.declared.Refusal.{Refusal}
 use Rattle.refusals.specs.declared.Refusal.TheVariants.{SharedChild, OutputShort}
 use Rattle.convert.specs.Convert.{converted}
@@ -50,28 +51,35 @@ module _ (p : ℕ → Bool) where
       at true f ih = rw (f, first_of)
       at false f ih = rw (f, first_of) (ih (rw f at e))
 
-  first_most : (k : ℕ) → first_of p (upto k) k ≤ k
-  first_most k = at (any p (upto k)) refl
-    where
-      at : (t : Bool) → any p (upto k) ≡ t → first_of p (upto k) k ≤ k
-      at true e =
-          let (x, i, t) = in_any p (upto k) e in
-          let low : first_of p (upto k) k < k = upto_low k (first_of p (upto k) k) (first_of_lem p (upto k) k x (rises_upto k) i t).1 in
-          omega arith
-      at false e = let same : first_of p (upto k) k ≡ k = eqb-true (first_of p (upto k) k) k (first_tells p k ∙ ap not e) in omega arith
+-- what was looked for at some forms alone
+some_where : (t : Bool) (o : Option ℕ) → is_some (cond t o None) ≡ (t && is_some o)
+some_where true o = refl
+some_where false o = refl
 
--- sound bytes, and another form with its row of the table
+found_where : (t : Bool) (k f first : ℕ) → cond t (found_below k f) None ≡ Some first → (first ≡ cond t f k) × (first < k)
+found_where true k f first e = let (low, same) = cond_some (ltb f k) f first e in (sym same, omega (arith, ltb-true f k low))
+found_where false k f first e = absurd (cc)
+
+first_where : (t : Bool) (k f first : ℕ) → first ≡ cond t f k → first < k → first ≡ f
+first_where true k f first e low = e
+first_where false k f first e low = absurd (omega arith)
+
+none_found : (o : Option ℕ) → ((v : ℕ) → o ≡ Some v → ⊥) → is_some o ≡ false
+none_found (Some v) n = absurd (n v refl)
+none_found None n = refl
+
+-- another form with its row of the table
 pub record Other (b : List ℕ) (l : Layout) (form : ℕ) (row : Row) : Type 0 where
   pub wide : Wide b l form
   pub single : (form_of form).tree ≡ false → l.d ≡ 1
   pub row_is : row ≡ row_of form
 
-module _ {b : List ℕ} {l : Layout} {form : ℕ} {row : Row} (O : Other b l form row) where
+module _ {b : List ℕ} {l : Layout} (K : SoundBytes b l) {form : ℕ} {row : Row} (O : Other b l form row) where
   abbrev G : Form
   G = form_of form
 
   abbrev L : Laid b l
-  L = O.wide.sound.laid
+  L = K.laid
 
   abbrev k : ℕ
   k = l.k
@@ -91,52 +99,51 @@ module _ {b : List ℕ} {l : Layout} {form : ℕ} {row : Row} (O : Other b l for
   many : length children ≡ k
   many = children_many b ∙ sym (k_is L)
 
-  -- the index is a plain hierarchy where the first that is looked for is k
-  tree_told : is_tree children ≡ eqb (first_of (shared children) (upto k) k) k
+  -- the first child of two others, or k
+  abbrev first_two : ℕ
+  first_two = first_of (shared children) (upto k) k
+
+  -- the index is a plain hierarchy where no group is a child of two
+  tree_told : not (is_tree children) ≡ any (shared children) (upto k)
   unfolding is_tree
-  tree_told = ap (λ (n : ℕ). not (any (shared children) (upto n))) many ∙ sym (first_tells (shared children) k)
+  tree_told = not-not (any (shared children) (upto (length children))) ∙ ap (λ (n : ℕ). any (shared children) (upto n)) many
 
-  module _ {first : ℕ} (found : first ≡ cond row.tree (first_of (shared children) (upto k) k) k) where
-    found_at : first ≡ cond G.tree (first_of (shared children) (upto k) k) k
-    found_at = found ∙ ap (λ (t : Bool). cond t (first_of (shared children) (upto k) k) k) tree_is
+  -- the first by place, which its name tells
+  module _ {first : ℕ} (found : first ≡ cond row.tree first_two k) (low : first < k) where
+    name_is : {groups : List ℕ} → Section b l 1 groups → {name : ℕ} → name ≡ num_at l.width groups first
+        → name ≡ get_or (index_in b).groups (first_of (shared children) (upto (length children)) 0) 0
+    name_is {groups} R e =
+        let same : first ≡ first_two = first_where row.tree k first_two first found low in
+        let some : any (shared children) (upto k) ≡ true = any_first (shared children) k ∙ lt-ltb first_two k (omega arith) in
+        e
+        ∙ sym (numbers_at l.width groups k first low)
+        ∙ ap₂ (λ (xs : List ℕ) (i : ℕ). get_or xs i 0) (sym (groups_are_lem L R))
+        (same ∙ first_any (shared children) (upto k) k 0 some ∙ ap (λ (n : ℕ). first_of (shared children) (upto n) 0) (sym many))
 
-    plain_none : k ≤ first → (G.tree && not (is_tree children)) ≡ false
-    plain_none h = at G.tree found_at
-      where
-        at : (t : Bool) → first ≡ cond t (first_of (shared children) (upto k) k) k → (t && not (is_tree children)) ≡ false
-        at false e = refl
-        at true e = ap not (tree_told ∙ eq-eqb (first_of (shared children) (upto k) k) k (omega (arith, first_most (shared children) k)))
+  module _ {o : Option ℕ} (found : o ≡ cond row.tree (found_below k first_two) None) where
+    told : is_some o ≡ (G.tree && not (is_tree children))
+    told =
+        ap is_some found
+        ∙ some_where row.tree (found_below k first_two)
+        ∙ ap₂ (λ (x y : Bool). x && y) tree_is (found_tells (shared children) k refl ∙ sym tree_told)
 
-    module _ (low : first < k) where
-      both : (t : Bool) → G.tree ≡ t → (G.tree ≡ true) × (first ≡ first_of (shared children) (upto k) k)
-      both true e = (e, found_at ∙ ap (λ (t : Bool). cond t (first_of (shared children) (upto k) k) k) e)
-      both false e = absurd (let none : first ≡ k = found_at ∙ ap (λ (t : Bool). cond t (first_of (shared children) (upto k) k) k) e in omega arith)
+    plain_none : ((v : ℕ) → o ≡ Some v → ⊥) → (G.tree && not (is_tree children)) ≡ false
+    plain_none n = sym told ∙ none_found o n
+
+    module _ {first : ℕ} (some : o ≡ Some first) where
+      first_found : (first ≡ cond row.tree first_two k) × (first < k)
+      first_found = found_where row.tree k first_two first (sym found ∙ some)
+
+      pub first_low : first < k
+      first_low = first_found.1
 
       shared_some : (G.tree && not (is_tree children)) ≡ true
-      shared_some =
-          let (t, e) = both G.tree refl in
-          ap₂ (λ (x y : Bool). x && not y) t (tree_told ∙ ne_eqb (first_of (shared children) (upto k) k) k (λ same. omega arith))
+      shared_some = sym told ∙ ap is_some some
 
-      -- and by place the first of those, which its name tells
-      name_is : {groups : List ℕ} → Section b l 1 groups → {name : ℕ} → name ≡ num_at l.width groups first
+      -- the same of what a search found
+      found_name : {groups : List ℕ} → Section b l 1 groups → {name : ℕ} → name ≡ num_at l.width groups first
           → name ≡ get_or (index_in b).groups (first_of (shared children) (upto (length children)) 0) 0
-      name_is {groups} R e =
-          let (t, f) = both G.tree refl in
-          let some : any (shared children) (upto k) ≡ true = any_some in
-          e
-          ∙ sym (numbers_at l.width groups k first low)
-          ∙ ap₂ (λ (xs : List ℕ) (i : ℕ). get_or xs i 0) (sym (groups_are_lem L R))
-          (f ∙ first_any (shared children) (upto k) k 0 some ∙ ap (λ (n : ℕ). first_of (shared children) (upto n) 0) (sym many))
-        where
-          any_some : any (shared children) (upto k) ≡ true
-          any_some = at (any (shared children) (upto k)) refl
-            where
-              at : (t : Bool) → any (shared children) (upto k) ≡ t → any (shared children) (upto k) ≡ true
-              at true h = h
-              at false h =
-                  let none : first_of (shared children) (upto k) k ≡ k = eqb-true (first_of (shared children) (upto k) k) k (first_tells (shared children) k ∙ ap not h) in
-                  let same : first ≡ first_of (shared children) (upto k) k = (both G.tree refl).1 in
-                  absurd (omega arith)
+      found_name = name_is first_found.0 first_low
 
   module _ (out : List ℕ) where
     -- the checks stop at number i: 4, 22, 9, none
@@ -166,16 +173,17 @@ module _ {b : List ℕ} {l : Layout} {form : ℕ} {row : Row} (O : Other b l for
         laid = e ∙ ap₂ (λ (r : Row) (z : Layout). layout_by 4 r.stride (counts z.n z.k z.c z.d)) O.row_is L.is;
       }
 
-      module _ {first : ℕ} (found : first ≡ cond row.tree (first_of (shared children) (upto k) k) k) where
-        pub turned_shared : first < k → {groups : List ℕ} → Section b l 1 groups → {name : ℕ} → name ≡ num_at l.width groups first → Turned G b out (Err (SharedChild name)) out
-        turned_shared low R e = turned_at 1 (several_is single, shared_some found low) (ap (refused 22) (name_is found low R e))
+      module _ {o : Option ℕ} (found : o ≡ cond row.tree (found_below k first_two) None) where
+        pub turned_shared : {first : ℕ} → o ≡ Some first → {groups : List ℕ} → Section b l 1 groups → {name : ℕ} → name ≡ num_at l.width groups first
+            → Turned G b out (Err (SharedChild name)) out
+        turned_shared some R e = turned_at 1 (several_is single, shared_some found some) (ap (refused 22) (found_name found some R e))
 
-        module _ (none : k ≤ first) {to : Layout} (T : Between b l form to) where
+        module _ (none : (v : ℕ) → o ≡ Some v → ⊥) {to : Layout} (T : Between b l form to) where
           pub turned_short : length out < to.total → Turned G b out (Err (OutputShort to.total)) out
           turned_short h =
-              turned_at 2 (several_is single, (plain_none found none, lt-ltb (length out) needed (omega (arith, converted_long T)))) (ap (refused 9) (converted_long T))
+              turned_at 2 (several_is single, (plain_none found none, lt-ltb (length out) needed (omega (arith, converted_long K T)))) (ap (refused 9) (converted_long K T))
 
           pub turned_whole : to.total ≤ length out → {t : List ℕ} → t ≡ put out 0 (converted G b) → Turned G b out (Ok to.total) t
           turned_whole h e =
               subst⁻¹ (Turned G b out (Ok to.total)) (e ∙ put_start out (converted G b))
-              (turned_at 3 (several_is single, (plain_none found none, (le-ltb (length out) needed (omega (arith, converted_long T)), tt))) (ap answered (converted_long T)))
+              (turned_at 3 (several_is single, (plain_none found none, (le-ltb (length out) needed (omega (arith, converted_long K T)), tt))) (ap answered (converted_long K T)))

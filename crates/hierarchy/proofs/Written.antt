@@ -24,17 +24,19 @@ use Rattle.stored_header.specs.declared.Layout.{Layout}
 use Rattle.stored_header.specs.Header.{Stride, layout_by, Sited, header_of, Laid}
 use Rattle.stored_header.proofs.Forms.{form_within}
 use Rattle.stored_header.proofs.Laid.{sited_by, width_is, n_is, k_is, c_is, d_is}
-use Rattle.stored.specs.Sections.{Section, tuples_of, places_of}
+use Rattle.stored.specs.Sections.{Section, Labellings, tuples_of, places_of}
 use Rattle.stored.proofs.Sections.{places_long}
 use Rattle.stored.proofs.LabelNumbers.{numbers_of_long}
 use Rattle.stored.proofs.Offsets.{total_length_lem}
-use Rattle.stored.proofs.Contents.{contents_starts, stretch_of}
+use Rattle.stored.proofs.Contents.{contents_starts, stretch_of, whole}
 use Rattle.stored.proofs.Encoded.{header_fits}
 use Rattle.stored.proofs.Decoded.{sections_are, counts_are}
 use Rattle.convert.specs.Convert.{converted}
+use Rattle.stored.specs.declared.reading.Labels.{Labels}
 use Rattle.hierarchy_labels.specs.Turned.{labelling_of, Turns}
+use Rattle.sound_places.specs.Lent.{SoundBytes}
 use Rattle.hierarchy.specs.Fit.{Between}
-use Rattle.hierarchy.proofs.Sections.{whole, labelling_one}
+use Rattle.hierarchy.proofs.Sections.{labelling_one}
 
 -- Parts of a list one behind the other.
 part_join : (s : List ℕ) (at m n : ℕ) → part s at m ++ part s (at + m) n ≡ part s at (m + n)
@@ -64,7 +66,7 @@ written_joined w (x ∷ X) = ap (λ (z : List ℕ). written w x ++ z) (written_j
 run_at : (b : List ℕ) (all o at m : ℕ) → o ≡ 4 * at → at + m ≤ all → numbers 4 (part b o (4 * m)) m ≡ part (numbers 4 b all) at m
 run_at b all o at m e h = ap (λ (p : ℕ). numbers 4 (part b p (4 * m)) m) e ∙ numbers_part 4 b all at m h
 
-module _ {b : List ℕ} {l : Layout} {form : ℕ} {to : Layout} (B : Between b l form to) where
+module _ {b : List ℕ} {l : Layout} (K : SoundBytes b l) {form : ℕ} {to : Layout} (B : Between b l form to) where
   abbrev F : Form
   F = form_of (header_at b 0)
 
@@ -81,13 +83,13 @@ module _ {b : List ℕ} {l : Layout} {form : ℕ} {to : Layout} (B : Between b l
   y = G.by_place
 
   abbrev L : Laid b l
-  L = B.both.sound.laid
+  L = K.laid
 
   narrow : F.width ≡ 4
   narrow = sym (width_is L) ∙ B.both.width
 
   starts : starts_pass (section F.width F.by_place a b 3) a.k a.c ≡ true
-  starts = contents_starts F b B.both.sound.contents
+  starts = contents_starts F b K.contents
 
   -- The layout, and the header that it has there, whose numbers are of 32 bits.
   pub sited : Sited to
@@ -185,7 +187,7 @@ module _ {b : List ℕ} {l : Layout} {form : ℕ} {to : Layout} (B : Between b l
       let H : List ℕ = header_of form to in
       let front : List ℕ = joined (take 5 (sections y I)) in
       let last : List ℕ = get_or (sections y I) 5 [] in
-      let M : Section b l 5 (stretch_of L 5) = (whole L).labels_in in
+      let M : Section b l 5 (stretch_of L 5) = whole L 5 (omega arith) in
       let total_is : to.total ≡ total_length 4 y a.n a.k a.c a.d = ap (λ (z : Layout). z.total) B.laid in
       let labels : a.d * ((y + 1) * a.k) ≡ (y + 1) * l.k =
       ap₂ (λ (d k : ℕ). d * ((y + 1) * k)) one_labelling (sym (k_is L)) ∙ (let once : 1 * ((y + 1) * l.k) ≡ (y + 1) * l.k = omega arith in once) in
@@ -238,17 +240,20 @@ module _ {b : List ℕ} {l : Layout} {form : ℕ} {to : Layout} (B : Between b l
       ∙ ap (put out 0) (bytes_are_lem M)
 
   -- what is lent to the labels' part
-  pub turns : {labels : List ℕ} → Section b l 5 labels → (out : List ℕ) → to.total ≤ length out → Turns out to.labels labels 4 l.stride to.stride l.k
-  turns {labels} M out room = record {
-    labelled = record {
-      width = record { low = omega arith; high = omega arith; even = refl };
-      stride = L.stride;
-      groups_few = omega (arith, L.vertices, L.groups);
-      labellings_few = omega arith;
-      long = let long : 4 * (1 * ((l.stride + 1) * l.k)) ≡ length labels = sym (M.long ∙ ap₂ (λ (w d : ℕ). w * (d * ((l.stride + 1) * l.k))) B.both.width B.one) in omega arith;
-    };
+  pub labelled : {labels : List ℕ} → Section b l 5 labels → Labellings 4 l.stride labels l.k 1
+  labelled {labels} M = record {
+    width = record { low = omega arith; high = omega arith; even = refl };
+    stride = L.stride;
+    groups_few = omega (arith, L.vertices, L.groups);
+    labellings_few = omega arith;
+    long = let long : 4 * (1 * ((l.stride + 1) * l.k)) ≡ length labels = sym (M.long ∙ ap₂ (λ (w d : ℕ). w * (d * ((l.stride + 1) * l.k))) B.both.width B.one) in omega arith;
+  }
+
+  pub turns : {m : Labels} → m.width ≡ 4 → m.k ≡ l.k → m.d ≡ 1 → (out : List ℕ) → to.total ≤ length out → Turns out to.labels m to.stride
+  turns {m} wide many one out room = record {
+    one = one;
     stride = subst⁻¹ Stride to_stride (form_within form).stride;
-    room = omega (arith, to_total);
+    room = rw (wide, many) (let fits : to.labels + 4 * ((to.stride + 1) * l.k) ≤ length out = omega (arith, to_total) in fits);
   }
 
   -- the numbers between header and labels lie in the bytes, and where they go in the output

@@ -3,7 +3,6 @@ use Rattle.std.specs.Prelude.{true, false, ◌≡◌, List, ℕ}
 use Rattle.lineage.specs.Stored.{counts_in, form_of, is_form}
 use Rattle.stored_header.specs.declared.Layout.{Layout}
 use Rattle.stored_header.specs.Header.{layout_by}
-use Rattle.sound_places.specs.Lent.{SoundBytes}
 
 -- the layout of a plain hierarchy: pairs by place, and one labelling
 pub record Plain (l : Layout) : Type 0 where
@@ -17,9 +16,8 @@ pub record Partners (from to : ℕ) : Type 0 where
   pub wide_to : (form_of to).width ≡ 4
   pub one : (form_of to).tree ≡ false → (form_of from).labellings ≡ 1
 
--- sound bytes of 32-bit numbers, and the number of another form of such numbers
+-- bytes of 32-bit numbers, and the number of another form of such numbers
 pub record Wide (b : List ℕ) (l : Layout) (form : ℕ) : Type 0 where
-  pub sound : SoundBytes b l
   pub width : l.width ≡ 4
   pub known : is_form form ≡ true
   pub wide : (form_of form).width ≡ 4

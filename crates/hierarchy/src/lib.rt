@@ -2,16 +2,15 @@
 // outer intervals, and no group is opened.
 #![tactic(auto)]
 
-ghost use Rattle.std.specs.Prelude.{true, false, ◌||◌, cond, ◌≡◌, [], ◌∷◌, ◌≤◌, ◌<◌, eqb, length, replicate};
+ghost use Rattle.std.specs.Prelude.{true, false, ◌||◌, cond, ◌≡◌, [], ◌∷◌, ◌≤◌, ◌<◌, eqb, length, replicate, None};
 ghost use Rattle.lineage.specs.Lists.{upto, first_of, cleared};
 ghost use Rattle.lineage.specs.Question.{answer};
 ghost use Rattle.lineage.specs.Stored.{form_of};
 ghost use Rattle.lineage.specs.Sound.{shared};
 ghost use Rattle.lineage.specs.Calls.{outcome, hierarchy, contents_check, index_in, said_of, open_answer, open_marks, open_work, ask_answer, ask_marks, ask_work};
+ghost use Rattle.numbers.specs.Found.{found_below};
 ghost use Rattle.numbers.specs.Put.{put};
-ghost use Rattle.stored_header.specs.Header.{Laid};
 ghost use Rattle.open.specs.Opened.{opened_of};
-ghost use Rattle.sound_places.specs.Lent.{SoundBytes};
 ghost use Rattle.ask.specs.Asked.{asked_of, marks_laid};
 ghost use Rattle.convert.specs.Convert.{converted, convert_marks, convert_work};
 ghost use Rattle.convert.specs.Converted.{converted_of};
@@ -26,8 +25,9 @@ use numbers::{clear_words, num};
 use open::{Opened, contents_sound};
 use refusals::Refusal;
 use sound_parents::first_shared;
-use sound_places::place_of;
-use stored::parts;
+use sound_places::SoundImage;
+use stored::parts::Image;
+use stored::reading::{Labels, Numbers};
 use stored_header::{Layout, admit, form_row, lay_out, words_needed};
 
 // Opens a stored index of form 4: refusals 10 to 13, 6 and 15 in order, or its counts. Marks below n and the needed words are 0 after 15 and after success; the refusals
@@ -41,22 +41,17 @@ pub fn open_hierarchy(index: &[u8], marks: &mut [u8], work: &mut [u32]) -> Resul
 }
 
 // The reason for the answer between two vertices, which tells all of it.
-fn reason_between(index: &[u8], l: Layout, u: usize, v: usize) -> u32
-    requires sound_bytes { SoundBytes index.now l }
-    requires plain { Plain l }
-    requires u_lt_n { (u < l.n) × (v < l.n) }
-    ensures { answer (index_in index.now) u v ≡ by_reason result (replicate l.n 0) }
+fn reason_between(index: &SoundImage, u: usize, v: usize) -> u32
+    requires plain { Plain index.now.image.layout }
+    requires u_lt_n { (u < index.now.image.layout.n) × (v < index.now.image.layout.n) }
+    ensures { answer (index_in index.now.image.bytes.now) u v ≡ by_reason result (replicate index.now.image.layout.n 0) }
 {
-    let w = l.width;
-    let n = l.n;
-    let k = l.k;
-    let names = parts::names(index, l);
-    let groups = parts::groups(index, l);
-    let levels = parts::levels(index, l);
-    let labels = parts::labels(index, l);
-    let x = place_of(groups, w, n, k, num(names, w, u));
-    let t = place_of(groups, w, n, k, num(names, w, v));
-    decide(levels, labels, w, k, x, t)
+    let l = index.image.layout;
+    let levels = index.image.levels();
+    let labels = index.image.labels();
+    let x = index.place(u);
+    let t = index.place(v);
+    decide(levels, labels, l.width, l.k, x, t)
 }
 
 // The number of the labelling that decided under this reason: the one that there is, or 0.
@@ -67,17 +62,16 @@ fn deciding_for(reason: u32) -> u32
 }
 
 // The question on bytes of a layout, for vertices below n: 15, or the answer. The marks below n are 0 after either.
-fn ask_laid(index: &[u8], l: Layout, u: usize, v: usize, marks: &mut [u8]) -> Result<Asked, Refusal>
-    requires laid { Laid index.now l }
-    requires plain { Plain l }
-    requires u_lt_n { (u < l.n) × ((v < l.n) × (l.n ≤ length marks.old)) }
-    ensures result_value { asked_of result ≡ outcome (contents_check index.now ∷ []) (said_of (answer (index_in index.now) u v)) }
-    ensures marks_after { marks.new ≡ marks_laid index.now u v marks.old }
+fn ask_laid(index: &Image, u: usize, v: usize, marks: &mut [u8]) -> Result<Asked, Refusal>
+    requires plain { Plain index.now.layout }
+    requires u_lt_n { (u < index.now.layout.n) × ((v < index.now.layout.n) × (index.now.layout.n ≤ length marks.old)) }
+    ensures result_value { asked_of result ≡ outcome (contents_check index.now.bytes.now ∷ []) (said_of (answer (index_in index.now.bytes.now) u v)) }
+    ensures marks_after { marks.new ≡ marks_laid index.now.bytes.now u v marks.old }
 {
-    if !contents_sound(index, l, marks) {
+    if !contents_sound(index, marks) {
         return Err(Refusal::NotSound);
     }
-    let reason = reason_between(index, l, u, v);
+    let reason = reason_between(&SoundImage { image: *index }, u, v);
     Ok(Asked {
         says: reason <= 2,
         reason,
@@ -108,73 +102,87 @@ pub fn ask_hierarchy(
     if l.n <= v {
         return Err(Refusal::BadVertex(1));
     }
+    let image = Image {
+        bytes: index,
+        layout: l,
+    };
     clear_words(work, words_needed(l));
-    ask_laid(index, l, u, v, marks)
+    ask_laid(&image, u, v, marks)
 }
 
 // Writes the index of sound bytes at the other of the forms 2 and 4. All that stands between header and labels is the same numbers at both.
-fn write_plain(index: &[u8], l: Layout, form: usize, to: Layout, out: &mut [u8])
-    requires between { Between index.now l form to }
+fn write_plain(index: &SoundImage, form: usize, to: Layout, out: &mut [u8])
+    requires between { Between index.now.image.bytes.now index.now.image.layout form to }
     requires total_in_bounds { to.total ≤ length out.old }
-    ensures { out.new ≡ put out.old 0 (converted (form_of form) index.now) }
+    ensures { out.new ≡ put out.old 0 (converted (form_of form) index.now.image.bytes.now) }
 {
+    let l = index.image.layout;
     let count = l.n + (3 * l.k + 1 + l.c);
-    let labels = parts::labels(index, l);
+    let labels = Labels {
+        bytes: index.image.labels(),
+        width: 4,
+        z: l.stride,
+        k: l.k,
+        d: 1,
+    };
     stored_header::write_header(out, form, to);
     numbers::copy_numbers(
         out,
         48,
         4,
-        numbers::numbers_from(index, 4, 12, count),
+        numbers::numbers_from(index.image.bytes, 4, 12, count),
         4,
         count,
     );
-    hierarchy_labels::write_turned(out, to.labels, labels, 4, l.stride, to.stride, l.k)
+    hierarchy_labels::write_turned(out, to.labels, &labels, to.stride)
 }
 
-// At a form of plain hierarchies, the first group by place that is a child of two others; k where none is, and at any other form. Marks below n are 0 before and
-// afterwards.
-fn first_child_of_two(index: &[u8], l: Layout, tree: bool, marks: &mut [u8]) -> usize
-    requires sound_bytes { SoundBytes index.now l }
-    requires n_in_bounds { (l.n ≤ length marks.old) × (marks.old ≡ cleared l.n marks.old) }
-    ensures value { result ≡ cond tree (first_of (shared (index_in index.now).children) (upto l.k) l.k) l.k }
+// At a form of plain hierarchies, the first group by place that is a child of two others, if one is; none at any other form. Marks below n are 0 before and afterwards.
+fn first_child_of_two(index: &SoundImage, tree: bool, marks: &mut [u8]) -> Option<usize>
+    requires { (index.now.image.layout.n ≤ length marks.old) × (marks.old ≡ cleared index.now.image.layout.n marks.old) }
+    ensures value { result ≡ cond tree (found_below index.now.image.layout.k (first_of (shared (index_in index.now.image.bytes.now).children) (upto index.now.image.layout.k) index.now.image.layout.k)) None }
     ensures marks_unchanged { marks.new ≡ marks.old }
 {
-    if tree {
-        return first_shared(parts::children(index, l), marks, l.width, l.n, l.k, l.c);
+    if !tree {
+        return None;
     }
-    l.k
+    let l = index.image.layout;
+    let children = Numbers {
+        bytes: index.image.children(),
+        width: l.width,
+        len: l.c,
+    };
+    first_shared(&children, marks, l.n, l.k)
 }
 
 // Sound bytes turned into the form with this number: refusals 4, 22 and 9, or what is written.
 fn turn_sound(
-    index: &[u8],
-    l: Layout,
+    index: &SoundImage,
     form: usize,
     marks: &mut [u8],
     out: &mut [u8],
 ) -> Result<u32, Refusal>
-    requires wide { Wide index.now l form }
-    requires d_value { (form_of form).tree ≡ false → l.d ≡ 1 }
-    requires n_in_bounds { (l.n ≤ length marks.old) × (marks.old ≡ cleared l.n marks.old) }
-    ensures turned { Turned (form_of form) index.now out.old result out.new }
+    requires wide { Wide index.now.image.bytes.now index.now.image.layout form }
+    requires d_value { (form_of form).tree ≡ false → index.now.image.layout.d ≡ 1 }
+    requires n_in_bounds { (index.now.image.layout.n ≤ length marks.old) × (marks.old ≡ cleared index.now.image.layout.n marks.old) }
+    ensures turned { Turned (form_of form) index.now.image.bytes.now out.old result out.new }
     ensures marks_unchanged { marks.new ≡ marks.old }
 {
+    let l = index.image.layout;
     let row = form_row(form);
     let to = lay_out(4, row.stride, l.n, l.k, l.c, l.d);
     let short = out.len() < to.total;
     if row.tree & (l.d != 1) {
         return Err(Refusal::BadLabellings);
     }
-    let first = first_child_of_two(index, l, row.tree, marks);
-    if first < l.k {
-        let name = num(parts::groups(index, l), l.width, first);
+    if let Some(first) = first_child_of_two(index, row.tree, marks) {
+        let name = num(index.image.groups(), l.width, first);
         return Err(Refusal::SharedChild(name as u32));
     }
     if short {
         return Err(Refusal::OutputShort(to.total as u32));
     }
-    write_plain(index, l, form, to, out);
+    write_plain(index, form, to, out);
     Ok(to.total as u32)
 }
 
@@ -195,12 +203,16 @@ fn turn_between(
     ensures work_after { work.new ≡ convert_work from index.now (length marks.old) work.old }
     ensures out_after { out.new ≡ turn_output from to index.now (length marks.old) (length work.old) out.old }
 {
-    let l = admit(from, from, index, marks.len(), work.len())?;
-    clear_words(work, words_needed(l));
-    if !contents_sound(index, l, marks) {
+    let layout = admit(from, from, index, marks.len(), work.len())?;
+    let image = Image {
+        bytes: index,
+        layout,
+    };
+    clear_words(work, words_needed(layout));
+    if !contents_sound(&image, marks) {
         return Err(Refusal::NotSound);
     }
-    turn_sound(index, l, to, marks, out)
+    turn_sound(&SoundImage { image }, to, marks, out)
 }
 
 // Turns an index of form 2 into form 4, where it has one labelling and is a plain hierarchy.

@@ -17,13 +17,15 @@ use Rattle.numbers.proofs.Written.{written_next}
 use Rattle.stored_header.specs.Header.{Stride}
 use Rattle.stored.specs.Sections.{labelling_in, tuples_of, places_of}
 use Rattle.stored.proofs.Sections.{s_at, m_at, e_at}
+use Rattle.sound_ranks.specs.declared.reading.TuplesByPlace.{TuplesByPlace}
 use Rattle.build_writing.specs.Words.{label_by}
 use Rattle.build_writing.proofs.Labellings.{label_long}
 use Rattle.hierarchy_labels.specs.Turned.{label_from, labelling_of, ByPlace}
 
 -- the labels of each group lie within what is lent
-pub next_room : {out : List ℕ} {at : ℕ} {tuples : List ℕ} {w z y k : ℕ} → ByPlace out at tuples w z y k → (p : ℕ) → p < k → at + w * (y * p) + w * y ≤ length out
-next_room {w = w} {y = y} {k = k} B p h = omega (arith, mul-le-mul_left w (mul-le-mul_left y (let next : p + 1 ≤ k = omega arith in next)), B.room)
+pub next_room :
+    {out : List ℕ} {at : ℕ} {t : TuplesByPlace} {y : ℕ} → ByPlace out at t y → (p : ℕ) → p < t.k → at + t.width * (y * p) + t.width * y ≤ length out
+next_room {t = t} {y = y} B p h = omega (arith, mul-le-mul_left t.width (mul-le-mul_left y (let next : p + 1 ≤ t.k = omega arith in next)), B.room)
 
 -- what was read of group p
 pub label_was : (w z y : ℕ) (tuples : List ℕ) (p : ℕ) {s m e : ℕ}

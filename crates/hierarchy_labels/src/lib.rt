@@ -11,7 +11,8 @@ ghost use Rattle.hierarchy_labels.specs.Pairs.{Pairs, Decides};
 ghost use Rattle.hierarchy_labels.specs.Turned.{label_from, labelling_of, ByPlace, Turns};
 
 use numbers::{bytes_of, num};
-use sound_ranks::{e_of, m_of, s_of};
+use sound_ranks::reading::TuplesByPlace;
+use stored::reading::Labels;
 
 // The reason for the answer between two groups by place: the first of the rules 1 to 4 that holds. In a pair the inner interval is the outer one, so 4 holds where the
 // others fail.
@@ -22,10 +23,17 @@ pub fn decide(levels: &[u8], labels: &[u8], w: usize, k: usize, x: usize, t: usi
     if x == t {
         return 1;
     }
-    let pairs = stored::parts::tuples(labels, w, 2, k, 1, 0);
-    let e = e_of(pairs, w, 2, k, t);
-    let s = s_of(pairs, w, 2, k, x);
-    let top = e_of(pairs, w, 2, k, x);
+    let all = Labels {
+        bytes: labels,
+        width: w,
+        z: 2,
+        k,
+        d: 1,
+    };
+    let pairs = TuplesByPlace::of(&all, 0);
+    let e = pairs.e(t);
+    let s = pairs.s(x);
+    let top = pairs.e(x);
     if (s <= e) & (e <= top) {
         return 2;
     }
@@ -35,35 +43,30 @@ pub fn decide(levels: &[u8], labels: &[u8], w: usize, k: usize, x: usize, t: usi
     4
 }
 
-// Writes the labels of k groups by place, y numbers of each, from position at on, where they are lent with z numbers of each.
-fn write_by_place(out: &mut [u8], at: usize, tuples: &[u8], w: usize, z: usize, y: usize, k: usize)
-    requires { ByPlace out.old at tuples.now w z y k }
-    ensures { out.new ≡ put out.old at (written w (joined (map (label_from w z y tuples.now) (upto k)))) }
+// Writes the labels of all groups by place, y numbers of each, from position at on.
+fn write_by_place(out: &mut [u8], at: usize, tuples: &TuplesByPlace, y: usize)
+    requires { ByPlace out.old at tuples.now y }
+    ensures { out.new ≡ put out.old at (written tuples.now.width (joined (map (label_from tuples.now.width tuples.now.z y tuples.now.bytes.now) (upto tuples.now.k)))) }
 {
-    for p in 0..k {
-        let s = s_of(tuples, w, z, k, p);
-        let m = m_of(tuples, w, z, k, p);
-        let e = e_of(tuples, w, z, k, p);
+    let w = tuples.width;
+    for p in 0..tuples.k {
+        let s = tuples.s(p);
+        let m = tuples.m(p);
+        let e = tuples.e(p);
         build_writing::write_label(out, at + w * (y * p), w, y, s as u32, m as u32, e as u32);
     }
 }
 
-// Writes the one labelling of k groups from position at on, y numbers of each by place and then the places by rank, where it is lent with z numbers of each.
-pub fn write_turned(
-    out: &mut [u8],
-    at: usize,
-    labels: &[u8],
-    w: usize,
-    z: usize,
-    y: usize,
-    k: usize,
-)
-    requires { Turns out.old at labels.now w z y k }
-    ensures { out.new ≡ put out.old at (written w (label_numbers y k (labelling_of w z labels.now k))) }
+// Writes the one labelling that labels hold from position at on, y numbers of each group by place and then the places by rank.
+pub fn write_turned(out: &mut [u8], at: usize, labels: &Labels, y: usize)
+    requires { Turns out.old at labels.now y }
+    ensures { out.new ≡ put out.old at (written labels.now.width (label_numbers y labels.now.k (labelling_of labels.now.width labels.now.z labels.now.bytes.now labels.now.k))) }
 {
-    let tuples = stored::parts::tuples(labels, w, z, k, 1, 0);
-    let places = stored::parts::by_rank(labels, w, z, k, 1, 0);
+    let w = labels.width;
+    let k = labels.k;
+    let tuples = TuplesByPlace::of(labels, 0);
+    let places = labels.by_rank(0);
     let behind = at + bytes_of(w, y * k);
-    write_by_place(out, at, tuples, w, z, y, k);
+    write_by_place(out, at, &tuples, y);
     numbers::copy_numbers(out, behind, w, places, w, k)
 }

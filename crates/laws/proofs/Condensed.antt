@@ -12,7 +12,8 @@ use Rattle.lineage.specs.Sound.{child_of}
 use Rattle.laws.specs.Leads.{OneGroup}
 use Rattle.laws.specs.Sound.{SoundGroups}
 use Rattle.laws.proofs.Tests.{is_false}
-use Rattle.laws.proofs.Lists.{those_pass, those_keep, in_upto, upto_low, length_upto, get_d_mapped, position_low, in_get_d}
+use Rattle.laws.proofs.Lists.{those_pass, those_keep, in_upto, upto_low, length_upto, get_d_mapped}
+use Rattle.laws.proofs.Positions.{position_low, in_get_d}
 use Rattle.laws.specs.Rising.{Rises}
 use Rattle.laws.proofs.Rising.{rises_upto, rises_those, rises_next, those_lt, those_short}
 use Rattle.laws.proofs.Edges.{child_to}

@@ -17,7 +17,8 @@ use Rattle.lineage.specs.Index.{Index}
 use Rattle.lineage.specs.Sound.{child_of, names_pass, row_passes, groups_pass, walk_ends, labels_pass, sound}
 use Rattle.laws.specs.Sound.{LeftWalk, arrived, left, SoundLabelling, SoundGroups, Sound}
 use Rattle.laws.proofs.Tests.{and_both, and_left, and_right}
-use Rattle.laws.proofs.Lists.{all_from, all_below_lem, same_list_lem, same_self, position_low, at_position, in_get_d}
+use Rattle.laws.proofs.Lists.{all_from, all_below_lem, same_list_lem, same_self}
+use Rattle.laws.proofs.Positions.{position_low, at_position, in_get_d}
 use Rattle.laws.proofs.Inverse.{rank_most}
 
 -- the test is true exactly where the fact holds

@@ -13,7 +13,8 @@ use Rattle.lineage.specs.Lists.{among, position}
 use Rattle.lineage.specs.Labels.{Forest, visit, after, finished}
 use Rattle.laws.specs.Visits.{Visits, over, skip, enter}
 use Rattle.laws.proofs.Tests.{clash}
-use Rattle.laws.proofs.Lists.{here, here_at, there, in_cons, in_left, in_right, position_past, position_left}
+use Rattle.laws.proofs.Lists.{here, here_at, there, in_cons, in_left, in_right}
+use Rattle.laws.proofs.Positions.{position_past, position_left}
 use Rattle.laws.specs.Rising.{Distinct}
 use Rattle.laws.proofs.Rising.{distinct_right, distinct_apart, distinct_left}
 use Rattle.laws.proofs.Visited.{parts, seen_cases, listed}

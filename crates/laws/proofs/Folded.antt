@@ -20,7 +20,8 @@ use Rattle.laws.specs.Visits.{Visits, over, skip, enter}
 use Rattle.laws.specs.OnePass.{Stage, lowered, opened, left_by, left, stage_after}
 use Rattle.laws.specs.Rising.{Distinct}
 use Rattle.laws.proofs.Tests.{clash, is_false}
-use Rattle.laws.proofs.Lists.{here, here_at, there, in_cons, in_one, in_left, in_right, in_append, position_past, position_low_in, position_high_in, position_none}
+use Rattle.laws.proofs.Lists.{here, here_at, there, in_cons, in_one, in_left, in_right, in_append}
+use Rattle.laws.proofs.Positions.{position_past, position_low_in, position_high_in, position_none}
 use Rattle.laws.proofs.Rising.{distinct_apart, distinct_right, distinct_between}
 use Rattle.laws.proofs.Closed.{leads_on, Closed, stays}
 use Rattle.laws.proofs.Stages.{gone, Fine, in_group, on_stack, Found, as_was, reached, Good, Around, Through, through_then, through_none, around_rest}

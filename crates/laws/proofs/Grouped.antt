@@ -16,7 +16,8 @@ use Rattle.lineage.specs.Sound.{child_of}
 use Rattle.laws.specs.Leads.{Down}
 use Rattle.laws.specs.Sound.{SoundGroups}
 use Rattle.laws.proofs.Tests.{is_false}
-use Rattle.laws.proofs.Lists.{those_pass, those_keep, in_upto, upto_low, position_low, at_position, in_get_d}
+use Rattle.laws.proofs.Lists.{those_pass, those_keep, in_upto, upto_low}
+use Rattle.laws.proofs.Positions.{position_low, at_position, in_get_d}
 use Rattle.laws.specs.Rising.{Distinct, Rises}
 use Rattle.laws.proofs.Rising.{position_get_d, rises_upto, rises_those, rises_distinct, next_rises}
 use Rattle.laws.proofs.Levels.{Falls, level_falls, leads_bounded}

@@ -14,7 +14,8 @@ use borrow.Author.Tests.{eqb-true, eq-eqb, ne_eqb, ltb-true, ltb-false, lt-ltb, 
 use Rattle.lineage.specs.Lists.{among, those, position}
 use Rattle.laws.specs.Rising.{Rises, count_below}
 use Rattle.laws.proofs.Tests.{is_false}
-use Rattle.laws.proofs.Lists.{here, there, in_cons, those_yes, those_no, those_pass, those_none, position_low, at_position, in_get_d}
+use Rattle.laws.proofs.Lists.{here, there, in_cons, those_yes, those_no, those_pass, those_none}
+use Rattle.laws.proofs.Positions.{position_low, at_position, in_get_d}
 use Rattle.laws.proofs.Rising.{rises_those, rises_fit}
 
 module _ (v : ℕ) where

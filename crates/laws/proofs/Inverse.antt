@@ -8,7 +8,7 @@ use lib.ListN.{length, get_or}
 use Rattle.lineage.specs.Lists.{among, position}
 use Rattle.lineage.specs.Labels.{Labelling}
 use Rattle.laws.specs.Sound.{SoundLabelling}
-use Rattle.laws.proofs.Lists.{position_low, at_position}
+use Rattle.laws.proofs.Positions.{position_low, at_position}
 use Rattle.laws.proofs.Rising.{counting_distinct, pigeonhole_all}
 
 module _

@@ -15,7 +15,8 @@ use Rattle.lineage.specs.Labels.{Order, in_order, Forest, nobodys_child, forest_
 use Rattle.lineage.specs.Sound.{child_of}
 use Rattle.laws.specs.Visits.{Visits}
 use Rattle.laws.specs.Sound.{SoundLabelling, SoundGroups}
-use Rattle.laws.proofs.Lists.{those_pass, those_keep, map_same, in_upto, upto_low, length_upto, table_at, table_long, position_low, at_position, in_get_d, greatest_in}
+use Rattle.laws.proofs.Lists.{those_pass, those_keep, map_same, in_upto, upto_low, length_upto, table_at, table_long}
+use Rattle.laws.proofs.Positions.{position_low, at_position, in_get_d, greatest_in}
 use Rattle.laws.proofs.Joined.{joined_in}
 use Rattle.laws.specs.Rising.{Distinct}
 use Rattle.laws.proofs.Rising.{position_get_d, rises_upto, rises_distinct, pigeonhole}

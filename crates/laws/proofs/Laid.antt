@@ -9,7 +9,7 @@ use lib.ListN.{length, get_or, take, drop, length-append, length-take, length-dr
 use lib.Seq.{get_or-take, get_or-drop, get_or-append-add, take-add, take_all}
 use Rattle.lineage.specs.Lists.{among, position, part}
 use Rattle.lineage.specs.Stored.{row_at}
-use Rattle.laws.proofs.Lists.{position_low, at_position, in_get_d}
+use Rattle.laws.proofs.Positions.{position_low, at_position, in_get_d}
 use Rattle.laws.specs.Laid.{Below, Laid, Rows}
 
 -- a list of two parts

@@ -15,7 +15,8 @@ use Rattle.lineage.specs.Graph.{level, levels_of, leads}
 use Rattle.lineage.specs.Sound.{child_of}
 use Rattle.laws.specs.Leads.{stay, step, Down}
 use Rattle.laws.proofs.Tests.{or_left, or_right, or_cases}
-use Rattle.laws.proofs.Lists.{map_same, any_in, in_any, table_at, table_long, greatest_at, greatest_most}
+use Rattle.laws.proofs.Lists.{map_same, any_in, in_any, table_at, table_long}
+use Rattle.laws.proofs.Positions.{greatest_at, greatest_most}
 
 -- a number for each place, by the equation of levels
 abbrev pub Levels : List (List ℕ) → (ℕ → ℕ) → Type 0

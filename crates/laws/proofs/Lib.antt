@@ -1,6 +1,7 @@
 -- Tests and lists.
 pub mod Tests
 pub mod Lists
+pub mod Positions
 pub mod Passed
 pub mod Every
 pub mod Parts

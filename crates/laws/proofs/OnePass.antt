@@ -16,7 +16,8 @@ use Rattle.laws.specs.EdgeRows.{row, EdgeRows}
 use Rattle.laws.specs.OnePass.{Stage, stage_after, at_first, groups_from, Together, both, beyond, OnlyOne, least_of, name_in, GroupNames}
 use Rattle.laws.specs.Rising.{Distinct}
 use Rattle.laws.proofs.Tests.{clash}
-use Rattle.laws.proofs.Lists.{among_append, here, here_at, in_append, in_upto, table_is, least_among, least_is}
+use Rattle.laws.proofs.Lists.{among_append, here, here_at, in_append, in_upto, table_is}
+use Rattle.laws.proofs.Positions.{least_among, least_is}
 use Rattle.laws.proofs.Rising.{distinct_apart, distinct_right}
 use Rattle.laws.proofs.Joined.{in_joined}
 use Rattle.laws.proofs.Closed.{leads_on}

@@ -10,7 +10,8 @@ use borrow.Author.Tests.{not-true}
 use Rattle.lineage.specs.Lists.{upto, among, those}
 use Rattle.lineage.specs.Graph.{place_of}
 use Rattle.lineage.specs.Labels.{Order, in_order}
-use Rattle.laws.proofs.Lists.{in_left, in_right, those_append, those_pass, those_keep, those_all, those_none, map_same, those_split, in_upto, length_upto, position_low, at_position, in_get_d, in_map, of_map}
+use Rattle.laws.proofs.Lists.{in_left, in_right, those_append, those_pass, those_keep, those_all, those_none, map_same, those_split, in_upto, length_upto, in_map, of_map}
+use Rattle.laws.proofs.Positions.{position_low, at_position, in_get_d}
 use Rattle.laws.specs.Rising.{Distinct, Rises}
 use Rattle.laws.proofs.Rising.{position_get_d, rises_upto, rises_those, rises_distinct, rises_unique}
 

@@ -11,7 +11,8 @@ use lib.ListN.{length}
 use borrow.Author.Tests.{eqb-true, eq-eqb}
 use Rattle.lineage.specs.Lists.{among, position, least}
 use Rattle.lineage.specs.Labels.{Forest, done, visit, finished, subtree}
-use Rattle.laws.proofs.Lists.{among_append, here, in_one, in_left, in_right, in_append, map_same, position_past, position_in, least_at, least_above}
+use Rattle.laws.proofs.Lists.{among_append, here, in_one, in_left, in_right, in_append, map_same}
+use Rattle.laws.proofs.Positions.{position_past, position_in, least_at, least_above}
 use Rattle.laws.specs.Rising.{Distinct}
 use Rattle.laws.specs.Visits.{before}
 use Rattle.laws.proofs.Rising.{distinct_right, distinct_apart}

@@ -13,7 +13,8 @@ use borrow.Author.Tests.{eq-eqb, ne_eqb}
 use Rattle.lineage.specs.Lists.{upto, among, those, first_of, position}
 use Rattle.laws.specs.Rising.{Distinct, Rises}
 use Rattle.laws.proofs.Tests.{clash, is_false}
-use Rattle.laws.proofs.Lists.{among_append, here, there, in_cons, in_one, in_left, in_right, in_append, Kept, those_yes, those_no, those_pass, those_keep, those_all, those_split, in_upto, upto_low, length_upto, position_low, at_position, in_get_d}
+use Rattle.laws.proofs.Lists.{among_append, here, there, in_cons, in_one, in_left, in_right, in_append, Kept, those_yes, those_no, those_pass, those_keep, those_all, those_split, in_upto, upto_low, length_upto}
+use Rattle.laws.proofs.Positions.{position_low, at_position, in_get_d}
 
 -- joined lists without repeats, where they share no number, and the way back
 pub distinct_append : (a b : List ℕ) → Distinct a → Distinct b → ((x : ℕ) → among x a ≡ true → among x b ≡ false) → Distinct (a ++ b)

@@ -11,7 +11,8 @@ use Rattle.lineage.specs.Lists.{among, joined, position}
 use Rattle.laws.specs.Leads.{Leads, Mutual}
 use Rattle.laws.specs.OnePass.{Stage}
 use Rattle.laws.specs.Rising.{Distinct}
-use Rattle.laws.proofs.Lists.{here_at, there, in_cons, in_one, in_left, in_append, Kept, position_left}
+use Rattle.laws.proofs.Lists.{here_at, there, in_cons, in_one, in_left, in_append, Kept}
+use Rattle.laws.proofs.Positions.{position_left}
 use Rattle.laws.proofs.Closed.{Closed}
 
 -- the vertices that have a group

@@ -19,7 +19,8 @@ use Rattle.lineage.specs.Question.{place_in, group_of, in_own_list, is_downstrea
 use Rattle.laws.specs.Leads.{OneGroup}
 use Rattle.laws.specs.Sound.{Sound}
 use Rattle.laws.specs.Rising.{Rises}
-use Rattle.laws.proofs.Lists.{those_pass, those_keep, in_upto, upto_low, in_one, in_get_d}
+use Rattle.laws.proofs.Lists.{those_pass, those_keep, in_upto, upto_low, in_one}
+use Rattle.laws.proofs.Positions.{in_get_d}
 use Rattle.laws.proofs.Rising.{rises_upto, rises_those, rises_next}
 use Rattle.laws.proofs.Grouped.{place_low, leads_exactly}
 use Rattle.laws.proofs.Sound.{sound_exactly, made_long, made_groups, made_paths}

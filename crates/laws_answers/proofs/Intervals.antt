@@ -18,7 +18,7 @@ use Rattle.lineage.specs.Sound.{child_of}
 use Rattle.laws.specs.Leads.{Down, stay, step}
 use Rattle.laws.specs.Sound.{LeftWalk, arrived, left, SoundLabelling, Sound}
 use Rattle.laws.proofs.Tests.{and_both, and_left, and_right}
-use Rattle.laws.proofs.Lists.{least_at}
+use Rattle.laws.proofs.Positions.{least_at}
 use Rattle.laws.proofs.Inverse.{e_most, e_one}
 use Rattle.laws.proofs.Grouped.{child_in, levels_fall}
 use Rattle.laws_answers.specs.Answers.{Member}

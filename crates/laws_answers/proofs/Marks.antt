@@ -11,7 +11,8 @@ use lib.ListN.{length, get_or, set, replicate, length-set}
 use lib.Seq.{get_or-set_same, get_or-set_other}
 use borrow.Author.Tests.{eqb-true, eqb-false, eq-eqb, ne_eqb}
 use Rattle.lineage.specs.Lists.{among, ones}
-use Rattle.laws.proofs.Lists.{here, there, in_map, of_map, ones_set}
+use Rattle.laws.proofs.Lists.{here, there, in_map, of_map}
+use Rattle.laws.proofs.Positions.{ones_set}
 use Rattle.laws.specs.Rising.{Distinct}
 use Rattle.laws_answers.specs.Walks.{◌∈◌}
 

@@ -12,7 +12,8 @@ use borrow.Author.Tests.{ltb-true, ltb-false, lt-ltb, le-ltb}
 use Rattle.lineage.specs.Lists.{among}
 use Rattle.lineage.specs.Index.{Index}
 use Rattle.laws.specs.Rising.{Rises, count_below}
-use Rattle.laws.proofs.Lists.{those_yes, those_no, of_map, get_d_mapped, position_low, at_position, in_get_d}
+use Rattle.laws.proofs.Lists.{those_yes, those_no, of_map, get_d_mapped}
+use Rattle.laws.proofs.Positions.{position_low, at_position, in_get_d}
 use Rattle.laws.proofs.Halving.{position_below}
 use Rattle.laws_exceptions.specs.Exceptions.{is_indirect, entry, entries_of, exceptions_of}
 use Rattle.laws_exceptions.proofs.Exceptions.{exceptions_rise}

@@ -12,7 +12,8 @@ use Rattle.lineage.specs.Index.{Index}
 use Rattle.laws.specs.Rising.{Distinct}
 use Rattle.laws.specs.Sound.{SoundLabelling, Sound}
 use Rattle.laws.proofs.Tests.{clash, is_false}
-use Rattle.laws.proofs.Lists.{those_append, those_yes, those_no, those_pass, those_keep, position_low, at_position, in_get_d}
+use Rattle.laws.proofs.Lists.{those_append, those_yes, those_no, those_pass, those_keep}
+use Rattle.laws.proofs.Positions.{position_low, at_position, in_get_d}
 use Rattle.laws.proofs.Parts.{part_length, part_more, part_at}
 use Rattle.laws.proofs.Rising.{rises_distinct, counting_distinct, pigeonhole}
 use Rattle.laws.proofs.Inverse.{at_e, e_most}

@@ -9,7 +9,7 @@ use lib.ListN.{length, get_or}
 use Rattle.lineage.specs.Labels.{Labelling}
 use Rattle.lineage.specs.Index.{Index}
 use Rattle.laws.specs.Sound.{SoundLabelling, Sound}
-use Rattle.laws.proofs.Lists.{least_below, least_above}
+use Rattle.laws.proofs.Positions.{least_below, least_above}
 use Rattle.laws.proofs.Inverse.{e_some}
 use Rattle.laws.proofs.Grouped.{child_in}
 use Rattle.laws_answers.specs.Answers.{Member}

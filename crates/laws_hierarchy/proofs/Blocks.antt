@@ -13,7 +13,7 @@ use Rattle.lineage.specs.Labels.{Labelling, nobodys_child}
 use Rattle.lineage.specs.Sound.{child_of}
 use Rattle.laws.specs.Sound.{LeftWalk, arrived, left, SoundLabelling}
 use Rattle.laws.proofs.Tests.{clash}
-use Rattle.laws.proofs.Lists.{least_below, least_at, least_above}
+use Rattle.laws.proofs.Positions.{least_below, least_at, least_above}
 use Rattle.laws.proofs.Joined.{in_joined}
 use Rattle.laws.proofs.Inverse.{e_some, e_most, e_one}
 use Rattle.laws_hierarchy.specs.Hierarchy.{OneParent}

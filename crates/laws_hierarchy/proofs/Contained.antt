@@ -20,7 +20,7 @@ use Rattle.lineage.specs.Sound.{is_tree}
 use Rattle.laws.specs.Leads.{Down}
 use Rattle.laws.specs.Sound.{SoundLabelling, Sound}
 use Rattle.laws.proofs.Tests.{and_left, and_right}
-use Rattle.laws.proofs.Lists.{least_below}
+use Rattle.laws.proofs.Positions.{least_below}
 use Rattle.laws.proofs.Grouped.{place_low, child_in}
 use Rattle.laws.proofs.Sound.{sound_exactly, made_long, made_paths}
 use Rattle.laws_answers.specs.Answers.{Member}

@@ -13,7 +13,8 @@ use Rattle.lineage.specs.Lists.{upto, any, among}
 use Rattle.lineage.specs.Sound.{child_of, parents_of, shared, is_tree}
 use Rattle.laws.specs.Rising.{Rises}
 use Rattle.laws.proofs.Tests.{clash, is_false}
-use Rattle.laws.proofs.Lists.{in_one, in_cons, Kept, those_pass, those_keep, any_in, in_any, in_upto, upto_low, in_get_d}
+use Rattle.laws.proofs.Lists.{in_one, in_cons, Kept, those_pass, those_keep, any_in, in_any, in_upto, upto_low}
+use Rattle.laws.proofs.Positions.{in_get_d}
 use Rattle.laws.proofs.Rising.{rises_upto, rises_those, rises_next, pigeonhole}
 use Rattle.laws_hierarchy.specs.Hierarchy.{OneParent}
 

@@ -13,7 +13,8 @@ use Rattle.lineage.specs.Lists.{upto, among, those, first_of, joined, Every}
 use Rattle.lineage.specs.Sound.{child_of, parents_of, shared}
 use Rattle.laws.specs.Rising.{Distinct, Rises}
 use Rattle.laws.specs.Sound.{SoundGroups}
-use Rattle.laws.proofs.Lists.{those_append, those_yes, those_no, in_upto, upto_low, in_get_d}
+use Rattle.laws.proofs.Lists.{those_append, those_yes, those_no, in_upto, upto_low}
+use Rattle.laws.proofs.Positions.{in_get_d}
 use Rattle.laws.proofs.Rising.{rises_upto, first_of_lem}
 use Rattle.laws.proofs.Every.{every_get_d}
 use Rattle.laws.proofs.Grouped.{children_once, groups_rise}

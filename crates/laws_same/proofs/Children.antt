@@ -12,7 +12,8 @@ use Rattle.lineage.specs.Lists.{upto}
 use Rattle.lineage.specs.Graph.{Graph, Ends, names_of, group_list, is_child, children_of, condense}
 use Rattle.lineage.specs.Index.{Index, index_by, index_of, Made}
 use Rattle.lineage.specs.Sound.{child_of}
-use Rattle.laws.proofs.Lists.{those_pass, those_keep, in_upto, in_get_d}
+use Rattle.laws.proofs.Lists.{those_pass, those_keep, in_upto}
+use Rattle.laws.proofs.Positions.{in_get_d}
 use Rattle.laws.proofs.Condensed.{children_long, children_at_lem}
 use Rattle.laws_same.specs.Same.{ChildGroup}
 use Rattle.laws_same.proofs.Lineage.{listed_own, child_exactly}

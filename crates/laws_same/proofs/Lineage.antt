@@ -12,7 +12,8 @@ use Rattle.lineage.specs.Lists.{upto, among}
 use Rattle.lineage.specs.Graph.{Graph, Ends, names_of, group_list, is_child, children_of, condense}
 use Rattle.lineage.specs.Index.{index_of}
 use Rattle.laws.specs.Leads.{OneGroup}
-use Rattle.laws.proofs.Lists.{those_same, map_same, upto_low, in_get_d}
+use Rattle.laws.proofs.Lists.{those_same, map_same, upto_low}
+use Rattle.laws.proofs.Positions.{in_get_d}
 use Rattle.laws.proofs.Edges.{child_to, child_from}
 use Rattle.laws.proofs.Names.{name_one, names_long, name_at_lem}
 use Rattle.laws.proofs.Grouped.{listed_name}

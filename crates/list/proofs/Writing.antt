@@ -45,9 +45,6 @@ module _ (p : ℕ → Bool) where
 pub record Counted (p : ℕ → Bool) (v count : ℕ) : Type 0 where
   pub is : count ≡ length (those p (upto v))
 
-pub counted_none : (p : ℕ → Bool) → Counted p 0 0
-counted_none p = record { is = refl }
-
 -- they are no more than there are vertices
 pub counted_most : {p : ℕ → Bool} {v count : ℕ} → Counted p v count → count ≤ v
 counted_most {p} {v} C = omega (arith, C.is, those_short p (upto v), length_upto v)
@@ -68,9 +65,6 @@ module _ {p : ℕ → Bool} {v count : ℕ} (C : Counted p v count) {r : Bool} (
 pub record Written (p : ℕ → Bool) (v : ℕ) (before out : List ℕ) : Type 0 where
   pub long : length out ≡ length before
   pub is : out ≡ those p (upto v) ++ drop (length (those p (upto v))) before
-
-pub written_none : (p : ℕ → Bool) (out : List ℕ) → Written p 0 out out
-written_none p out = record { long = refl; is = refl }
 
 -- one element more in front of what was lent
 front_more : (xs before : List ℕ) (v : ℕ) → length xs < length before

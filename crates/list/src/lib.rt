@@ -5,7 +5,6 @@ ghost use Rattle.std.specs.Prelude.{◌≡◌, ◌≤◌, ◌<◌, length};
 ghost use Rattle.lineage.specs.Lists.{cleared};
 ghost use Rattle.lineage.specs.Question.{downstream};
 ghost use Rattle.lineage.specs.Calls.{forms_taken, ordinary, index_in, list_answer, list_marks, list_work, list_output};
-ghost use Rattle.sound_places.specs.Lent.{SoundBytes};
 ghost use Rattle.list.specs.Listed.{listed_of, Fills};
 
 pub mod listing;
@@ -14,29 +13,28 @@ use listing::{Listing, in_own_list};
 use numbers::{clear_marks, clear_words};
 use open::contents_sound;
 use refusals::Refusal;
-use stored::parts;
+use sound_places::SoundImage;
+use stored::parts::Image;
 use stored::reading::Numbers;
-use stored_header::{Layout, words_needed};
+use stored_header::words_needed;
 
 // The list of bytes whose contents are sound, on marks that are 0 below n, and are so afterwards: refusal 16, or the vertices.
 fn list_sound(
-    index: &[u8],
-    l: Layout,
+    index: &SoundImage,
     u: usize,
     marks: &mut [u8],
     out: &mut [u32],
 ) -> Result<u32, Refusal>
-    requires sound_bytes { SoundBytes index.now l }
-    requires n_in_bounds { (l.n ≤ length marks.old) × (u < l.n) }
-    requires marks_value { marks.old ≡ cleared l.n marks.old }
-    ensures fills { Fills (downstream (index_in index.now) u) out.old result out.new }
+    requires n_in_bounds { (index.now.image.layout.n ≤ length marks.old) × (u < index.now.image.layout.n) }
+    requires marks_value { marks.old ≡ cleared index.now.image.layout.n marks.old }
+    ensures fills { Fills (downstream (index_in index.now.image.bytes.now) u) out.old result out.new }
     ensures marks_unchanged { marks.new ≡ marks.old }
 {
-    let n = l.n;
-    reach::mark_reached(index, l, marks, u);
+    let n = index.image.layout.n;
+    reach::mark_reached(index, marks, u);
     let names = Numbers {
-        bytes: parts::names(index, l),
-        width: l.width,
+        bytes: index.image.names(),
+        width: index.image.layout.width,
         len: n,
     };
     let listing = Listing {
@@ -73,16 +71,20 @@ pub fn list_taking(
     ensures out_after { out.new ≡ list_output (forms_taken least most) index.now vertex (length marks.old) (length work.old) out.old }
 {
     let l = stored_header::admit(least, most, index, marks.len(), work.len())?;
-    let n = l.n;
     let u = vertex as usize;
-    if n <= u {
+    if l.n <= u {
         return Err(Refusal::BadVertex(0));
     }
+    let image = Image {
+        bytes: index,
+        layout: l,
+    };
     clear_words(work, words_needed(l));
-    if !contents_sound(index, l, marks) {
+    if !contents_sound(&image, marks) {
         return Err(Refusal::NotSound);
     }
-    list_sound(index, l, u, marks, out)
+    let sound = SoundImage { image };
+    list_sound(&sound, u, marks, out)
 }
 
 // The list of a stored index of form 1 or 2.

@@ -2,7 +2,7 @@
 ghost use Rattle.std.specs.Prelude.{◌++◌, ◌≡◌, ◌≤◌, ◌<◌, ℕ, length, drop, get_or};
 ghost use Rattle.lineage.specs.Question.{in_own_list};
 ghost use Rattle.stored.specs.Reading.{numbers_of};
-ghost use Rattle.list.specs.Listing.{is_listed, listed, names_alone};
+ghost use Rattle.list.specs.Listing.{names_alone};
 
 use stored::reading::Numbers;
 

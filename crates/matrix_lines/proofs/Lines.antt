@@ -1,20 +1,22 @@
 -- The laws of the code on lines: the header, the end of a line, comments passed one by one, a row by its first number and the others.
-use mathlib.Core.Bool.{Bool, true, false, true≢false, false≢true, ◌&&◌, and-false}
+use mathlib.Core.Bool.{Bool, cond, not, true, false, true≢false, false≢true, ◌&&◌, and-false}
 use mathlib.Core.List.{List, [], ◌∷◌, ◌++◌, map}
 use mathlib.Core.Path.{◌≡◌, refl, sym, ap, ◌∙◌}
 use Prim.Native.Nat.{ℕ, zero, suc, ◌+◌, ◌-◌, ◌≤◌, ◌<◌}
-use native.Mathlib.Numerals.{add-one}
 use native.Mathlib.Omega.{arith}
-use lib.Dec.{eqb, eqb-suc-suc}
-use lib.ListN.{length, get_or, take, drop, set, drop_of_length-le, length-drop}
-use lib.Seq.{drop-cons, drop-drop}
-use borrow.Author.Tests.{ne_eqb}
+use native.Mathlib.Decide.{dec_lt}
+use lib.Dec.{eqb, ltb, eqb-suc-suc}
+use lib.ListN.{length, take, drop, set, length-drop}
+use lib.Seq.{drop-drop}
+use borrow.Author.Tests.{ne_eqb, lt-ltb, le-ltb}
 use Rattle.lineage.specs.Lists.{same_list, all_of}
 use Rattle.laws.proofs.Tests.{clash}
 use Rattle.laws.proofs.Lists.{same_self}
 use Rattle.text_lines.specs.declared.Number.{Number}
 use Rattle.std.proofs.Common.{Option, Some, None}
-use Rattle.std.specs.List.{starts_with}
+use Rattle.std.specs.List.{starts_with, position_or_len}
+use Rattle.std.proofs.lemmas.List.Recursion.{is_position_or_len}
+use Rattle.std.proofs.lemmas.List.Sums.{prefix_len-le-length}
 use Rattle.std.specs.Cmp.{nat_eq_equiv}
 use Rattle.text_lines.specs.Lines.{lf, space, keep, first_piece, begin, other_pieces, pieces, is_decimal, value, Line, line_is}
 use Rattle.text_lines.specs.Reader.{Found, found, none, after, is_more, word, is_ended, number_by, number_in, found_if, found_by, line_in}
@@ -48,19 +50,36 @@ line_starts (c ∷ w) h (b ∷ s) = rw (nat_eq_equiv.symm c b) (go (eqb b lf) re
 pub header_starts : (s : List ℕ) → starts_with eqb s (header ++ (lf ∷ [])) ≡ header_in s
 header_starts s = line_starts header refl s
 
--- The bytes of a line, one by one: an LF ends it, any other byte stands in it.
-module _ (s : List ℕ) (p : ℕ) where
-  pub line_over : p < length s → get_or s p 0 ≡ lf → length (first_piece lf (drop p s)) ≡ 0
-  unfolding first_piece
-  line_over inside e = rw (drop-cons s p 0 inside, e)
+-- the first line is as long as the bytes in front of the first LF, or as all bytes where none stands
+line_long : (s : List ℕ) → length (first_piece lf s) ≡ position_or_len (λ b. eqb b lf) s
+unfolding first_piece
+line_long = is_position_or_len (λ s. length (first_piece lf s)) (λ b. eqb b lf) refl (λ b s. step b s (eqb b lf))
+  where
+    step : (b : ℕ) (s : List ℕ) (t : Bool) → length (keep t b (first_piece lf s)) ≡ cond t 0 (1 + length (first_piece lf s))
+    step b s true = refl
+    step b s false = omega arith
 
-  pub line_goes : p < length s → (get_or s p 0 ≡ lf → ⊥) → length (first_piece lf (drop p s)) ≡ suc (length (first_piece lf (drop (p + 1) s)))
-  unfolding first_piece
-  line_goes inside e = rw (drop-cons s p 0 inside, ne_eqb (get_or s p 0) lf e, add-one p)
+-- Where the line ends that begins at `at`, by what a search for an LF from there finds.
+module _ (text : List ℕ) (at : ℕ) where
+  abbrev place : ℕ
+  place = position_or_len (λ b. eqb b lf) (drop at text)
 
-  pub line_none : length s ≤ p → length (first_piece lf (drop p s)) ≡ 0
-  unfolding first_piece
-  line_none h = rw (drop_of_length-le s h)
+  abbrev pub found_lf : Option ℕ
+  found_lf = cond (ltb place (length (drop at text))) (Some place) None
+
+  pub line_ended : at ≤ length text → {size : ℕ} → found_lf ≡ Some size → (at + size ≡ at + length (first_piece lf (drop at text))) × (at + size ≤ length text)
+  line_ended inside {size} e = elim (dec_lt place (length (drop at text))) [
+    | yes h ↦
+        let same : place ≡ size = cc (rw (lt-ltb place (length (drop at text)) h) at e) in
+        (omega (arith, same, line_long (drop at text)), omega (arith, same, h, length-drop at text))
+    | no h ↦ absurd (cc (rw (le-ltb place (length (drop at text)) (omega arith)) at e))
+  ]
+
+  pub line_unended : at ≤ length text → found_lf ≡ None → (length text ≡ at + length (first_piece lf (drop at text))) × (length text ≤ length text)
+  line_unended inside e = elim (dec_lt place (length (drop at text))) [
+    | yes h ↦ absurd (cc (rw (lt-ltb place (length (drop at text)) h) at e))
+    | no h ↦ (omega (arith, line_long (drop at text), length-drop at text, prefix_len-le-length (λ b. not (eqb b lf)) (drop at text)), omega arith)
+  ]
 
 -- an LF ends the line exactly where it is shorter than the bytes
 ended_is : (s : List ℕ) → length (first_piece lf s) < length s → is_more (other_pieces lf s) ≡ true

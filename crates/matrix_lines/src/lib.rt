@@ -45,12 +45,10 @@ fn line_end(text: &[u8], at: usize) -> usize
     requires { at ≤ length text.now }
     ensures { (result ≡ at + length (first_piece lf (drop at text.now))) × (result ≤ length text.now) }
 {
-    for p in at..text.len() {
-        if text[p] == b'\n' {
-            return p;
-        }
+    match text[at..].iter().position(|byte| *byte == b'\n') {
+        Some(length) => at + length,
+        None => text.len(),
     }
-    text.len()
 }
 
 // The comment lines that stand first.

@@ -157,9 +157,6 @@ pub record Passing (text : List ℕ) (at n most i p : ℕ) : Type 0 where
   pub inside : p ≤ length text
   pub spent : at + i ≤ p
 
-pub pass_begins : (text : List ℕ) (at n most : ℕ) → at ≤ length text → Passing text at n most 0 at
-pass_begins text at n most h = record { counted = rw (sub-zero most) (omega arith); rest = rw (sub-zero most); inside = h; spent = omega arith }
-
 module _ (text : List ℕ) (at n most i p : ℕ) (k : Passing text at n most i p) where
   ends_by : entries_from n (most - i) text p ≡ stop (pieces lf (drop p text)) → RunInto text at (entries_from n most text at) i p
   ends_by stopped =

@@ -42,13 +42,6 @@ pub record Storing (text : List ℕ) (at n count : ℕ) (S T : List ℕ) (i p : 
   pub sources : Column 0 (entries_from n count text at).taken (entries_from n (count - i) text p).taken i S S'
   pub targets : Column 1 (entries_from n count text at).taken (entries_from n (count - i) text p).taken i T T'
 
-pub store_begins : (text : List ℕ) (at n count : ℕ) (S T : List ℕ) → length (entries_from n count text at).taken ≡ count → Storing text at n count S T 0 at S T
-store_begins text at n count S T h = record {
-  left = rw (sub-zero count) h;
-  sources = rw (sub-zero count) (column_begins 0 (entries_from n count text at).taken S);
-  targets = rw (sub-zero count) (column_begins 1 (entries_from n count text at).taken T);
-}
-
 module _ (text : List ℕ) (at n count : ℕ) (S T : List ℕ) (i p : ℕ) (S' T' : List ℕ) (k : Storing text at n count S T i p S' T') where
   -- there is an entry, as they were counted
   pub store_never : i < count → None ≡ entry_in n p (drop p text) → ⊥
@@ -77,12 +70,3 @@ module _ (text : List ℕ) (at n count : ℕ) (S T : List ℕ) (i p : ℕ) (S' T
         sources = column_turns 0 whole rest (first_piece lf s) i r.source S S' (rw taken at k.sources) ls t.source;
         targets = column_turns 1 whole rest (first_piece lf s) i r.target T T' (rw taken at k.targets) lt t.target;
       }
-
-  -- all are stored
-  pub store_ends : i ≡ count
-      → (S' ≡ ends 0 (entries_from n count text at).taken ++ drop count S) × (T' ≡ ends 1 (entries_from n count text at).taken ++ drop count T)
-  unfolding run
-  store_ends full =
-      let whole : List Raw = (entries_from n count text at).taken in
-      let none_left : count - i ≡ 0 = omega arith in
-      (column_ends 0 whole i count S S' (rw none_left at k.sources) full, column_ends 1 whole i count T T' (rw none_left at k.targets) full)

@@ -7,6 +7,7 @@ use native.Mathlib.Omega.{arith}
 use lib.Dec.{ltb}
 use lib.ListN.{length, drop, length-append}
 use borrow.Author.Tests.{lt-ltb, le-ltb, eq-eqb, ne_eqb}
+use Rattle.std.specs.Prelude.{Option, Some, None}
 use Rattle.lineage.specs.Lists.{upto, any, first_of}
 use Rattle.lineage.specs.Graph.{Graph}
 use Rattle.lineage.specs.Stored.{form2}
@@ -15,7 +16,8 @@ use Rattle.laws.specs.Checks.{Stops, stopped}
 use Rattle.laws.proofs.Checks.{stops_outcome, stops_early}
 use Rattle.numbers.proofs.Put.{put_start}
 use Rattle.build_orders.proofs.Edges.{ends_of}
-use Rattle.build.proofs.Checks.{any_found, none_found, first_found}
+use Rattle.numbers.specs.Found.{found_below}
+use Rattle.build.proofs.Checks.{any_some, first_some, any_none_found}
 use Rattle.text_printing.specs.Printer.{Put}
 use Rattle.text_printing.proofs.Putting.{put_put, put_same}
 use Rattle.matrix_lines.specs.Matrix.{ended, entry_rows, matrix_text}
@@ -71,14 +73,14 @@ module _ (G : Graph) (out : List ℕ) where
   from_9 P i s = from_7 P.bounded (suc i) (P.ends, s)
 
   -- the first bad edge
-  module _ (B : Bounded) {first : ℕ} (found : first ≡ first_of (bad_edge G) (upto (length G.sources)) (length G.sources)) where
-    pub writes_7 : first < length G.sources → Writes (refused 7 first) out
+  module _ (B : Bounded) {bad : Option ℕ} (found : bad ≡ found_below (length G.sources) (first_of (bad_edge G) (upto (length G.sources)) (length G.sources))) where
+    pub writes_7 : {first : ℕ} → bad ≡ Some first → Writes (refused 7 first) out
     writes_7 h =
-        let (o, w) = writes_by 3 (from_7 B 0 (any_found (bad_edge G) (length G.sources) first found h)) in
-        (ap (refused 7) (first_found (bad_edge G) (length G.sources) first found h) ∙ o, w)
+        let (o, w) = writes_by 3 (from_7 B 0 (any_some (bad_edge G) (length G.sources) found h)) in
+        (ap (refused 7) (first_some (bad_edge G) (length G.sources) found h) ∙ o, w)
 
-    pub passed : length G.sources ≤ first → Passed
-    passed h = record { bounded = B; ends = none_found (bad_edge G) (length G.sources) first found h }
+    pub passed : bad ≡ None → Passed
+    passed h = record { bounded = B; ends = any_none_found (bad_edge G) (length G.sources) found h }
 
   -- the length of the text
   module _ (P : Passed) {told : ℕ} (told_is : told ≡ length (matrix_text G)) where

@@ -109,9 +109,8 @@ pub fn write_matrix(
     if most.edges < edges {
         return Err(Refusal::ManyEdges);
     }
-    let first = build_orders::bad_edge(n as usize, sources, targets);
-    if first < edges {
-        return Err(Refusal::BadEdge(first as u32));
+    if let Some(bad) = build_orders::bad_edge(n as usize, sources, targets) {
+        return Err(Refusal::BadEdge(bad as u32));
     }
     let size = text_length(n, sources, targets);
     if out.len() < size {

@@ -1,4 +1,4 @@
--- The laws of numbers in bytes and of words in regions.
+-- The laws of numbers in bytes, of words in regions, and of what a search finds.
 pub mod Regions
 pub mod Put
 pub mod Cleared
@@ -6,3 +6,4 @@ pub mod Marks
 pub mod Stamping
 pub mod Numbers
 pub mod Written
+pub mod Found

@@ -5,14 +5,15 @@ use Prim.Native.Nat.{ℕ, zero, suc, ◌+◌, ◌*◌, ◌/◌, ◌%◌, ◌^◌
 use native.Mathlib.Omega.{arith}
 use native.Mathlib.Decide.{dec_lt}
 use native.Mathlib.Nat.{mul-zero, mul-suc}
-use lib.ListN.{length, get_or, length-append, length-map, get_or-eq_default}
-use lib.Seq.{take_all}
+use lib.ListN.{length, get_or, take, length-append, length-map, get_or-eq_default}
+use lib.Seq.{take_all, length-take-le}
+use Rattle.std.proofs.lemmas.List.{take_more}
 use Rattle.lineage.specs.Lists.{upto, joined, part, Every}
 use Rattle.lineage.specs.Numbers.{le_at, num_at, numbers, le_bytes, written}
 use Rattle.laws.proofs.Every.{every_of, every_at}
 use Rattle.laws.proofs.Joined.{Sized, sized_map, block_at, blocks_of}
 use Rattle.laws.proofs.Lists.{get_d_mapped, table_is}
-use Rattle.laws.proofs.Parts.{part_left, part_more, part_beyond, part_length, part_at}
+use Rattle.laws.proofs.Parts.{part_left, part_beyond, part_length, part_at}
 use Rattle.numbers.specs.Put.{put}
 use Rattle.numbers.proofs.Put.{put_none, put_next}
 use Rattle.numbers.proofs.Numbers.{room, le_own, le_tail, le_bytes_lem, bytes_long, numbers_long, numbers_next}
@@ -112,25 +113,28 @@ written_more w at s t xs ys p i v e long here more fits =
     ∙ ap (λ (z : List ℕ). put s at (written w z)) (sym more)
 
 -- Words: none of them yet, and one more.
-module _ (w at from : ℕ) (words s : List ℕ) where
+module _ (w at : ℕ) (words s : List ℕ) where
   abbrev pub words_put : ℕ → List ℕ
-  words_put i = put s at (written w (part words from i))
+  words_put i = put s at (written w (take i words))
 
   pub words_none : s ≡ words_put 0
-  unfolding part
   words_none = sym (put_none s at)
 
   pub words_more : (t : List ℕ) (p i v : ℕ)
       → t ≡ words_put i
       → p ≡ at + w * i
-      → v ≡ get_or words (from + i) 0
-      → from + i < length words
+      → v ≡ get_or words i 0
+      → i < length words
       → at + w * i + w ≤ length s
       → put t p (le_bytes w v) ≡ words_put (i + 1)
   words_more t p i v e ep ev h fits =
-      written_more w at s t (part words from i) (part words from (i + 1)) p i v e (part_length words from i (omega arith)) ep
-      (part_more words from i 0 h ∙ ap (λ (x : ℕ). part words from i ++ (x ∷ [])) (sym ev))
+      written_more w at s t (take i words) (take (i + 1) words) p i v e (length-take-le i words (omega arith)) ep
+      (take_more words i 0 h ∙ ap (λ (x : ℕ). take i words ++ (x ∷ [])) (sym ev))
       (omega arith)
+
+  -- all of them
+  pub words_all : {i : ℕ} → length words ≤ i → words_put i ≡ put s at (written w words)
+  words_all {i} h = ap (λ (z : List ℕ). put s at (written w z)) (take_all i words h)
 
 -- Numbers of w bytes, written as numbers of v: none of them yet, and one more.
 module _ (v at w : ℕ) (from s : List ℕ) where

@@ -1,24 +1,12 @@
 // Little-endian numbers of w bytes in lent bytes, w being 2 or 4; and lent memory set to 0.
 #![tactic(auto)]
 
-ghost use Rattle.std.specs.Prelude.{◌≡◌, ◌+◌, ◌*◌, ◌%◌, ◌^◌, ◌≤◌, ◌<◌, length, replicate};
+ghost use Rattle.std.specs.Prelude.{◌≡◌, ◌+◌, ◌*◌, ◌^◌, ◌≤◌, ◌<◌, length, replicate};
 ghost use Rattle.lineage.specs.Lists.{part, cleared};
 ghost use Rattle.lineage.specs.Numbers.{Width, le_at, num_at, numbers, le_bytes, written};
 ghost use Rattle.laws.specs.Rising.{Rises, count_below};
 ghost use Rattle.numbers.specs.Put.{put};
 ghost use Rattle.numbers.specs.Regions.{Kept, Part};
-
-fn wide(x: u8) -> usize
-    ensures { (result ≡ x) × (result < 256) }
-{
-    x as usize
-}
-
-fn low(v: usize) -> u8
-    ensures { result ≡ v % 256 }
-{
-    (v % 256) as u8
-}
 
 // The bytes that so many numbers of w bytes take.
 pub fn bytes_of(w: usize, count: usize) -> usize
@@ -34,7 +22,7 @@ fn pair(s: &[u8], p: usize) -> usize
     requires { p + 2 ≤ length s.now }
     ensures { (result ≡ le_at 2 s.now p) × (result < 65536) }
 {
-    wide(s[p]) + 256 * wide(s[p + 1])
+    s[p] as usize + 256 * s[p + 1] as usize
 }
 
 // Number i of a stretch of numbers of w bytes. Each width has its own product, so that the machine multiplies by a number that it knows.
@@ -89,26 +77,26 @@ pub fn put_at(out: &mut [u8], p: usize, w: usize, v: usize)
     ensures { out.new ≡ put out.old p (le_bytes w v) }
 {
     let v1 = v / 256;
-    out[p] = low(v);
-    out[p + 1] = low(v1);
+    out[p] = (v % 256) as u8;
+    out[p + 1] = (v1 % 256) as u8;
     if w == 2 {
         return;
     }
     let v2 = v1 / 256;
     let v3 = v2 / 256;
-    out[p + 2] = low(v2);
-    out[p + 3] = low(v3);
+    out[p + 2] = (v2 % 256) as u8;
+    out[p + 3] = (v3 % 256) as u8;
 }
 
-// Writes count words, from word `from` on, as numbers of w bytes one after the other, from position at on.
-pub fn write_words(out: &mut [u8], at: usize, w: usize, words: &[u32], from: usize, count: usize)
+// Writes words as numbers of w bytes one after the other, from position at on.
+pub fn write_words(out: &mut [u8], at: usize, w: usize, words: &[u32])
     requires width { Width w }
-    requires count_in_bounds { (at + w * count ≤ length out.old) × (from + count ≤ length words.now) }
-    ensures { out.new ≡ put out.old at (written w (part words.now from count)) }
+    requires words_in_bounds { at + w * length words.now ≤ length out.old }
+    ensures { out.new ≡ put out.old at (written w words.now) }
 {
     let mut p = at;
-    for i in 0..count {
-        put_at(out, p, w, words[from + i] as usize);
+    for word in words {
+        put_at(out, p, w, *word as usize);
         p += w;
     }
 }

@@ -1,6 +1,7 @@
 -- The laws that the proofs of this crate and of those above cite.
 pub mod Contents
 pub mod Checks
+pub mod Called
 pub mod Entries
 pub mod Starts
 pub mod Small

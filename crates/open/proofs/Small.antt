@@ -13,7 +13,8 @@ use Rattle.lineage.specs.Labels.{Labelling}
 use Rattle.lineage.specs.Index.{Index}
 use Rattle.lineage.specs.Stored.{starts_from, triple, pair, label_of, label_numbers, sections}
 use Rattle.laws.specs.Sound.{SoundLabelling, SoundGroups, Sound}
-use Rattle.laws.proofs.Lists.{in_get_d, those_pass, upto_low, length_upto, position_low, at_position, least_below}
+use Rattle.laws.proofs.Lists.{those_pass, upto_low, length_upto}
+use Rattle.laws.proofs.Positions.{in_get_d, position_low, at_position, least_below}
 use Rattle.laws.proofs.Rising.{those_short}
 use Rattle.laws.proofs.Levels.{level_most}
 use Rattle.laws.proofs.Inverse.{e_most}

@@ -1,4 +1,3 @@
 -- What opening asks of the sections, what it answers, and what it decides.
-pub mod Parts
 pub mod Opened
 pub mod Yields

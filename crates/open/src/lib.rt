@@ -6,15 +6,16 @@ ghost use Rattle.lineage.specs.Lists.{cleared};
 ghost use Rattle.lineage.specs.Stored.{header_at, form_of};
 ghost use Rattle.lineage.specs.Sound.{contents_sound};
 ghost use Rattle.lineage.specs.Calls.{forms_taken, host, ordinary, open_answer, open_marks, open_work};
-ghost use Rattle.stored_header.specs.Header.{Laid};
-ghost use Rattle.open.specs.Parts.{Parts, parts_pass};
 ghost use Rattle.open.specs.Opened.{opened_of};
 
 use numbers::{clear_marks, clear_words};
 use refusals::Refusal;
 use sound_groups::groups_pass;
 use sound_labels::labels_sound;
-use stored_header::{Layout, admit, words_needed};
+use sound_ranks::reading::PlacedRows;
+use stored::parts::Image;
+use stored::reading::{Labels, Numbers, Rows};
+use stored_header::{admit, words_needed};
 
 // An index's counts.
 #[derive(Clone, Copy, Debug, PartialEq, Eq)]
@@ -25,58 +26,59 @@ pub struct Opened {
     pub d: u32,
 }
 
-// Whether six sections hold an index that some edge list and some orders yield, and where labels are in pairs one of a plain hierarchy. Marks below n are 0 afterwards.
-fn parts_sound(
-    names: &[u8],
-    groups: &[u8],
-    levels: &[u8],
-    starts: &[u8],
-    children: &[u8],
-    labels: &[u8],
-    marks: &mut [u8],
-    w: usize,
-    z: usize,
-    n: usize,
-    k: usize,
-    c: usize,
-    d: usize,
-) -> bool
-    requires parts { Parts w z n k c d names.now groups.now levels.now starts.now children.now labels.now }
-    requires n_in_bounds { n ≤ length marks.old }
-    ensures value { result ≡ parts_pass w z n k c d names.now groups.now levels.now starts.now children.now
-        labels.now }
-    ensures marks_after { marks.new ≡ cleared n marks.old }
-{
-    if !groups_pass(names, groups, levels, starts, children, w, n, k, c) {
-        clear_marks(marks, n);
-        return false;
-    }
-    labels_sound(starts, children, labels, marks, w, z, n, k, c, d)
-}
-
 // Whether the contents of bytes whose header passes are sound: whether some edge list and some orders, as its form takes them, yield exactly these bytes. Marks below n are
 // 0 afterwards.
-pub fn contents_sound(index: &[u8], l: Layout, marks: &mut [u8]) -> bool
-    requires laid { Laid index.now l }
-    requires n_in_bounds { l.n ≤ length marks.old }
-    ensures value { result ≡ contents_sound (form_of (header_at index.now 0)) index.now }
-    ensures marks_after { marks.new ≡ cleared l.n marks.old }
+pub fn contents_sound(index: &Image, marks: &mut [u8]) -> bool
+    requires { index.now.layout.n ≤ length marks.old }
+    ensures value { result ≡ contents_sound (form_of (header_at index.now.bytes.now 0)) index.now.bytes.now }
+    ensures marks_after { marks.new ≡ cleared index.now.layout.n marks.old }
 {
-    parts_sound(
-        stored::parts::names(index, l),
-        stored::parts::groups(index, l),
-        stored::parts::levels(index, l),
-        stored::parts::starts(index, l),
-        stored::parts::children(index, l),
-        stored::parts::labels(index, l),
-        marks,
-        l.width,
-        l.stride,
-        l.n,
-        l.k,
-        l.c,
-        l.d,
-    )
+    let l = index.layout;
+    let width = l.width;
+    let names = Numbers {
+        bytes: index.names(),
+        width,
+        len: l.n,
+    };
+    let groups = Numbers {
+        bytes: index.groups(),
+        width,
+        len: l.k,
+    };
+    let levels = Numbers {
+        bytes: index.levels(),
+        width,
+        len: l.k,
+    };
+    let starts = Numbers {
+        bytes: index.starts(),
+        width,
+        len: l.k + 1,
+    };
+    let children = Numbers {
+        bytes: index.children(),
+        width,
+        len: l.c,
+    };
+    let labels = Labels {
+        bytes: index.labels(),
+        width,
+        z: l.stride,
+        k: l.k,
+        d: l.d,
+    };
+    if !groups_pass(&names, &groups, &levels, &starts, &children) {
+        clear_marks(marks, l.n);
+        return false;
+    }
+    let rows = Rows {
+        starts: starts.bytes,
+        children: children.bytes,
+        width,
+        k: l.k,
+        c: l.c,
+    };
+    labels_sound(&PlacedRows { rows }, &labels, marks, l.n)
 }
 
 // Opens a stored index of a form from `least` to `most`: refusals 10, 11, 12, 13, 6 and 15 in order, or its counts. Marks below n and the needed words are 0 after
@@ -93,8 +95,12 @@ pub fn open_taking(
     ensures work_after { work.new ≡ open_work (forms_taken least most) index.now (length marks.old) work.old }
 {
     let l = admit(least, most, index, marks.len(), work.len())?;
+    let image = Image {
+        bytes: index,
+        layout: l,
+    };
     clear_words(work, words_needed(l));
-    if !contents_sound(index, l, marks) {
+    if !contents_sound(&image, marks) {
         return Err(Refusal::NotSound);
     }
     Ok(Opened {

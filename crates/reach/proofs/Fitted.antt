@@ -4,7 +4,6 @@ use mathlib.Core.Path.{◌≡◌, refl, sym, ap, ap₂, ◌∙◌}
 use mathlib.Core.List.{List}
 use Prim.Native.Nat.{ℕ, ◌+◌, ◌-◌, ◌*◌, ◌≤◌, ◌<◌}
 use native.Mathlib.Omega.{arith}
-use native.Mathlib.Nat.{mul-le-mul}
 use lib.Dec.{eqb}
 use lib.ListN.{length, get_or, set}
 use Rattle.lineage.specs.Lists.{all_below, cleared}
@@ -19,7 +18,7 @@ use Rattle.laws.specs.Sound.{SoundLabelling, SoundGroups, Sound}
 use Rattle.laws.proofs.Tests.{and_left, and_right}
 use Rattle.laws.proofs.Grouped.{name_in, group_name}
 use Rattle.laws.proofs.Lists.{table_at}
-use Rattle.numbers.specs.Bounds.{vertex_bound, entry_bound}
+use Rattle.numbers.specs.Bounds.{entry_bound}
 use Rattle.numbers.specs.Regions.{Part}
 use Rattle.numbers.proofs.Numbers.{numbers_long, numbers_at}
 use Rattle.stored_header.specs.declared.Layout.{Layout}
@@ -31,7 +30,6 @@ use Rattle.stored.specs.Reading.{numbers_of}
 use Rattle.sound_places.specs.Lent.{SoundBytes, Lent}
 use Rattle.stored.proofs.Contents.{names_many, children_many, labels_many, contents_sound_lem, index_at_lem}
 use Rattle.sound_places.proofs.Lent.{lent}
-use Rattle.sound_ranks.specs.Fit.{Tuples}
 use Rattle.reach_sweep.specs.declared.groups.Ranks.{Ranks}
 use Rattle.reach_sweep.specs.Fit.{names_of, children_of, Spots}
 use Rattle.reach.specs.Fit.{Names, SpotsIn, RankedIn, RanksOf}
@@ -215,12 +213,7 @@ module _
 
     module _ (tuples : List ℕ) (T : Part labels (w * (0 * ((z + 1) * k))) (w * (z * k)) tuples) where
       -- the rank of group p
-      pub tuples_held : Tuples w z tuples k
-      tuples_held =
-          let few : k ≤ vertex_bound = omega (arith, S.vertices_few, S.groups_few) in
-          record { stride = S.stride; held = holds tuples (z * k) T.long (omega (arith, mul-le-mul S.stride.high few)) }
-
-      pub rank_is : {p : ℕ} → p < k → (u : ℕ) {r : ℕ} → p ≡ place_in I u → r ≡ num_at w tuples (z * p + (z - 1)) → r ≡ rank_in (index_in b) u
+      pub rank_is : {p : ℕ} → p < k → (u : ℕ) {r : ℕ} → p ≡ place_in (index_in b) u → r ≡ num_at w tuples (z * p + (z - 1)) → r ≡ rank_in (index_in b) u
       unfolding rank_in index_from tuples_of
       rank_is {p} low u placed e =
           e
@@ -228,7 +221,7 @@ module _
           ∙ sym (e_at w z (tuples_of w z labels k 0) (places_of w z labels k 0) k p low)
           ∙ ap (λ (x : Labelling). get_or x.e p 0) (sym first_is)
           ∙ ap (λ (x : ℕ). get_or (first_labels (labels_in w z labels k d)).e x 0) placed
-          ∙ ap (λ (J : Index). rank_in J u) (sym index_is)
+          ∙ ap (λ (J : Index). get_or (first_labels J.labels).e (place_in (index_in b) u) 0) (sym index_is)
 
     -- the names are fit for the list
     pub names_fit : (marks : ℕ) → n ≤ marks → Names w n names marks

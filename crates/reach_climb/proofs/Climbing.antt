@@ -1,18 +1,14 @@
 -- The climb on its way up: the marks are those after the ranks that have had their turn.
-use mathlib.Core.Bool.{true}
+use mathlib.Core.Bool.{Bool, true, false}
 use mathlib.Core.Path.{◌≡◌, refl, sym, ap, ◌∙◌}
 use mathlib.Core.List.{List, []}
-use Prim.Native.Nat.{ℕ, ◌+◌, ◌≤◌, ◌<◌}
+use Prim.Native.Nat.{ℕ, ◌+◌}
 use native.Mathlib.Numerals.{add-one}
-use lib.Dec.{ltb}
 use lib.ListN.{length, get_or, set, length-set}
-use borrow.Author.Tests.{lt-ltb, le-ltb}
-use Rattle.lineage.specs.Lists.{any, first_of, among}
-use Rattle.laws.proofs.Lists.{position_low, at_position}
-use Rattle.reach_sweep.specs.declared.groups.Groups.{Groups}
-use Rattle.reach_sweep.specs.Fit.{children_of}
+use Rattle.std.specs.List.{find}
+use Rattle.std.specs.Prelude.{Option, is_some}
+use Rattle.lineage.specs.Lists.{any}
 use Rattle.reach_sweep.specs.Sweep.{marked}
-use Rattle.reach_sweep.proofs.Children.{child_low}
 use Rattle.reach_climb.specs.Climb.{lifted, climbed}
 use Rattle.reach_climb.proofs.Lowest.{any_found}
 use Rattle.reach_climb.proofs.Lifted.{lifted_marked, lifted_passed}
@@ -29,27 +25,22 @@ climbing_none groups children places marks = record { long = refl; so_far = refl
 module _
     {groups : List ℕ} {children : List (List ℕ)} {places : List ℕ} {ranks : ℕ} {before marks : List ℕ}
     (C : Climbing groups children places ranks before marks)
-    {r p found k : ℕ} (turn : r ≡ ranks) (is : p ≡ get_or places r 0) (lowest : found ≡ first_of (marked groups marks) (get_or children p []) k)
-    (low : (q : ℕ) → among q (get_or children p []) ≡ true → q < k)
+    {r p : ℕ} (turn : r ≡ ranks) (is : p ≡ get_or places r 0) {lowest : Option ℕ} (found : lowest ≡ find (marked groups marks) (get_or children p []))
+    {b : Bool} (some : b ≡ is_some lowest)
   where
     next : {after : List ℕ} → lifted groups children p marks ≡ after → length after ≡ length marks → Climbing groups children places (ranks + 1) before after
     unfolding climbed
     next e l = record { long = l ∙ C.long; so_far = sym e ∙ rw (add-one, ← C.so_far, is, turn) refl }
 
     -- whether a child is marked is read off what was found
-    some : any (marked groups marks) (get_or children p []) ≡ ltb found k
-    some = any_found (marked groups marks) (get_or children p []) k low ∙ ap (λ (q : ℕ). ltb q k) (sym lowest)
+    is_marked : any (marked groups marks) (get_or children p []) ≡ b
+    is_marked = any_found (marked groups marks) (get_or children p []) ∙ ap is_some (sym found) ∙ sym some
 
-    pub climbing_marked : {name : ℕ} → found < k → name ≡ get_or groups p 0 → Climbing groups children places (ranks + 1) before (set marks name 1)
-    climbing_marked {name} h named =
-        next (lifted_marked groups children p marks (some ∙ lt-ltb found k h) ∙ ap (λ n. set marks n 1) (sym named)) (length-set marks name 1)
+    pub climbing_marked : {name : ℕ} → b ≡ true → name ≡ get_or groups p 0 → Climbing groups children places (ranks + 1) before (set marks name 1)
+    climbing_marked {name} h named = next (lifted_marked groups children p marks (is_marked ∙ h) ∙ ap (λ n. set marks n 1) (sym named)) (length-set marks name 1)
 
-    pub climbing_passed : k ≤ found → Climbing groups children places (ranks + 1) before marks
-    climbing_passed h = next (lifted_passed groups children p marks (some ∙ le-ltb found k h)) refl
-
--- children that have passed are places
-pub child_place : (g : Groups) {p : ℕ} → p < g.rows.k → (q : ℕ) → among q (get_or (children_of g) p []) ≡ true → q < g.rows.k
-child_place g {p} low q i = let row : List ℕ = get_or (children_of g) p [] in child_low g low (position_low q row i) (sym (at_position q row i))
+    pub climbing_passed : b ≡ false → Climbing groups children places (ranks + 1) before marks
+    climbing_passed h = next (lifted_passed groups children p marks (is_marked ∙ h)) refl
 
 pub climbing_all :
     {groups : List ℕ} {children : List (List ℕ)} {places : List ℕ} {ranks k : ℕ} {before marks : List ℕ} → Climbing groups children places ranks before marks

@@ -1,20 +1,29 @@
--- The first of a row that passes a test: one passes exactly where one is found.
-use mathlib.Core.Bool.{Bool, true, false}
-use mathlib.Core.Path.{◌≡◌, refl, sym}
+-- The first of a row that passes a test, as it is found.
+use mathlib.Core.Bool.{Bool, true, false, cond, ◌||◌}
+use mathlib.Core.Path.{◌≡◌, refl}
 use mathlib.Core.List.{List, [], ◌∷◌}
-use Prim.Native.Nat.{ℕ, ◌<◌}
-use native.Mathlib.Omega.{arith}
-use lib.Dec.{ltb}
-use borrow.Author.Tests.{lt-ltb, le-ltb}
-use Rattle.lineage.specs.Lists.{any, among, first_of}
-use Rattle.laws.proofs.Lists.{here, there}
+use Prim.Native.Nat.{ℕ}
+use Rattle.std.specs.List.{find}
+use Rattle.std.specs.Option.{unwrap_or}
+use Rattle.std.specs.Prelude.{Some, is_some}
+use Rattle.lineage.specs.Lists.{any, first_of}
 
 module _ (p : ℕ → Bool) where
-  -- of a row of numbers below k, one passes exactly where a number below k is found
-  pub any_found : (xs : List ℕ) (k : ℕ) → ((x : ℕ) → among x xs ≡ true → x < k) → any p xs ≡ ltb (first_of p xs k) k
-  any_found [] k low = sym (le-ltb k k (omega arith))
-  any_found (x ∷ xs) k low = at (p x) refl (any_found xs k (λ y i. low y (there y x xs i)))
+  -- one passes exactly where one is found
+  pub any_found : (xs : List ℕ) → any p xs ≡ is_some (find p xs)
+  any_found [] = refl
+  any_found (x ∷ xs) = at (p x) (any_found xs)
     where
-      at : (b : Bool) → p x ≡ b → any p xs ≡ ltb (first_of p xs k) k → any p (x ∷ xs) ≡ ltb (first_of p (x ∷ xs) k) k
-      at true e ih = rw (e, first_of) (sym (lt-ltb x k (low x (here x xs))))
-      at false e ih = rw (e, first_of) ih
+      at : (b : Bool) → any p xs ≡ is_some (find p xs) → (b || any p xs) ≡ is_some (cond b (Some x) (find p xs))
+      at true ih = refl
+      at false ih = ih
+
+  -- the first, or another number where none passes
+  pub first_found : (xs : List ℕ) (other : ℕ) → first_of p xs other ≡ unwrap_or (find p xs) other
+  first_found [] other = refl
+  first_found (x ∷ xs) other = at (p x) (first_found xs other)
+    where
+      at : (b : Bool) → first_of p xs other ≡ unwrap_or (find p xs) other
+          → (elim b [ true ↦ x | false ↦ first_of p xs other ]) ≡ unwrap_or (cond b (Some x) (find p xs)) other
+      at true ih = refl
+      at false ih = ih

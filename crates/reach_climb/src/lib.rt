@@ -3,7 +3,7 @@
 #![tactic(auto)]
 
 ghost use Rattle.std.specs.Prelude.{[], ◌≡◌, ◌<◌, length, get_or};
-ghost use Rattle.lineage.specs.Lists.{first_of};
+ghost use Rattle.std.specs.List.{find};
 ghost use Rattle.stored.specs.Reading.{numbers_of};
 ghost use Rattle.reach_sweep.specs.Sweep.{marked};
 ghost use Rattle.reach_sweep.specs.Fit.{names_of, children_of, Spots};
@@ -11,21 +11,21 @@ ghost use Rattle.reach_climb.specs.Climb.{climbed};
 
 use reach_sweep::groups::{Groups, Ranks};
 
-// The lowest marked child of the group at place p; k where none is marked.
-pub fn lowest_marked(groups: &Groups, marks: &[u8], p: usize) -> usize
+// The lowest marked child of the group at place p.
+pub fn lowest_marked(groups: &Groups, marks: &[u8], p: usize) -> Option<usize>
     requires spots { Spots groups.now (length marks.now) }
     requires p_lt_k { p < groups.now.rows.k }
-    ensures { result ≡ first_of (marked (names_of groups.now) marks.now) (get_or (children_of groups.now) p []) groups.now.rows.k }
+    ensures { result ≡ find (marked (names_of groups.now) marks.now) (get_or (children_of groups.now) p []) }
 {
     let row = groups.rows.row(p);
     for i in 0..row.len {
         let q = row.get(i);
         let name = groups.names.get(q);
         if marks[name] == 1 {
-            return q;
+            return Some(q);
         }
     }
-    groups.rows.k
+    None
 }
 
 // The climb through all ranks: afterwards a group is marked exactly where it reaches one marked before.
@@ -36,7 +36,7 @@ pub fn climb(ranks: &Ranks, marks: &mut [u8])
     let k = ranks.groups.rows.k;
     for r in 0..k {
         let p = ranks.places.get(r);
-        if lowest_marked(&ranks.groups, marks, p) < k {
+        if lowest_marked(&ranks.groups, marks, p).is_some() {
             let name = ranks.groups.names.get(p);
             marks[name] = 1;
         }

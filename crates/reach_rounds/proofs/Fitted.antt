@@ -5,15 +5,14 @@ use mathlib.Core.List.{List}
 use Prim.Native.Nat.{ℕ, ◌≤◌, ◌<◌}
 use native.Mathlib.Omega.{arith}
 use lib.ListN.{get_or}
-use Rattle.lineage.specs.Numbers.{num_at, numbers}
+use Rattle.lineage.specs.Numbers.{numbers}
 use Rattle.lineage.specs.Calls.{index_in}
+use Rattle.numbers.proofs.Numbers.{numbers_at}
 use Rattle.stored_header.specs.declared.Layout.{Layout}
 use Rattle.stored_header.proofs.Laid.{k_is}
 use Rattle.stored.specs.Sections.{Section, Six}
-use Rattle.stored.proofs.Read.{was_read}
 use Rattle.stored.proofs.Contents.{stretch_of, names_only, children_many}
 use Rattle.sound_places.specs.Lent.{SoundBytes}
-use Rattle.reach.specs.Fit.{Names}
 use Rattle.reach.specs.Marks.{swept_in}
 use Rattle.reach.proofs.Fitted.{names_are, names_fit}
 use Rattle.reach_rounds.specs.Rounds.{spread_over, one_led_out, swept_all}
@@ -29,15 +28,16 @@ module _ {b : List ℕ} {l : Layout} {names : List ℕ} (O : SoundBytes b l) (N 
   pub names_here : numbers l.width names l.n ≡ (index_in b).names
   names_here = names_are O P
 
-  pub names_held : (marks : ℕ) → l.n ≤ marks → Names l.width l.n names marks
-  names_held = names_fit O P
+  -- each has its mark
+  pub names_low : (marks : ℕ) → l.n ≤ marks → (v : ℕ) → v < l.n → get_or (numbers l.width names l.n) v 0 < marks
+  names_low marks room v h = omega (arith, numbers_at l.width names l.n v h, (names_fit O P marks room).name_low v h)
+
+  pub name_room : (v : ℕ) {name marks : ℕ} → v < l.n → name ≡ get_or (numbers l.width names l.n) v 0 → l.n ≤ marks → name < marks
+  name_room v {marks = marks} h e room = omega (arith, e, names_low marks room v h)
 
   -- the name of a vertex that was read
-  pub name_here : {v name : ℕ} → v < l.n → name ≡ num_at l.width names v → name ≡ get_or (index_in b).names v 0
-  name_here {v} h e = was_read (names_held l.n (omega arith)).held h e ∙ ap (λ (s : List ℕ). get_or s v 0) names_here
-
-  pub name_room : {v name marks : ℕ} → v < l.n → name ≡ num_at l.width names v → l.n ≤ marks → name < marks
-  name_room {v} h e room = omega (arith, (names_held _ room).name_low v h)
+  pub name_here : (v : ℕ) {name : ℕ} → name ≡ get_or (numbers l.width names l.n) v 0 → name ≡ get_or (index_in b).names v 0
+  name_here v e = e ∙ ap (λ (s : List ℕ). get_or s v 0) names_here
 
   -- a round over the added edges
   module _ (S T before : List ℕ) where

@@ -2,52 +2,42 @@
 // which marks the groups that the edges lead to out of marked groups. A group's mark stands at its name.
 #![tactic(auto)]
 
-ghost use Rattle.std.specs.Prelude.{◌≡◌, ◌≤◌, ◌<◌, length};
-ghost use Rattle.lineage.specs.Numbers.{numbers};
+ghost use Rattle.std.specs.Prelude.{◌≡◌, ◌≤◌, ◌<◌, ℕ, length, get_or};
 ghost use Rattle.lineage.specs.Calls.{index_in};
-ghost use Rattle.sound_places.specs.Lent.{SoundBytes};
-ghost use Rattle.reach.specs.Fit.{Names};
+ghost use Rattle.stored.specs.Reading.{numbers_of};
 ghost use Rattle.reach_rounds.specs.Rounds.{Low, is_marked, leads_out, spread_over, one_led_out, rounds_in};
 
-use numbers::num;
 use reach::sweep_down;
-use stored::parts;
-use stored_header::Layout;
+use sound_places::SoundImage;
+use stored::reading::Numbers;
 
 // Whether an edge from s to t leads from a marked group into one that is not.
-fn leads_out(names: &[u8], marks: &[u8], w: usize, n: usize, s: usize, t: usize) -> bool
-    requires names { Names w n names.now (length marks.now) }
-    requires s_lt_n { (s < n) × (t < n) }
-    ensures { result ≡ leads_out (numbers w names.now n) marks.now s t }
+fn leads_out(names: &Numbers, marks: &[u8], s: usize, t: usize) -> bool
+    requires spots { (v : ℕ) → v < names.now.len → get_or (numbers_of names.now) v 0 < length marks.now }
+    requires s_lt_n { (s < names.now.len) × (t < names.now.len) }
+    ensures { result ≡ leads_out (numbers_of names.now) marks.now s t }
 {
-    let from = num(names, w, s);
+    let from = names.get(s);
     if marks[from] != 1 {
         return false;
     }
-    let to = num(names, w, t);
+    let to = names.get(t);
     marks[to] != 1
 }
 
 // Every added edge from a marked group into an unmarked one marks it; whether there was one.
-fn spread(
-    names: &[u8],
-    marks: &mut [u8],
-    w: usize,
-    n: usize,
-    sources: &[u32],
-    targets: &[u32],
-) -> bool
-    requires names { Names w n names.now (length marks.old) }
-    requires sources_len { (length sources.now ≡ length targets.now) × (Low n sources.now × Low n targets.now) }
-    ensures marks_after { marks.new ≡ spread_over (numbers w names.now n) sources.now targets.now marks.old }
-    ensures value { result ≡ one_led_out (numbers w names.now n) sources.now targets.now marks.old }
+fn spread(names: &Numbers, marks: &mut [u8], sources: &[u32], targets: &[u32]) -> bool
+    requires spots { (v : ℕ) → v < names.now.len → get_or (numbers_of names.now) v 0 < length marks.old }
+    requires sources_len { (length sources.now ≡ length targets.now) × (Low names.now.len sources.now × Low names.now.len targets.now) }
+    ensures marks_after { marks.new ≡ spread_over (numbers_of names.now) sources.now targets.now marks.old }
+    ensures value { result ≡ one_led_out (numbers_of names.now) sources.now targets.now marks.old }
 {
     let mut changed = false;
     for i in 0..sources.len() {
         let s = sources[i] as usize;
         let t = targets[i] as usize;
-        if leads_out(names, marks, w, n, s, t) {
-            let to = num(names, w, t);
+        if leads_out(names, marks, s, t) {
+            let to = names.get(t);
             marks[to] = 1;
             changed = true;
         }
@@ -58,33 +48,33 @@ fn spread(
 // From the groups marked before: a sweep, then rounds over the added edges, each with its sweep, until no edge leads out of the marked groups or the target's group is
 // marked; whether it is. Each round marks the target's group of some added edge, so there are no more rounds than added edges.
 pub fn reach_over(
-    index: &[u8],
-    l: Layout,
+    index: &SoundImage,
     sources: &[u32],
     targets: &[u32],
     marks: &mut [u8],
     target: usize,
 ) -> bool
-    requires sound_bytes { SoundBytes index.now l }
-    requires n_in_bounds { (l.n ≤ length marks.old) × (target < l.n) }
-    requires sources_len { (length sources.now ≡ length targets.now) × (Low l.n sources.now × Low l.n targets.now) }
-    ensures marks_after { marks.new ≡ rounds_in (index_in index.now) sources.now targets.now target marks.old }
-    ensures value { result ≡ is_marked (index_in index.now).names marks.new target }
+    requires n_in_bounds { (index.now.image.layout.n ≤ length marks.old) × (target < index.now.image.layout.n) }
+    requires sources_len { (length sources.now ≡ length targets.now) × (Low index.now.image.layout.n sources.now × Low index.now.image.layout.n targets.now) }
+    ensures marks_after { marks.new ≡ rounds_in (index_in index.now.image.bytes.now) sources.now targets.now target marks.old }
+    ensures value { result ≡ is_marked (index_in index.now.image.bytes.now).names marks.new target }
 {
-    let w = l.width;
-    let n = l.n;
-    let k = l.k;
-    let names = parts::names(index, l);
-    let name = num(names, w, target);
+    let k = index.image.layout.k;
+    let names = Numbers {
+        bytes: index.image.names(),
+        width: index.image.layout.width,
+        len: index.image.layout.n,
+    };
+    let name = names.get(target);
     for _round in 0..sources.len() {
-        sweep_down(index, l, marks, k);
+        sweep_down(index, marks, k);
         if marks[name] == 1 {
             return true;
         }
-        if !spread(names, marks, w, n, sources, targets) {
+        if !spread(&names, marks, sources, targets) {
             return false;
         }
     }
-    sweep_down(index, l, marks, k);
+    sweep_down(index, marks, k);
     marks[name] == 1
 }

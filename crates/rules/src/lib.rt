@@ -12,6 +12,8 @@ use numbers::{clear_marks, clear_words};
 use open::contents_sound;
 use refusals::Refusal;
 use rules_states::{first_out, mark_affected, settle_states};
+use sound_places::SoundImage;
+use stored::parts::Image;
 use stored_header::words_needed;
 
 // Why no state is turned: a refusal, or the position of the first changed vertex that is n or more.
@@ -70,11 +72,16 @@ pub fn prepare(
     if let Some(at) = first_out(changed, l.n) {
         return Err(SettleRefusal::BadChanged(at));
     }
+    let image = Image {
+        bytes: index,
+        layout: l,
+    };
     clear_words(work, words_needed(l));
-    if !contents_sound(index, l, marks) {
+    if !contents_sound(&image, marks) {
         return Err(SettleRefusal::Refused(Refusal::NotSound));
     }
-    mark_affected(index, l, marks, changed);
+    let sound = SoundImage { image };
+    mark_affected(&sound, marks, changed);
     Ok(l.n)
 }
 

@@ -10,7 +10,7 @@ use lib.Dec.{leb, eqb}
 use lib.ListN.{length, get_or, drop, replicate}
 use borrow.Author.Tests.{eqb-true, leb-false}
 use Rattle.lineage.specs.Lists.{upto, among, cleared}
-use Rattle.lineage.specs.Numbers.{num_at, numbers}
+use Rattle.lineage.specs.Numbers.{numbers}
 use Rattle.lineage.specs.Index.{Index}
 use Rattle.lineage.specs.Question.{place_in}
 use Rattle.lineage.specs.Calls.{index_in}
@@ -18,10 +18,9 @@ use Rattle.laws.specs.Leads.{Down}
 use Rattle.laws.specs.Sound.{Sound}
 use Rattle.laws.proofs.Tests.{clash}
 use Rattle.laws.proofs.Lists.{here, there, in_cons, any_in, in_any}
-use Rattle.laws.proofs.Grouped.{name_in, group_name, place_low, name_of_place, leads_exactly}
+use Rattle.laws.proofs.Grouped.{group_name, place_low, name_of_place, leads_exactly}
 use Rattle.laws.proofs.Inverse.{e_most}
 use Rattle.laws_same.proofs.Lineage.{tests_same}
-use Rattle.numbers.proofs.Numbers.{numbers_at}
 use Rattle.numbers.proofs.Cleared.{cleared_long, cleared_at, cleared_past}
 use Rattle.stored_header.specs.declared.Layout.{Layout}
 use Rattle.stored_header.proofs.Laid.{k_is}
@@ -32,7 +31,7 @@ use Rattle.reach_sweep.specs.Sweep.{marked, Reached}
 use Rattle.reach_sweep.proofs.Swept.{swept_past}
 use Rattle.reach.specs.Marks.{mark_in, swept_in}
 use Rattle.reach.proofs.Marked.{mark_long, mark_exactly, mark_past, first_sound, sweep_exactly}
-use Rattle.reach.proofs.Fitted.{index_sound, labels_some, names_are, names_count, names_fit}
+use Rattle.reach.proofs.Fitted.{index_sound, labels_some, names_are, names_count}
 use Rattle.rules_states.specs.Rules.{suspect, unknown, reaches_in, affected, state_after}
 use Rattle.rules_states.specs.Marks.{InRange, Named, mark_each, marks_of, vertex_marks, affected_marks, state_by}
 use Rattle.rules_states.proofs.Vertices.{marks_at, marks_long, marks_behind, marks_same, bit_back}
@@ -188,21 +187,10 @@ module _ {b : List ℕ} {l : Layout} (O : SoundBytes b l) {names : List ℕ} (N 
   many : length (index_in b).names ≡ l.n
   many = names_count O
 
-  name_is : (v : ℕ) → v < l.n → get_or (index_in b).names v 0 ≡ num_at l.width names v
-  name_is v h = ap (λ (ns : List ℕ). get_or ns v 0) (sym (names_are O P)) ∙ numbers_at l.width names l.n v h
-
-  pub names_named : (marks : ℕ) → l.n ≤ marks → Named l.width l.n names marks
-  names_named marks room = record {
-    held = (names_fit O P marks room).held;
-    room = room;
-    name_low = λ v h. omega (arith, name_is v h, (index_sound O).condensed.name_low v (omega (arith, many)));
-    name_own = λ v h.
-        let low : get_or (index_in b).names v 0 < l.n = omega (arith, many, name_in (index_sound O).condensed v (omega (arith, many))) in
-        ap (num_at l.width names) (sym (name_is v h))
-        ∙ sym (name_is (get_or (index_in b).names v 0) low)
-        ∙ (index_sound O).condensed.name_own v (omega (arith, many))
-        ∙ name_is v h;
-  }
+  pub names_named : (marks : ℕ) → l.n ≤ marks → Named (numbers l.width names l.n) marks
+  names_named marks room =
+      rw (names_are O P)
+      (record { room = omega (arith, many); name_low = (index_sound O).condensed.name_low; name_own = (index_sound O).condensed.name_own })
 
   pub affected_are : (changed : List ℕ) → InRange l.n changed → (before : List ℕ) → l.n ≤ length before → before ≡ cleared l.n before
       → {start swept after : List ℕ} → start ≡ mark_each (index_in b) changed before → swept ≡ swept_in (index_in b) l.k start

@@ -12,9 +12,10 @@ use lib.ListN.{length, get_or, set, drop, length-append, length-drop, get_or-app
 use lib.Seq.{drop-cons, drop_at, set_at, append_snoc, get_or-drop, get_or-append-add}
 use mir.Val.{bool_byte}
 use Rattle.lineage.specs.Lists.{upto}
-use Rattle.lineage.specs.Numbers.{num_at, numbers}
 use Rattle.laws.proofs.Lists.{table_at, table_long, table_same}
-use Rattle.numbers.proofs.Numbers.{numbers_long, numbers_at}
+use Rattle.numbers.proofs.Numbers.{numbers_long}
+use Rattle.stored.specs.declared.reading.Numbers.{Numbers}
+use Rattle.stored.specs.Reading.{numbers_of}
 use Rattle.rules_states.specs.Marks.{marks_of, group_mark, vertex_marks, Named}
 
 module _ (f : ℕ → ℕ) (m : List ℕ) where
@@ -68,34 +69,30 @@ bit_cast : (t : Bool) → bool_byte t ≡ cond t 1 0
 bit_cast true = refl
 bit_cast false = refl
 
-module _ {w n : ℕ} {names : List ℕ} (m : List ℕ) (N : Named w n names (length m)) where
-  abbrev ns : List ℕ
-  ns = numbers w names n
-
+module _ {names : List ℕ} (m : List ℕ) (N : Named names (length m)) where
   abbrev own : ℕ → ℕ
-  own = group_mark ns m
+  own = group_mark names m
 
   -- the mark that is read at the name of vertex v, after those before v are marked
-  pub name_marked : (v : ℕ) {name : ℕ} {now : List ℕ} → v < n → name ≡ get_or ns v 0 → now ≡ marks_of v own m → bool_byte (eqb (get_or now name 0) 1) ≡ own v
+  pub name_marked :
+      (v : ℕ) {name : ℕ} {now : List ℕ} → v < length names → name ≡ get_or names v 0 → now ≡ marks_of v own m → bool_byte (eqb (get_or now name 0) 1) ≡ own v
   name_marked v {name} {now} h e is = bit_cast (eqb (get_or now name 0) 1) ∙ ap (λ (t : Bool). cond t 1 0) (at (ℕ_discrete name v) ∙ ap (λ (p : ℕ). eqb (get_or m p 0) 1) e)
     where
       low : name ≤ v
-      low = omega (arith, e, numbers_at w names n v h, N.name_low v h)
+      low = omega (arith, e, N.name_low v h)
 
-      same : get_or ns name 0 ≡ name
-      same =
-          numbers_at w names n name (omega (arith, low, h))
-          ∙ ap (num_at w names) (e ∙ numbers_at w names n v h)
-          ∙ N.name_own v h
-          ∙ sym (e ∙ numbers_at w names n v h)
+      same : get_or names name 0 ≡ name
+      same = ap (λ (p : ℕ). get_or names p 0) e ∙ N.name_own v h ∙ sym e
 
       at : Dec (name ≡ v) → eqb (get_or now name 0) 1 ≡ eqb (get_or m name 0) 1
       at (yes f) = rw is (ap (λ (x : ℕ). eqb x 1) (marks_past own m v name (omega arith)))
       at (no f) =
           rw is (ap (λ (x : ℕ). eqb x 1) (marks_at own m v name (omega (arith, low, f)))
-          ∙ bit_back (eqb (get_or m (get_or ns name 0) 0) 1)
+          ∙ bit_back (eqb (get_or m (get_or names name 0) 0) 1)
           ∙ ap (λ (p : ℕ). eqb (get_or m p 0) 1) same)
 
-  pub vertices_marked : (v : ℕ) {now : List ℕ} → v ≤ n → n ≤ v → now ≡ marks_of v own m → now ≡ vertex_marks ns m
-  unfolding vertex_marks
-  vertices_marked v h k e = let all : v ≡ length ns = omega (arith, numbers_long w names n) in e ∙ ap (λ (i : ℕ). marks_of i own m) all
+-- all vertices gone through
+pub vertices_marked :
+    (s : Numbers) (m : List ℕ) {v : ℕ} {now : List ℕ} → v ≡ s.len → now ≡ marks_of v (group_mark (numbers_of s) m) m → now ≡ vertex_marks (numbers_of s) m
+unfolding vertex_marks
+vertices_marked s m gone e = e ∙ ap (λ (i : ℕ). marks_of i (group_mark (numbers_of s) m) m) (gone ∙ sym (numbers_long s.width s.bytes.now s.len))

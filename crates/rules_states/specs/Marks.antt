@@ -1,9 +1,7 @@
 -- The groups of changed vertices marked, the vertices that they reach marked, and a state told from the mark of its vertex.
 use Rattle.std.specs.Prelude.{true, cond, ◌≡◌, List, [], ◌∷◌, ◌++◌, map, ℕ, ◌≤◌, ◌<◌, leb, eqb, length, get_or, drop}
 use Rattle.lineage.specs.Lists.{upto, among}
-use Rattle.lineage.specs.Numbers.{num_at}
 use Rattle.lineage.specs.Index.{Index}
-use Rattle.stored.specs.Rows.{Holds}
 use Rattle.reach.specs.Marks.{mark_in}
 use Rattle.rules_states.specs.Rules.{suspect, unknown, affected}
 
@@ -38,9 +36,8 @@ affected_marks I changed marks = marks_of (length I.names) (λ v. cond (affected
 unfoldable pub state_by : (marks : List ℕ) → (n vertex state : ℕ) → ℕ
 state_by marks n vertex state = cond (leb n vertex) unknown (cond (eqb (get_or marks vertex 0) 1) suspect state)
 
--- what is asked of lent names and marks: a name is not above its vertex and is its own name, and there is a mark for each vertex
-pub record Named (w n : ℕ) (names : List ℕ) (marks : ℕ) : Type 0 where
-  pub held : Holds w names n
-  pub room : n ≤ marks
-  pub name_low : (v : ℕ) → v < n → num_at w names v ≤ v
-  pub name_own : (v : ℕ) → v < n → num_at w names (num_at w names v) ≡ num_at w names v
+-- what is asked of names and marks: a name is not above its vertex and is its own name, and there is a mark for each vertex
+pub record Named (names : List ℕ) (marks : ℕ) : Type 0 where
+  pub room : length names ≤ marks
+  pub name_low : (v : ℕ) → v < length names → get_or names v 0 ≤ v
+  pub name_own : (v : ℕ) → v < length names → get_or names (get_or names v 0) 0 ≡ get_or names v 0

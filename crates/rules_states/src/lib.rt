@@ -3,15 +3,13 @@
 
 ghost use Rattle.std.specs.Prelude.{◌≡◌, ◌≤◌, leb, length, position};
 ghost use Rattle.lineage.specs.Lists.{cleared};
-ghost use Rattle.lineage.specs.Numbers.{numbers};
 ghost use Rattle.lineage.specs.Calls.{index_in};
-ghost use Rattle.sound_places.specs.Lent.{SoundBytes};
+ghost use Rattle.stored.specs.Reading.{numbers_of};
 ghost use Rattle.rules_states.specs.Rules.{each_state};
 ghost use Rattle.rules_states.specs.Marks.{InRange, Named, mark_each, vertex_marks, affected_marks, state_by};
 
-use numbers::num;
-use stored::parts;
-use stored_header::Layout;
+use sound_places::SoundImage;
+use stored::reading::Numbers;
 
 // A rule's states; any other number is kept like a state that nothing touches.
 pub const FRESH: u32 = 0;
@@ -28,37 +26,41 @@ pub fn first_out(changed: &[u32], n: usize) -> Option<usize>
 }
 
 // Marks the group of each changed vertex, whatever else is marked.
-fn mark_changed(index: &[u8], l: Layout, marks: &mut [u8], changed: &[u32])
-    requires sound_bytes { SoundBytes index.now l }
-    requires n_in_bounds { (l.n ≤ length marks.old) × InRange l.n changed.now }
-    ensures { marks.new ≡ mark_each (index_in index.now) changed.now marks.old }
+fn mark_changed(index: &SoundImage, marks: &mut [u8], changed: &[u32])
+    requires { (index.now.image.layout.n ≤ length marks.old) × InRange index.now.image.layout.n changed.now }
+    ensures { marks.new ≡ mark_each (index_in index.now.image.bytes.now) changed.now marks.old }
 {
     for v in changed {
-        reach::mark_group(index, l, marks, *v as usize);
+        reach::mark_group(index, marks, *v as usize);
     }
 }
 
 // Marks each vertex where its group is marked. A group's mark stands at its name, which is its smallest vertex, and is still there when a later vertex looks.
-fn mark_vertices(names: &[u8], marks: &mut [u8], w: usize, n: usize)
-    requires { Named w n names.now (length marks.old) }
-    ensures { marks.new ≡ vertex_marks (numbers w names.now n) marks.old }
+fn mark_vertices(names: &Numbers, marks: &mut [u8])
+    requires { Named (numbers_of names.now) (length marks.old) }
+    ensures { marks.new ≡ vertex_marks (numbers_of names.now) marks.old }
 {
-    for v in 0..n {
-        let name = num(names, w, v);
+    for v in 0..names.len {
+        let name = names.get(v);
         marks[v] = (marks[name] == 1) as u8;
     }
 }
 
 // Marks all vertices that the changed vertices reach, by one sweep from all of them, on marks that are 0 below n.
-pub fn mark_affected(index: &[u8], l: Layout, marks: &mut [u8], changed: &[u32])
-    requires sound_bytes { SoundBytes index.now l }
-    requires n_in_bounds { (l.n ≤ length marks.old) × InRange l.n changed.now }
-    requires marks_value { marks.old ≡ cleared l.n marks.old }
-    ensures { marks.new ≡ affected_marks (index_in index.now) changed.now marks.old }
+pub fn mark_affected(index: &SoundImage, marks: &mut [u8], changed: &[u32])
+    requires n_in_bounds { (index.now.image.layout.n ≤ length marks.old) × InRange index.now.image.layout.n changed.now }
+    requires marks_value { marks.old ≡ cleared index.now.image.layout.n marks.old }
+    ensures { marks.new ≡ affected_marks (index_in index.now.image.bytes.now) changed.now marks.old }
 {
-    mark_changed(index, l, marks, changed);
-    reach::sweep_down(index, l, marks, l.k);
-    mark_vertices(parts::names(index, l), marks, l.width, l.n);
+    let l = index.image.layout;
+    mark_changed(index, marks, changed);
+    reach::sweep_down(index, marks, l.k);
+    let names = Numbers {
+        bytes: index.image.names(),
+        width: l.width,
+        len: l.n,
+    };
+    mark_vertices(&names, marks);
 }
 
 // A record's state afterwards, by its vertex: unknown where that is n or more, suspect where it is marked, and otherwise what it was.

@@ -78,14 +78,8 @@ pub extern "C" fn drobisten_settle_rules(
         Ok(n) => {
             turn_all(marks, rules, n);
             clear_marks(marks, n);
-            RulesSettled {
-                refusal: 0,
-                extra: 0,
-            }
+            RulesSettled::from(Ok(()))
         }
-        Err(r) => RulesSettled {
-            refusal: r.number(),
-            extra: r.extra(),
-        },
+        Err(r) => RulesSettled::from(Err(r)),
     }
 }

@@ -1,38 +1,32 @@
 -- The block of one group as the walk that the code makes, and its two intervals together.
 use mathlib.Core.Bool.{Bool, true, false, not}
-use mathlib.Core.Path.{◌≡◌}
+use mathlib.Core.Path.{◌≡◌, ap, ◌∙◌}
 use mathlib.Core.List.{List}
-use Prim.Native.Nat.{ℕ, ◌+◌, ◌-◌, ◌*◌, ◌<◌}
-use Rattle.lineage.specs.Numbers.{num_at}
-use Rattle.lineage.specs.Sound.{child_of, walk_ends, block_passes}
-use Rattle.laws.proofs.Tests.{and_fails, and_goes}
-use Rattle.stored.specs.Sections.{children_in, labelling_in}
-use Rattle.stored.proofs.Sections.{children_long}
-use Rattle.stored.specs.Rows.{Places}
+use Prim.Native.Nat.{ℕ, ◌-◌}
+use lib.ListN.{length, get_or}
+use Rattle.lineage.specs.Labels.{Labelling}
+use Rattle.stored.specs.Sections.{labelling_in}
 use Rattle.sound_ranks.specs.Tests.{tuples_alone, fall_and_outer}
-use Rattle.sound_ranks.proofs.Read.{m_was, e_was}
-use Rattle.sound_blocks.specs.Fit.{Ranked}
+use Rattle.sound_ranks.specs.Reading.{labelling_read}
+use Rattle.laws.proofs.Tests.{and_fails, and_goes}
 use Rattle.sound_blocks.specs.Tests.{intervals_pass}
+use Rattle.sound_ranks.specs.declared.reading.OneLabelling.{OneLabelling}
+use Rattle.lineage.specs.Sound.{child_of, walk_ends, block_passes}
 
-pub block_is : {w z k c p m e : ℕ} {starts children tuples places : List ℕ} → Places w starts children k c → Ranked w z tuples places k → p < k
-    → m ≡ num_at w tuples (z * p + (z - 2))
-    → e ≡ num_at w tuples (z * p + (z - 1))
-    → walk_ends (labelling_in w z tuples places k) (child_of (children_in w starts children k c) p) k (e - 1) (m - 1)
-    ≡ block_passes (children_in w starts children k c) (labelling_in w z tuples places k) p
-block_is {w} {z} {k} {c} {p} {m} {e} {starts} {children} {places = places} P N h im ie =
-    rw (children_long w starts children k c, ← (m_was N.labels.tuples_held places h im), ← (e_was N.labels.tuples_held places h ie))
+pub block_is : {k m e : ℕ} (children : List (List ℕ)) (l : Labelling) (p : ℕ) → length children ≡ k → m ≡ get_or l.m p 0 → e ≡ get_or l.e p 0
+    → walk_ends l (child_of children p) k (e - 1) (m - 1) ≡ block_passes children l p
+block_is children l p long im ie = rw (long, ← im, ← ie)
 
 -- the two tests of a group: a function tells a of its outer interval, which is tested by the numbers by place alone, and its caller asks `!a`
-module _ {w z k c p : ℕ} {starts children tuples places : List ℕ} (P : Places w starts children k c) (N : Ranked w z tuples places k) (low : p < k)
-    {a : Bool} (told : a ≡ fall_and_outer (children_in w starts children k c) (tuples_alone w z tuples k) p)
+module _ {z : ℕ} {a : Bool} {alone : Labelling} (l : OneLabelling z) (children : List (List ℕ)) (p : ℕ) (is : alone ≡ tuples_alone l.width z l.tuples.now l.k)
+    (told : a ≡ fall_and_outer children alone p)
   where
-    outer : a ≡ fall_and_outer (children_in w starts children k c) (labelling_in w z tuples places k) p
+    outer : a ≡ fall_and_outer children (labelling_read z l) p
     unfolding labelling_in
-    outer = told
+    outer = told ∙ ap (λ (t : Labelling). fall_and_outer children t p) is
 
-    pub outer_fails : not a ≡ true → false ≡ intervals_pass (children_in w starts children k c) (labelling_in w z tuples places k) p
-    outer_fails f = and_fails outer (block_passes (children_in w starts children k c) (labelling_in w z tuples places k) p) f
+    pub outer_fails : not a ≡ true → false ≡ intervals_pass children (labelling_read z l) p
+    outer_fails f = and_fails outer (block_passes children (labelling_read z l) p) f
 
-    pub block_decides : {b : Bool} → not a ≡ false → b ≡ block_passes (children_in w starts children k c) (labelling_in w z tuples places k) p
-        → b ≡ intervals_pass (children_in w starts children k c) (labelling_in w z tuples places k) p
+    pub block_decides : {b : Bool} → not a ≡ false → b ≡ block_passes children (labelling_read z l) p → b ≡ intervals_pass children (labelling_read z l) p
     block_decides t e = and_goes outer t e

@@ -2,20 +2,16 @@
 use mathlib.Core.Bool.{true}
 use mathlib.Core.Path.{◌≡◌}
 use mathlib.Core.List.{List}
-use Prim.Native.Nat.{ℕ, ◌+◌, ◌-◌, ◌*◌, ◌≤◌, ◌<◌}
+use Prim.Native.Nat.{ℕ, ◌≤◌, ◌<◌}
 use native.Mathlib.Omega.{arith}
 use lib.Dec.{leb}
-use lib.ListN.{get_or}
+use lib.ListN.{length, get_or}
 use borrow.Author.Tests.{leb-true}
-use Rattle.lineage.specs.Numbers.{num_at}
 use Rattle.lineage.specs.Labels.{Labelling, nobodys_child}
 use Rattle.lineage.specs.Sound.{walk_ends, rank_passes, inner_passes}
 use Rattle.laws.proofs.Tests.{and_left, and_right}
 use Rattle.laws.proofs.Inverse.{rank_most}
 use Rattle.laws.proofs.Lists.{all_below_lem}
-use Rattle.stored.specs.Sections.{labelling_in}
-use Rattle.stored.proofs.Sections.{places_long}
-use Rattle.sound_ranks.proofs.Read.{m_was, e_was, place_was}
 use Rattle.sound_ranks.proofs.Ranks.{rank_low, rank_own}
 use Rattle.sound_blocks.specs.Fit.{Ranked}
 use Rattle.sound_blocks.specs.Marks.{unmarked, Tells}
@@ -34,10 +30,7 @@ module _ (l : Labelling) where
   inner_below : (p : ℕ) → inner_passes l p ≡ true → m p ≤ e p
   inner_below p t = leb-true (m p) (e p) (and_right (leb 1 (m p)) (leb (m p) (e p)) t)
 
-module _ {w z k : ℕ} {tuples places : List ℕ} (N : Ranked w z tuples places k) where
-  abbrev l : Labelling
-  l = labelling_in w z tuples places k
-
+module _ {k : ℕ} {l : Labelling} (N : Ranked k l) where
   ranked : (r : ℕ) → r < k → rank_passes k l r ≡ true
   ranked r h = all_below_lem k (rank_passes k l) r N.ranks h
 
@@ -45,22 +38,18 @@ module _ {w z k : ℕ} {tuples places : List ℕ} (N : Ranked w z tuples places 
   inner p h = all_below_lem k (inner_passes l) p N.inners h
 
   -- the place at a rank that was read
-  pub place_low : {r p : ℕ} → r < k → p ≡ num_at w places r → p < k
-  place_low {r} {p} h i = omega (arith, rank_low k l r (ranked r h), place_was N.labels h i)
+  pub place_low : {r p : ℕ} → r < k → p ≡ get_or l.by_rank r 0 → p < k
+  place_low {r} h i = omega (arith, rank_low k l r (ranked r h))
 
-  pub m_some : {p x : ℕ} → p < k → x ≡ num_at w tuples (z * p + (z - 2)) → 1 ≤ x
-  m_some {p} h i = omega (arith, inner_some l p (inner p h), m_was N.labels.tuples_held places h i)
+  pub m_some : {p x : ℕ} → p < k → x ≡ get_or l.m p 0 → 1 ≤ x
+  m_some {p} h i = omega (arith, inner_some l p (inner p h))
 
-  pub e_some : {p x : ℕ} → p < k → x ≡ num_at w tuples (z * p + (z - 1)) → 1 ≤ x
-  e_some {p} h i = omega (arith, inner_some l p (inner p h), inner_below l p (inner p h), e_was N.labels.tuples_held places h i)
+  pub e_some : {p x : ℕ} → p < k → x ≡ get_or l.e p 0 → 1 ≤ x
+  e_some {p} h i = omega (arith, inner_some l p (inner p h), inner_below l p (inner p h))
 
-  pub e_most : {p x : ℕ} → p < k → x ≡ num_at w tuples (z * p + (z - 1)) → x ≤ k
-  e_most {p} h i =
-      omega (
-        arith,
-        e_was N.labels.tuples_held places h i,
-        rank_most k l.by_rank (λ q. get_or l.e q 0) (places_long w z tuples places k) (λ r j. rank_low k l r (ranked r j)) (λ r j. rank_own k l r (ranked r j)) p h,
-      )
+  pub e_most : {p x : ℕ} → length l.by_rank ≡ k → p < k → x ≡ get_or l.e p 0 → x ≤ k
+  e_most {p} long h i =
+      omega (arith, rank_most k l.by_rank (λ q. get_or l.e q 0) long (λ r j. rank_low k l r (ranked r j)) (λ r j. rank_own k l r (ranked r j)) p h)
 
   pub goes_left : Left l k
   goes_left = record {

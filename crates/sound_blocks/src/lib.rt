@@ -5,90 +5,66 @@
 ghost use Rattle.std.specs.Prelude.{◌≡◌, ◌≤◌, ◌<◌, length};
 ghost use Rattle.lineage.specs.Lists.{all_below};
 ghost use Rattle.lineage.specs.Sound.{child_of, walk_ends, block_passes};
-ghost use Rattle.stored.specs.Sections.{children_in, labelling_in};
-ghost use Rattle.stored.specs.Rows.{Places};
+ghost use Rattle.stored.specs.Reading.{rows_of};
+ghost use Rattle.sound_ranks.specs.Reading.{labelling_read};
 ghost use Rattle.sound_blocks.specs.Marks.{unmarked};
 ghost use Rattle.sound_blocks.specs.Fit.{Ranked};
 ghost use Rattle.sound_blocks.specs.Tests.{intervals_pass};
 
-use numbers::{count_below, num, numbers_from};
-use sound_ranks::{e_of, m_of, outer_passes};
-use stored::rows::row_span;
+use numbers::count_below;
+use sound_ranks::outer_passes;
+use sound_ranks::reading::{OneLabelling, PlacedRows};
+
+// A labelling whose ranks and inner intervals have passed their tests.
+#[derive(Clone, Copy)]
+pub struct RankedLabelling<'a, const Z: usize> {
+    pub labelling: OneLabelling<'a, Z>,
+    ghost ranked: { Ranked labelling.k (labelling_read Z labelling) },
+}
 
 // Whether q is a child of group p: it is looked for in the row, which rises, by halves.
-fn child_in(
-    starts: &[u8],
-    children: &[u8],
-    w: usize,
-    k: usize,
-    c: usize,
-    p: usize,
-    q: usize,
-) -> bool
-    requires places { Places w starts.now children.now k c }
-    requires p_lt_k { p < k }
-    ensures { result ≡ child_of (children_in w starts.now children.now k c) p q }
+fn child_in(rows: &PlacedRows, p: usize, q: usize) -> bool
+    requires { p < rows.now.rows.k }
+    ensures { result ≡ child_of (rows_of rows.now.rows) p q }
 {
-    let row = row_span(starts, w, k, c, p);
-    let from = row.from;
-    let len = row.len;
-    let entries = numbers_from(children, w, from, len);
-    let at = count_below(entries, w, len, q, 0, len);
-    if len <= at {
+    let row = rows.rows.row(p);
+    let at = count_below(row.bytes, row.width, row.len, q, 0, row.len);
+    if row.len <= at {
         return false;
     }
-    num(entries, w, at) == q
+    row.get(at) == q
 }
 
 // Whether the inner interval of group p is its own rank and, side by side, the inner intervals of children of p.
-fn block_passes(
-    starts: &[u8],
-    children: &[u8],
-    tuples: &[u8],
-    places: &[u8],
-    w: usize,
-    z: usize,
-    k: usize,
-    c: usize,
-    p: usize,
-) -> bool
-    requires places { Places w starts.now children.now k c }
-    requires ranked { Ranked w z tuples.now places.now k }
-    requires p_lt_k { p < k }
-    ensures { result ≡ block_passes (children_in w starts.now children.now k c) (labelling_in w z tuples.now places.now k) p }
+fn block_passes<const Z: usize>(rows: &PlacedRows, ranked: &RankedLabelling<Z>, p: usize) -> bool
+    requires k_same { rows.now.rows.k ≡ ranked.now.labelling.k }
+    requires p_lt_k { p < ranked.now.labelling.k }
+    ensures { result ≡ block_passes (rows_of rows.now.rows) (labelling_read Z ranked.now.labelling) p }
 {
-    let low = m_of(tuples, w, z, k, p) - 1;
-    let mut rank = e_of(tuples, w, z, k, p) - 1;
+    let labelling = &ranked.labelling;
+    let low = labelling.m(p) - 1;
+    let mut rank = labelling.e(p) - 1;
     while low < rank {
-        let child = num(places, w, rank - 1);
-        if !child_in(starts, children, w, k, c, p, child) {
+        let child = labelling.place(rank - 1);
+        if !child_in(rows, p, child) {
             return false;
         }
-        rank = m_of(tuples, w, z, k, child) - 1;
+        rank = labelling.m(child) - 1;
     }
     rank == low
 }
 
 // Whether the outer and the inner interval of every group are by the rules.
-pub fn intervals_pass(
-    starts: &[u8],
-    children: &[u8],
-    tuples: &[u8],
-    places: &[u8],
-    w: usize,
-    z: usize,
-    k: usize,
-    c: usize,
-) -> bool
-    requires places { Places w starts.now children.now k c }
-    requires ranked { Ranked w z tuples.now places.now k }
-    ensures { result ≡ all_below k (intervals_pass (children_in w starts.now children.now k c) (labelling_in w z tuples.now places.now k)) }
+pub fn intervals_pass<const Z: usize>(rows: &PlacedRows, ranked: &RankedLabelling<Z>) -> bool
+    requires { rows.now.rows.k ≡ ranked.now.labelling.k }
+    ensures { result ≡ all_below ranked.now.labelling.k (intervals_pass (rows_of rows.now.rows) (labelling_read Z ranked.now.labelling)) }
 {
-    for p in 0..k {
-        if !outer_passes(starts, children, tuples, w, z, k, c, p) {
+    let tuples = ranked.labelling.by_place();
+    for p in 0..ranked.labelling.k {
+        if !outer_passes(rows, &tuples, p) {
             return false;
         }
-        if !block_passes(starts, children, tuples, places, w, z, k, c, p) {
+        if !block_passes(rows, ranked, p) {
             return false;
         }
     }
@@ -96,18 +72,18 @@ pub fn intervals_pass(
 }
 
 // Whether all ranks are, side by side, the inner intervals of groups whose mark is 0.
-pub fn roots_pass(tuples: &[u8], places: &[u8], marks: &[u8], w: usize, z: usize, k: usize) -> bool
-    requires ranked { Ranked w z tuples.now places.now k }
-    requires k_in_bounds { k ≤ length marks.now }
-    ensures { result ≡ walk_ends (labelling_in w z tuples.now places.now k) (unmarked marks.now) k k 0 }
+pub fn roots_pass<const Z: usize>(ranked: &RankedLabelling<Z>, marks: &[u8]) -> bool
+    requires { ranked.now.labelling.k ≤ length marks.now }
+    ensures { result ≡ walk_ends (labelling_read Z ranked.now.labelling) (unmarked marks.now) ranked.now.labelling.k ranked.now.labelling.k 0 }
 {
-    let mut rank = k;
+    let labelling = &ranked.labelling;
+    let mut rank = labelling.k;
     while 0 < rank {
-        let root = num(places, w, rank - 1);
+        let root = labelling.place(rank - 1);
         if marks[root] != 0 {
             return false;
         }
-        rank = m_of(tuples, w, z, k, root) - 1;
+        rank = labelling.m(root) - 1;
     }
     true
 }

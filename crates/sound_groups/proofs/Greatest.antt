@@ -12,9 +12,6 @@ use Rattle.lineage.specs.Lists.{greatest}
 pub record Greatest (f : ℕ → ℕ) (xs : List ℕ) (i most : ℕ) : Type 0 where
   pub both : max most (greatest (map f (drop i xs))) ≡ greatest (map f xs)
 
-pub greatest_none : (f : ℕ → ℕ) (xs : List ℕ) → Greatest f xs 0 0
-greatest_none f xs = record { both = omega arith }
-
 module _ {f : ℕ → ℕ} {xs : List ℕ} {i most : ℕ} (G : Greatest f xs i most) where
   pub greatest_more : {x a b : ℕ} → i < length xs → x ≡ get_or xs i 0 → a ≡ f x → b ≡ max most a → Greatest f xs (i + 1) b
   greatest_more {x} {a} {b} h e ea eb =

@@ -1,5 +1,5 @@
 -- The laws that the proofs of this crate and of those above cite.
-pub mod Names
+pub mod Many
 pub mod Listed
 pub mod Starts
 pub mod Rising

@@ -13,13 +13,9 @@ use lib.Seq.{drop-cons}
 use borrow.Author.Tests.{eq-eqb, ne_eqb}
 use Rattle.lineage.specs.Lists.{upto, those, all_below, same_list}
 use Rattle.lineage.specs.Graph.{group_list}
-use Rattle.lineage.specs.Numbers.{num_at, numbers}
 use Rattle.lineage.specs.Sound.{names_pass}
 use Rattle.laws.proofs.Lists.{length_upto, get_d_upto, those_yes, those_no}
 use Rattle.laws.proofs.Passed.{Passed, passed_none, passed_more, passed_all, passed_not}
-use Rattle.numbers.proofs.Numbers.{numbers_long}
-use Rattle.stored.specs.Rows.{Holds}
-use Rattle.stored.proofs.Read.{was_read}
 use Rattle.sound_groups.specs.Tests.{own_name}
 
 -- the vertex is its own group's name
@@ -33,13 +29,13 @@ pub record Listed (names groups : List ℕ) (n k v p : ℕ) : Type 0 where
   pub held : p ≤ k
   pub same : same_list (drop p groups) (those (own names) (drop v (upto n))) ≡ same_list groups (group_list names)
 
-pub listed_none : (w n k : ℕ) (names groups : List ℕ) → Listed (numbers w names n) (numbers w groups k) n k 0 0
+pub listed_none : {n k : ℕ} (names groups : List ℕ) → length names ≡ n → length groups ≡ k → Listed names groups n k 0 0
 unfolding group_list
-listed_none w n k names groups = record {
-  long = numbers_long w groups k;
-  owned = passed_none (own_name (numbers w names n)) n;
+listed_none {n} names groups N G = record {
+  long = G;
+  owned = passed_none (own_name names) n;
   held = omega arith;
-  same = rw (numbers_long w names n);
+  same = rw N;
 }
 
 -- the next vertex
@@ -56,46 +52,42 @@ none_left xs p h =
     ]
 
 -- the test of names and group list as its two halves
-module _ (w n k : ℕ) (names groups : List ℕ) where
-  halves : (all_below n (own_name (numbers w names n)) && same_list (numbers w groups k) (group_list (numbers w names n))) ≡ names_pass (numbers w names n) (numbers w groups k)
+module _ {n : ℕ} (names groups : List ℕ) (N : length names ≡ n) where
+  halves : (all_below n (own_name names) && same_list groups (group_list names)) ≡ names_pass names groups
   unfolding names_pass
-  halves = rw (numbers_long w names n)
+  halves = rw N
 
-  unlisted : same_list (numbers w groups k) (group_list (numbers w names n)) ≡ false → false ≡ names_pass (numbers w names n) (numbers w groups k)
-  unlisted f = sym (rw f (and-false (all_below n (own_name (numbers w names n))))) ∙ halves
+  unlisted : same_list groups (group_list names) ≡ false → false ≡ names_pass names groups
+  unlisted f = sym (rw f (and-false (all_below n (own_name names)))) ∙ halves
 
-module _ {w n k : ℕ} {names groups : List ℕ} (N : Holds w names n) (G : Holds w groups k) {v p : ℕ} (L : Listed (numbers w names n) (numbers w groups k) n k v p) where
+module _ {n k v p : ℕ} (names groups : List ℕ) (N : length names ≡ n) (L : Listed names groups n k v p) where
   -- at a vertex, of whose name a function tells r, and its caller asks `!r`
-  module _ {r : Bool} (low : v < n) (told : r ≡ own_name (numbers w names n) v) where
-    pub listed_wrong : not r ≡ true → false ≡ names_pass (numbers w names n) (numbers w groups k)
-    listed_wrong f = rw (← (passed_not L.owned low told f)) at (halves w n k names groups)
+  module _ {r : Bool} (low : v < n) (told : r ≡ own_name names v) where
+    pub listed_wrong : not r ≡ true → false ≡ names_pass names groups
+    listed_wrong f = rw (← (passed_not L.owned low told f)) at (halves names groups N)
 
-    module _ (right : not r ≡ false) {x : ℕ} (read : x ≡ num_at w names v) where
-      pub listed_skip : (x ≡ v → ⊥) → Listed (numbers w names n) (numbers w groups k) n k (v + 1) p
+    module _ (right : not r ≡ false) {x : ℕ} (read : x ≡ get_or names v 0) where
+      pub listed_skip : (x ≡ v → ⊥) → Listed names groups n k (v + 1) p
       listed_skip f = record {
         long = L.long;
         owned = passed_more L.owned low told right;
         held = L.held;
-        same =
-            rw (next n v low, those_no (own (numbers w names n)) v (drop (v + 1) (upto n)) (rw (← (was_read N low read)) (ne_eqb x v f))) at L.same;
+        same = rw (next n v low, those_no (own names) v (drop (v + 1) (upto n)) (rw (← read) (ne_eqb x v f))) at L.same;
       }
 
       -- that is a name
       module _ (t : x ≡ v) where
-        here : same_list (drop p (numbers w groups k)) (v ∷ those (own (numbers w names n)) (drop (v + 1) (upto n))) ≡ same_list (numbers w groups k) (group_list (numbers w names n))
-        here =
-            rw (next n v low, those_yes (own (numbers w names n)) v (drop (v + 1) (upto n)) (rw (← (was_read N low read)) (eq-eqb x v t))) at L.same
+        here : same_list (drop p groups) (v ∷ those (own names) (drop (v + 1) (upto n))) ≡ same_list groups (group_list names)
+        here = rw (next n v low, those_yes (own names) v (drop (v + 1) (upto n)) (rw (← read) (eq-eqb x v t))) at L.same
 
-        pub listed_over : p ≡ k → false ≡ names_pass (numbers w names n) (numbers w groups k)
-        listed_over e = unlisted w n k names groups (sym (rw (drop_of_length-le (numbers w groups k) {i = p} (omega (arith, L.long))) at here))
+        pub listed_over : p ≡ k → false ≡ names_pass names groups
+        listed_over e = unlisted names groups N (sym (rw (drop_of_length-le groups {i = p} (omega (arith, L.long))) at here))
 
-        module _ {y : ℕ} (room : p < k) (beside : y ≡ num_at w groups p) where
-          there : drop p (numbers w groups k) ≡ y ∷ drop (suc p) (numbers w groups k)
-          there =
-              drop-cons (numbers w groups k) p 0 (omega (arith, L.long))
-              ∙ ap (λ (z : ℕ). z ∷ drop (suc p) (numbers w groups k)) (sym (was_read G room beside))
+        module _ {y : ℕ} (room : p < k) (beside : y ≡ get_or groups p 0) where
+          there : drop p groups ≡ y ∷ drop (suc p) groups
+          there = drop-cons groups p 0 (omega (arith, L.long)) ∙ ap (λ (z : ℕ). z ∷ drop (suc p) groups) (sym beside)
 
-          pub listed_next : y ≡ v → Listed (numbers w names n) (numbers w groups k) n k (v + 1) (p + 1)
+          pub listed_next : y ≡ v → Listed names groups n k (v + 1) (p + 1)
           listed_next e = record {
             long = L.long;
             owned = passed_more L.owned low told right;
@@ -103,12 +95,11 @@ module _ {w n k : ℕ} {names groups : List ℕ} (N : Holds w names n) (G : Hold
             same = rw (add-one p) (rw (there, eq-eqb y v e) at here);
           }
 
-          pub listed_other : (y ≡ v → ⊥) → false ≡ names_pass (numbers w names n) (numbers w groups k)
-          listed_other f = unlisted w n k names groups (sym (rw (there, ne_eqb y v f) at here))
+          pub listed_other : (y ≡ v → ⊥) → false ≡ names_pass names groups
+          listed_other f = unlisted names groups N (sym (rw (there, ne_eqb y v f) at here))
 
-  pub listed_all : n ≤ v → eqb p k ≡ names_pass (numbers w names n) (numbers w groups k)
+  pub listed_all : n ≤ v → eqb p k ≡ names_pass names groups
   listed_all h =
       let done : drop v (upto n) ≡ [] = drop_of_length-le (upto n) {i = v} (omega (arith, length_upto n)) in
-      let left : same_list (drop p (numbers w groups k)) [] ≡ same_list (numbers w groups k) (group_list (numbers w names n)) = rw done at L.same in
-      ap (eqb p) (sym L.long) ∙ sym (none_left (numbers w groups k) p (omega (arith, L.long, L.held))) ∙ left
-      ∙ (rw (← (passed_all L.owned h)) at (halves w n k names groups))
+      let left : same_list (drop p groups) [] ≡ same_list groups (group_list names) = rw done at L.same in
+      ap (eqb p) (sym L.long) ∙ sym (none_left groups p (omega (arith, L.long, L.held))) ∙ left ∙ (rw (← (passed_all L.owned h)) at (halves names groups N))

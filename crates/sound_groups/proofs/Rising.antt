@@ -1,22 +1,17 @@
 -- A row gone through from its first child on: those passed are places, strictly rising, and the next is at least one more than the last.
 use mathlib.Core.Bool.{Bool, false, ◌&&◌, and-false}
-use mathlib.Core.Path.{◌≡◌, refl, ap}
+use mathlib.Core.Path.{◌≡◌, ap}
 use mathlib.Core.List.{List, []}
 use Prim.Native.Nat.{ℕ, zero, suc, ◌+◌, ◌-◌, ◌≤◌, ◌<◌}
 use native.Mathlib.Omega.{arith}
 use native.Mathlib.Numerals.{add-one}
 use lib.Dec.{ltb}
-use lib.ListN.{get_or}
+use lib.ListN.{length, get_or}
 use borrow.Author.Tests.{lt-ltb, le-ltb}
 use Rattle.lineage.specs.Lists.{all_below}
-use Rattle.lineage.specs.Numbers.{num_at}
 use Rattle.lineage.specs.Sound.{row_passes}
 use Rattle.laws.proofs.Lists.{all_broken}
-use Rattle.laws.proofs.Passed.{Passed, passed_none, passed_next, passed_all}
-use Rattle.stored.specs.Sections.{children_in}
-use Rattle.stored.proofs.Sections.{children_long}
-use Rattle.stored.specs.Rows.{Row, Children}
-use Rattle.stored.proofs.Row.{row_has, child_was}
+use Rattle.laws.proofs.Passed.{Passed, passed_next, passed_all}
 
 -- child i is a place
 abbrev low_at : ℕ → List ℕ → ℕ → Bool
@@ -37,9 +32,6 @@ pub record Rising (k : ℕ) (row : List ℕ) (len i next : ℕ) : Type 0 where
   pub rises : Passed (rises_at row) (len - 1) (i - 1)
   pub follows : next ≡ least_at row i
 
-pub rising_none : (k : ℕ) (row : List ℕ) (len : ℕ) → Rising k row len 0 0
-rising_none k row len = record { low = passed_none (low_at k row) len; rises = passed_none (rises_at row) (len - 1); follows = refl }
-
 -- one more has risen
 step : {k : ℕ} {row : List ℕ} {len next : ℕ} (i : ℕ) {q : ℕ} → Rising k row len i next → i < len → q ≡ get_or row i 0 → next ≤ q → Passed (rises_at row) (len - 1) i
 step zero N h e l = N.rises
@@ -55,36 +47,29 @@ slip zero N h e l = absurd (omega (arith, N.follows))
 slip {row = row} {len = len} (suc i) N h e l =
     all_broken (rises_at row) (len - 1) i (omega arith) (le-ltb (get_or row i 0) (get_or row (suc i) 0) (omega (arith, N.follows)))
 
--- the row of group p, from what was read; b is what is asked after it
-module _ {w k c p from len : ℕ} {starts children : List ℕ} (K : Children w starts children k c) (R : Row w starts k c p from len) where
-  abbrev row : List ℕ
-  row = get_or (children_in w starts children k c) p []
+-- what was read is the row of group p; b is what is asked after it
+module _ {row : List ℕ} {k len : ℕ} (rows : List (List ℕ)) (p : ℕ) (long : length rows ≡ k) (is : row ≡ get_or rows p []) (has : length row ≡ len) where
+  passes_is : (all_below len (low_at k row) && all_below (len - 1) (rises_at row)) ≡ row_passes rows p
+  passes_is = rw (← is, has, long)
 
-  passes_is : (all_below len (low_at k row) && all_below (len - 1) (rises_at row)) ≡ row_passes (children_in w starts children k c) p
-  passes_is = rw (row_has K R, children_long w starts children k c)
-
-  broken : (b : Bool) → (all_below len (low_at k row) && all_below (len - 1) (rises_at row)) ≡ false → false ≡ (row_passes (children_in w starts children k c) p && b)
+  broken : (b : Bool) → (all_below len (low_at k row) && all_below (len - 1) (rises_at row)) ≡ false → false ≡ (row_passes rows p && b)
   broken b f = rw (← passes_is, f)
 
-  module _ {i next q : ℕ} (N : Rising k (get_or (children_in w starts children k c) p []) len i next) (h : i < len) (read : q ≡ num_at w children (from + i)) where
-    e : q ≡ get_or row i 0
-    e = child_was K R h read
-
-    pub rising_more : q < k → next ≤ q → Rising k (get_or (children_in w starts children k c) p []) len (i + 1) (q + 1)
-    rising_more l g = record {
-      low = passed_next N.low h (rw (← e) (lt-ltb q k l));
-      rises = let z : i + 1 - 1 ≡ i = omega arith in rw z (step i N h e g);
-      follows = rw (add-one i, add-one q) (ap suc e);
-    }
-
-    pub rising_high : (b : Bool) → k ≤ q → false ≡ (row_passes (children_in w starts children k c) p && b)
+  module _ {i next q : ℕ} (N : Rising k row len i next) (h : i < len) (e : q ≡ get_or row i 0) where
+    pub rising_high : (b : Bool) → k ≤ q → false ≡ (row_passes rows p && b)
     rising_high b l = broken b (rw (all_broken (low_at k row) len i h (rw (← e) (le-ltb q k l))))
 
-    pub rising_back : (b : Bool) → q < next → false ≡ (row_passes (children_in w starts children k c) p && b)
+    pub rising_back : (b : Bool) → q < next → false ≡ (row_passes rows p && b)
     rising_back b l = broken b (rw (slip i N h e l) (and-false (all_below len (low_at k row))))
 
-  pub rising_all : {i next : ℕ} {a b : Bool} → Rising k (get_or (children_in w starts children k c) p []) len i next → len ≤ i → a ≡ b
-      → a ≡ (row_passes (children_in w starts children k c) p && b)
+  pub rising_all : {i next : ℕ} {a b : Bool} → Rising k row len i next → len ≤ i → a ≡ b → a ≡ (row_passes rows p && b)
   rising_all {i} N l t =
       let all : i ≡ len = omega (arith, N.low.within) in
       rw (← passes_is, ← (passed_all N.low l), ← (passed_all N.rises (omega arith))) t
+
+pub rising_more : {k len i next q : ℕ} {row : List ℕ} → Rising k row len i next → i < len → q ≡ get_or row i 0 → q < k → next ≤ q → Rising k row len (i + 1) (q + 1)
+rising_more {k} {len} {i} {next} {q} N h e l g = record {
+  low = passed_next N.low h (rw (← e) (lt-ltb q k l));
+  rises = let z : i + 1 - 1 ≡ i = omega arith in rw z (step i N h e g);
+  follows = rw (add-one i, add-one q) (ap suc e);
+}

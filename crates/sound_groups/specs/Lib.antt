@@ -1,3 +1,2 @@
--- What the tests of names, group list, child starts, children and levels compute, and what they ask of the stretches that they are lent.
-pub mod Fit
+-- What the tests of names, group list, child starts, children and levels compute.
 pub mod Tests

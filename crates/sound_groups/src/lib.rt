@@ -4,111 +4,93 @@
 
 ghost use Rattle.std.specs.Prelude.{◌&&◌, ◌≡◌, ◌+◌, ◌<◌};
 ghost use Rattle.lineage.specs.Lists.{all_below};
-ghost use Rattle.lineage.specs.Numbers.{numbers};
 ghost use Rattle.lineage.specs.Sound.{names_pass, starts_pass, groups_pass};
 ghost use Rattle.stored.specs.Sections.{children_in};
-ghost use Rattle.stored.specs.Rows.{Holds, Starts, Children};
-ghost use Rattle.sound_groups.specs.Fit.{Groups};
+ghost use Rattle.stored.specs.Reading.{numbers_of, rows_of};
 ghost use Rattle.sound_groups.specs.Tests.{own_name, row_and_level};
 
-use numbers::num;
-use stored::rows::row_span;
+use stored::reading::{Numbers, Rows};
 
 // Whether the name of v is not above v and is its own name.
-fn own_name(names: &[u8], w: usize, n: usize, v: usize) -> bool
-    requires holds { Holds w names.now n }
-    requires v_lt_n { v < n }
-    ensures { result ≡ own_name (numbers w names.now n) v }
+fn own_name(names: &Numbers, v: usize) -> bool
+    requires { v < names.now.len }
+    ensures { result ≡ own_name (numbers_of names.now) v }
 {
-    let name = num(names, w, v);
+    let name = names.get(v);
     if v < name {
         return false;
     }
-    num(names, w, name) == name
+    names.get(name) == name
 }
 
-// Whether every name is not above its vertex and is its own name, and the group list, k names, is all names, rising.
-fn names_pass(names: &[u8], groups: &[u8], w: usize, n: usize, k: usize) -> bool
-    requires holds { Holds w names.now n }
-    requires holds_2 { Holds w groups.now k }
-    ensures { result ≡ names_pass (numbers w names.now n) (numbers w groups.now k) }
+// Whether every name is not above its vertex and is its own name, and the group list is all names, rising.
+fn names_pass(names: &Numbers, groups: &Numbers) -> bool
+    ensures { result ≡ names_pass (numbers_of names.now) (numbers_of groups.now) }
 {
     let mut p = 0;
-    for v in 0..n {
-        if !own_name(names, w, n, v) {
+    for v in 0..names.len {
+        if !own_name(names, v) {
             return false;
         }
-        if num(names, w, v) == v {
-            if p == k {
+        if names.get(v) == v {
+            if p == groups.len {
                 return false;
             }
-            if num(groups, w, p) != v {
+            if groups.get(p) != v {
                 return false;
             }
             p += 1;
         }
     }
-    p == k
+    p == groups.len
 }
 
-// Whether the child starts are first 0, never falling, last c.
-fn starts_pass(starts: &[u8], w: usize, k: usize, c: usize) -> bool
-    requires { Starts w starts.now k }
-    ensures { result ≡ starts_pass (numbers w starts.now (k + 1)) k c }
+// Whether the child starts of k groups are first 0, never falling, last c.
+fn starts_pass(starts: &Numbers, k: usize, c: usize) -> bool
+    requires { starts.now.len ≡ k + 1 }
+    ensures { result ≡ starts_pass (numbers_of starts.now) k c }
 {
-    if num(starts, w, 0) != 0 {
+    if starts.get(0) != 0 {
         return false;
     }
     for p in 0..k {
-        if num(starts, w, p + 1) < num(starts, w, p) {
+        if starts.get(p + 1) < starts.get(p) {
             return false;
         }
     }
-    num(starts, w, k) == c
+    starts.get(k) == c
 }
 
 // Whether the children of group p are places, strictly rising, and its level is what they give.
-fn row_passes(
-    starts: &[u8],
-    children: &[u8],
-    levels: &[u8],
-    w: usize,
-    k: usize,
-    c: usize,
-    p: usize,
-) -> bool
-    requires children { Children w starts.now children.now k c }
-    requires holds { Holds w levels.now k }
-    requires p_lt_k { p < k }
-    ensures { result ≡ row_and_level (children_in w starts.now children.now k c) (numbers w levels.now k) p }
+fn row_passes(rows: &Rows, levels: &Numbers, p: usize) -> bool
+    requires levels_as_rows { levels.now.len ≡ rows.now.k }
+    requires p_lt_k { p < rows.now.k }
+    ensures { result ≡ row_and_level (rows_of rows.now) (numbers_of levels.now) p }
 {
-    let row = row_span(starts, w, k, c, p);
-    let from = row.from;
-    let len = row.len;
+    let row = rows.row(p);
     let mut next = 0;
     let mut level = 0;
-    for i in 0..len {
-        let q = num(children, w, from + i);
-        if k <= q {
+    for i in 0..row.len {
+        let q = row.get(i);
+        if rows.k <= q {
             return false;
         }
         if q < next {
             return false;
         }
         next = q + 1;
-        level = level.max(num(levels, w, q) + 1);
+        level = level.max(levels.get(q) + 1);
     }
-    num(levels, w, p) == level
+    levels.get(p) == level
 }
 
 // Whether the children of every group are places, strictly rising, and the level of every group is what they give.
-fn rows_pass(starts: &[u8], children: &[u8], levels: &[u8], w: usize, k: usize, c: usize) -> bool
-    requires children { Children w starts.now children.now k c }
-    requires holds { Holds w levels.now k }
-    ensures { result ≡ all_below k (row_and_level (children_in w starts.now children.now k c) (numbers w levels.now k)) }
+fn rows_pass(rows: &Rows, levels: &Numbers) -> bool
+    requires levels_as_rows { levels.now.len ≡ rows.now.k }
+    ensures { result ≡ all_below rows.now.k (row_and_level (rows_of rows.now) (numbers_of levels.now)) }
 {
-    for p in 0..k {
-        if !row_passes(starts, children, levels, w, k, c, p) {
+    for p in 0..rows.k {
+        if !row_passes(rows, levels, p) {
             return false;
         }
     }
@@ -117,26 +99,31 @@ fn rows_pass(starts: &[u8], children: &[u8], levels: &[u8], w: usize, k: usize, 
 
 // Whether names, group list, child starts, children and levels agree.
 pub fn groups_pass(
-    names: &[u8],
-    groups: &[u8],
-    levels: &[u8],
-    starts: &[u8],
-    children: &[u8],
-    w: usize,
-    n: usize,
-    k: usize,
-    c: usize,
+    names: &Numbers,
+    groups: &Numbers,
+    levels: &Numbers,
+    starts: &Numbers,
+    children: &Numbers,
 ) -> bool
-    requires { Groups w n k c names.now groups.now levels.now starts.now children.now }
-    ensures { result ≡ (starts_pass (numbers w starts.now (k + 1)) k c
-        && groups_pass (numbers w names.now n) (numbers w groups.now k) (numbers w levels.now k)
-        (children_in w starts.now children.now k c)) }
+    requires levels_many { levels.now.len ≡ groups.now.len }
+    requires starts_many { starts.now.len ≡ groups.now.len + 1 }
+    requires width_same { starts.now.width ≡ children.now.width }
+    ensures { result ≡ (starts_pass (numbers_of starts.now) groups.now.len children.now.len
+        && groups_pass (numbers_of names.now) (numbers_of groups.now) (numbers_of levels.now)
+        (children_in children.now.width starts.now.bytes.now children.now.bytes.now groups.now.len children.now.len)) }
 {
-    if !starts_pass(starts, w, k, c) {
+    if !starts_pass(starts, groups.len, children.len) {
         return false;
     }
-    if !names_pass(names, groups, w, n, k) {
+    if !names_pass(names, groups) {
         return false;
     }
-    rows_pass(starts, children, levels, w, k, c)
+    let rows = Rows {
+        starts: starts.bytes,
+        children: children.bytes,
+        width: children.width,
+        k: groups.len,
+        c: children.len,
+    };
+    rows_pass(&rows, levels)
 }

@@ -9,21 +9,21 @@ use Rattle.lineage.specs.Sound.{labels_pass}
 use Rattle.numbers.specs.Regions.{Part}
 use Rattle.stored.specs.Sections.{labelling_in, Labellings, tuples_of, places_of, labels_in}
 use Rattle.stored.proofs.Held.{tuples_few}
-use Rattle.sound_ranks.specs.Fit.{Labels}
-use Rattle.sound_labels.specs.Tests.{labelling_passes}
+use Rattle.sound_ranks.specs.Fit.{LabellingHeld}
+use Rattle.sound_labels.specs.Tests.{labelling_number, labelling_passes}
 
-module _ {w z k d : ℕ} {labels tuples places : List ℕ} (D : Labellings w z labels k d) (j : ℕ)
+module _ {w z y k d : ℕ} {labels tuples places : List ℕ} (D : Labellings w z labels k d) (same : z ≡ y) (j : ℕ)
     (T : Part labels (w * (j * ((z + 1) * k))) (w * (z * k)) tuples) (P : Part labels (w * (j * ((z + 1) * k) + z * k)) (w * k) places)
   where
-    pub labels_held : Labels w z tuples places k
-    labels_held = record {
+    held : LabellingHeld w z tuples places k
+    held = record {
       tuples_held = record { stride = D.stride; held = record { width = D.width; long = omega (arith, T.long); few = omega (arith, tuples_few D) } };
       places_held = record { width = D.width; long = omega (arith, P.long); few = omega (arith, D.groups_few) };
     }
 
-    pub labelling_is : (children : List (List ℕ)) → labels_pass children (labelling_in w z tuples places k) ≡ labelling_passes w z children labels k j
+    pub labelling_is : labelling_in w y tuples places k ≡ labelling_number w z labels k j
     unfolding tuples_of places_of
-    labelling_is children = rw (T.is, P.is)
+    labelling_is = rw (← same, T.is, P.is)
 
 -- all of a list, one more at its end
 all_append : {A : Type 0} (test : A → Bool) (xs : List A) (x : A) → all_of test (xs ++ (x ∷ [])) ≡ (all_of test xs && test x)

@@ -5,96 +5,75 @@
 ghost use Rattle.std.specs.Prelude.{not, ◌&&◌, ◌||◌, ◌≡◌, ◌≤◌, ◌<◌, eqb, length};
 ghost use Rattle.lineage.specs.Lists.{all_of, cleared};
 ghost use Rattle.lineage.specs.Sound.{is_tree, labels_pass};
-ghost use Rattle.stored.specs.Sections.{children_in, labelling_in, Labellings, labels_in};
-ghost use Rattle.stored.specs.Rows.{Places};
-ghost use Rattle.sound_ranks.specs.Fit.{Labels};
+ghost use Rattle.stored.specs.Sections.{labels_in};
+ghost use Rattle.stored.specs.Reading.{rows_of};
+ghost use Rattle.sound_ranks.specs.Reading.{labelling_read};
 ghost use Rattle.sound_blocks.specs.Marks.{Tells};
-ghost use Rattle.sound_labels.specs.Tests.{labelling_passes};
+ghost use Rattle.sound_labels.specs.Tests.{labelling_number, labelling_passes};
 
 use numbers::clear_marks;
-use sound_blocks::{intervals_pass, roots_pass};
+use sound_blocks::{RankedLabelling, intervals_pass, roots_pass};
 use sound_parents::parents_pass;
 use sound_ranks::ranks_pass;
+use sound_ranks::reading::{OneLabelling, PlacedRows};
+use stored::reading::{Labels, Numbers};
 
-// Whether one labelling is by the rules over the children, marks telling who is nobody's child. Triples and pairs are asked apart: so the machine multiplies by a number
-// that it knows, and the test of intervals stays a function of its own, whose loops have the registers to themselves.
-fn labels_pass(
-    starts: &[u8],
-    children: &[u8],
-    tuples: &[u8],
-    places: &[u8],
-    marks: &[u8],
-    w: usize,
-    z: usize,
-    k: usize,
-    c: usize,
-) -> bool
-    requires places { Places w starts.now children.now k c }
-    requires labels { Labels w z tuples.now places.now k }
-    requires tells { Tells (children_in w starts.now children.now k c) marks.now k }
-    ensures { result ≡ labels_pass (children_in w starts.now children.now k c) (labelling_in w z tuples.now places.now k) }
+// Whether one labelling is by the rules over the children, marks telling who is nobody's child.
+fn labels_pass<const Z: usize>(rows: &PlacedRows, labelling: &OneLabelling<Z>, marks: &[u8]) -> bool
+    requires k_same { rows.now.rows.k ≡ labelling.now.k }
+    requires tells { Tells (rows_of rows.now.rows) marks.now rows.now.rows.k }
+    ensures { result ≡ labels_pass (rows_of rows.now.rows) (labelling_read Z labelling.now) }
 {
-    if z == 3 {
-        if !ranks_pass(tuples, places, w, 3, k) {
-            return false;
-        }
-        if !intervals_pass(starts, children, tuples, places, w, 3, k, c) {
-            return false;
-        }
-        return roots_pass(tuples, places, marks, w, 3, k);
-    }
-    if !ranks_pass(tuples, places, w, 2, k) {
+    if !ranks_pass(labelling) {
         return false;
     }
-    if !intervals_pass(starts, children, tuples, places, w, 2, k, c) {
+    let ranked = RankedLabelling {
+        labelling: *labelling,
+    };
+    if !intervals_pass(rows, &ranked) {
         return false;
     }
-    roots_pass(tuples, places, marks, w, 2, k)
+    roots_pass(&ranked, marks)
 }
 
-// Whether labelling j of d is by the rules over the children.
-fn labelling_passes(
-    starts: &[u8],
-    children: &[u8],
-    labels: &[u8],
-    marks: &[u8],
-    w: usize,
-    z: usize,
-    k: usize,
-    c: usize,
-    d: usize,
-    j: usize,
-) -> bool
-    requires places { Places w starts.now children.now k c }
-    requires labellings { Labellings w z labels.now k d }
-    requires tells { Tells (children_in w starts.now children.now k c) marks.now k }
-    requires j_lt_d { j < d }
-    ensures { result ≡ labelling_passes w z (children_in w starts.now children.now k c) labels.now k j }
+// Labelling j, in triples or in pairs as Z says.
+fn labelling<'a, const Z: usize>(labels: &Labels<'a>, j: usize) -> OneLabelling<'a, Z>
+    requires z_same { labels.now.z ≡ Z }
+    requires j_lt_d { j < labels.now.d }
+    ensures k_same { result.k ≡ labels.now.k }
+    ensures labelling_same { labelling_read Z result ≡ labelling_number labels.now.width labels.now.z labels.now.bytes.now labels.now.k j }
 {
-    let tuples = stored::parts::tuples(labels, w, z, k, d, j);
-    let places = stored::parts::by_rank(labels, w, z, k, d, j);
-    labels_pass(starts, children, tuples, places, marks, w, z, k, c)
+    OneLabelling {
+        tuples: labels.tuples(j),
+        places: labels.by_rank(j),
+        width: labels.width,
+        k: labels.k,
+    }
 }
 
-// Whether each of d labellings is by the rules over the children.
-fn labellings_pass(
-    starts: &[u8],
-    children: &[u8],
-    labels: &[u8],
-    marks: &[u8],
-    w: usize,
-    z: usize,
-    k: usize,
-    c: usize,
-    d: usize,
-) -> bool
-    requires places { Places w starts.now children.now k c }
-    requires labellings { Labellings w z labels.now k d }
-    requires tells { Tells (children_in w starts.now children.now k c) marks.now k }
-    ensures { result ≡ all_of (labels_pass (children_in w starts.now children.now k c)) (labels_in w z labels.now k d) }
+// Whether labelling j is by the rules over the children.
+fn labelling_passes(rows: &PlacedRows, labels: &Labels, marks: &[u8], j: usize) -> bool
+    requires k_same { rows.now.rows.k ≡ labels.now.k }
+    requires tells { Tells (rows_of rows.now.rows) marks.now rows.now.rows.k }
+    requires j_lt_d { j < labels.now.d }
+    ensures { result ≡ labelling_passes labels.now.width labels.now.z (rows_of rows.now.rows) labels.now.bytes.now labels.now.k j }
 {
-    for j in 0..d {
-        if !labelling_passes(starts, children, labels, marks, w, z, k, c, d, j) {
+    if labels.z == 3 {
+        let triples = labelling::<3>(labels, j);
+        return labels_pass(rows, &triples, marks);
+    }
+    let pairs = labelling::<2>(labels, j);
+    labels_pass(rows, &pairs, marks)
+}
+
+// Whether each labelling is by the rules over the children.
+fn labellings_pass(rows: &PlacedRows, labels: &Labels, marks: &[u8]) -> bool
+    requires k_same { rows.now.rows.k ≡ labels.now.k }
+    requires tells { Tells (rows_of rows.now.rows) marks.now rows.now.rows.k }
+    ensures { result ≡ all_of (labels_pass (rows_of rows.now.rows)) (labels_in labels.now.width labels.now.z labels.now.bytes.now labels.now.k labels.now.d) }
+{
+    for j in 0..labels.d {
+        if !labelling_passes(rows, labels, marks, j) {
             return false;
         }
     }
@@ -103,27 +82,20 @@ fn labellings_pass(
 
 // The same, whatever the marks hold; and where labels are in pairs, whether no group is a child of two others. Meanwhile the marks tell who is somebody's child, and those
 // below n are 0 afterwards.
-pub fn labels_sound(
-    starts: &[u8],
-    children: &[u8],
-    labels: &[u8],
-    marks: &mut [u8],
-    w: usize,
-    z: usize,
-    n: usize,
-    k: usize,
-    c: usize,
-    d: usize,
-) -> bool
-    requires places { Places w starts.now children.now k c }
-    requires labellings { Labellings w z labels.now k d }
-    requires k_le_n { (k ≤ n) × (n ≤ length marks.old) }
-    ensures value { result ≡ (all_of (labels_pass (children_in w starts.now children.now k c)) (labels_in w z labels.now k d)
-        && (not (eqb z 2) || is_tree (children_in w starts.now children.now k c))) }
+pub fn labels_sound(rows: &PlacedRows, labels: &Labels, marks: &mut [u8], n: usize) -> bool
+    requires k_same { rows.now.rows.k ≡ labels.now.k }
+    requires k_le_n { (rows.now.rows.k ≤ n) × (n ≤ length marks.old) }
+    ensures value { result ≡ (all_of (labels_pass (rows_of rows.now.rows)) (labels_in labels.now.width labels.now.z labels.now.bytes.now labels.now.k labels.now.d)
+        && (not (eqb labels.now.z 2) || is_tree (rows_of rows.now.rows))) }
     ensures marks_after { marks.new ≡ cleared n marks.old }
 {
-    let single = parents_pass(children, marks, w, z, n, k, c);
-    let passed = labellings_pass(starts, children, labels, marks, w, z, k, c, d);
+    let children = Numbers {
+        bytes: rows.rows.children,
+        width: rows.rows.width,
+        len: rows.rows.c,
+    };
+    let single = parents_pass(&children, marks, labels.z, n, rows.rows.k);
+    let passed = labellings_pass(rows, labels, marks);
     clear_marks(marks, n);
     passed & single
 }

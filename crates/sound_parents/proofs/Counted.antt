@@ -22,9 +22,6 @@ pub record Counting (qs first : List ℕ) (j : ℕ) (marks : List ℕ) : Type 0 
   pub long : length marks ≡ length first
   pub ahead : count_all (drop j qs) marks ≡ count_all qs first
 
-pub counting_none : (qs first : List ℕ) → Counting qs first 0 first
-counting_none qs first = record { long = refl; ahead = refl }
-
 module _ {qs first marks : List ℕ} {j : ℕ} (K : Counting qs first j marks) where
   pub counting_more : {q x : ℕ} → j < length qs → q ≡ get_or qs j 0 → x ≡ one_more (get_or marks q 0) → Counting qs first (j + 1) (set marks q x)
   counting_more {q} {x} h e t =

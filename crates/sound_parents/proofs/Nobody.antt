@@ -10,19 +10,20 @@ use lib.ListN.{length, get_or}
 use borrow.Author.Tests.{eq-eqb}
 use Rattle.lineage.specs.Lists.{among, position, joined, cleared}
 use Rattle.lineage.specs.Labels.{nobodys_child}
-use Rattle.lineage.specs.Numbers.{num_at, numbers}
-use Rattle.laws.proofs.Lists.{in_get_d, position_low, at_position}
+use Rattle.lineage.specs.Numbers.{numbers}
+use Rattle.laws.proofs.Positions.{in_get_d, position_low, at_position}
 use Rattle.laws.proofs.Joined.{joined_in}
 use Rattle.laws.proofs.Starts.{pass_laid, rows_joined}
 use Rattle.numbers.specs.Marks.{mark_all}
 use Rattle.numbers.proofs.Marks.{marks_long}
 use Rattle.numbers.proofs.Cleared.{cleared_long, cleared_at}
-use Rattle.numbers.proofs.Numbers.{numbers_long, numbers_at}
+use Rattle.numbers.proofs.Numbers.{numbers_long}
 use Rattle.stored.specs.Sections.{children_in}
 use Rattle.stored.proofs.Sections.{children_long}
 use Rattle.stored.specs.Rows.{Places}
 use Rattle.stored.proofs.Row.{row_low}
 use Rattle.sound_blocks.specs.Marks.{unmarked, Tells}
+use Rattle.sound_parents.specs.Fit.{Within}
 use Rattle.sound_parents.specs.Told.{count_all, tell_all}
 use Rattle.sound_parents.proofs.Marks.{marked_at, marked_cleared}
 use Rattle.sound_parents.proofs.Counted.{counts_long, counted_at, counted_cleared}
@@ -45,9 +46,8 @@ module _ {w k c : ℕ} {starts children : List ℕ} (P : Places w starts childre
       let low : p < k = omega (arith, children_long w starts children k c) in
       rw (at_position x (get_or rows p []) j) at (row_low P low (position x (get_or rows p [])) (position_low x (get_or rows p []) j))
 
-  pub entry_low : (j : ℕ) → j < c → num_at w children j < k
-  entry_low j h =
-      omega (arith, member_low (get_or entries j 0) (in_get_d entries j (omega (arith, numbers_long w children c))), numbers_at w children c j h)
+  pub entries_within : Within entries k
+  entries_within = record { low = λ j h. member_low (get_or entries j 0) (in_get_d entries j h) }
 
   -- marks cleared, then told of the child entries, tell who is nobody's child; cleared again, they are as cleared at first
   module _ {n : ℕ} (z : ℕ) (first : List ℕ) {told : List ℕ} (small : k ≤ n) (room : n ≤ length first) (told_is : told ≡ tell_all z entries (cleared n first)) where

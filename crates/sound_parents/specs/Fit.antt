@@ -1,9 +1,6 @@
 -- What is asked of the child entries before they are marked.
-use Rattle.std.specs.Prelude.{List, ℕ, ◌<◌}
-use Rattle.lineage.specs.Numbers.{num_at}
-use Rattle.stored.specs.Rows.{Holds}
+use Rattle.std.specs.Prelude.{List, ℕ, ◌<◌, length, get_or}
 
 -- child entries within the marks
-pub record Within (w : ℕ) (children : List ℕ) (c room : ℕ) : Type 0 where
-  pub held : Holds w children c
-  pub low : (j : ℕ) → j < c → num_at w children j < room
+pub record Within (entries : List ℕ) (room : ℕ) : Type 0 where
+  pub low : (j : ℕ) → j < length entries → get_or entries j 0 < room

@@ -2,3 +2,4 @@
 pub mod Lent
 pub mod Vertices
 pub mod Triples
+pub mod Images

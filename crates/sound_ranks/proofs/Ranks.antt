@@ -2,33 +2,19 @@
 -- of all places have passed where those at all ranks have.
 use mathlib.Core.Bool.{Bool, true, false, ◌&&◌, cond}
 use mathlib.Core.Path.{◌≡◌, refl, sym, ◌∙◌}
-use mathlib.Core.List.{List}
-use Prim.Native.Nat.{ℕ, suc, ◌+◌, ◌-◌, ◌*◌, ◌≤◌, ◌<◌}
+use Prim.Native.Nat.{ℕ, suc, ◌≤◌, ◌<◌}
 use native.Mathlib.Omega.{arith}
-use native.Mathlib.Numerals.{add-one}
-use lib.Dec.{eqb, leb, ltb}
+use lib.Dec.{eqb, ltb}
 use lib.ListN.{length, get_or}
-use borrow.Author.Tests.{lt-ltb, le-ltb, ltb-true, eqb-true}
+use borrow.Author.Tests.{ltb-true, eqb-true}
 use Rattle.lineage.specs.Lists.{all_below}
 use Rattle.lineage.specs.Labels.{Labelling}
-use Rattle.lineage.specs.Numbers.{num_at}
 use Rattle.lineage.specs.Sound.{rank_passes, inner_passes}
 use Rattle.laws.proofs.Inverse.{rank_most}
 use Rattle.laws.proofs.Lists.{all_from, all_below_lem}
 use Rattle.laws.proofs.Tests.{and_left, and_right, is_false, clash}
-use Rattle.stored.specs.Sections.{labelling_in}
 use Rattle.sound_groups.proofs.Both.{both_below}
-use Rattle.sound_ranks.specs.Fit.{Labels}
 use Rattle.sound_ranks.specs.Tests.{rank_and_inner}
-use Rattle.sound_ranks.proofs.Read.{m_was, e_was, place_was}
-
-module _ {w z k : ℕ} {tuples places : List ℕ} (L : Labels w z tuples places k) {r p : ℕ} (low : r < k) (read : p ≡ num_at w places r) where
-  pub rank_beyond : k ≤ p → false ≡ rank_and_inner k (labelling_in w z tuples places k) r
-  rank_beyond h = rw (← (place_was L low read), le-ltb p k h)
-
-  pub rank_is : {m e : ℕ} → p < k → m ≡ num_at w tuples (z * p + (z - 2)) → e ≡ num_at w tuples (z * p + (z - 1))
-      → (eqb e (r + 1) && (leb 1 m && leb m e)) ≡ rank_and_inner k (labelling_in w z tuples places k) r
-  rank_is h im ie = rw (add-one r, ← (place_was L low read), lt-ltb p k h, ← (m_was L.tuples_held places h im), ← (e_was L.tuples_held places h ie))
 
 module _ (k : ℕ) (l : Labelling) where
   abbrev at : ℕ → ℕ

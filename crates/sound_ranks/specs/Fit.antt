@@ -1,7 +1,7 @@
 -- What is asked of the stretches of one labelling before they are tested.
 use Rattle.std.specs.Prelude.{List, ℕ, ◌*◌}
 use Rattle.stored_header.specs.Header.{Stride}
-use Rattle.stored.specs.Rows.{Holds, Places}
+use Rattle.stored.specs.Rows.{Holds}
 
 -- a stretch holds z numbers of each of k groups: triples s, m, e or pairs s, e
 pub record Tuples (w z : ℕ) (tuples : List ℕ) (k : ℕ) : Type 0 where
@@ -9,11 +9,6 @@ pub record Tuples (w z : ℕ) (tuples : List ℕ) (k : ℕ) : Type 0 where
   pub held : Holds w tuples (z * k)
 
 -- the numbers by place and the places by rank, of k groups
-pub record Labels (w z : ℕ) (tuples places : List ℕ) (k : ℕ) : Type 0 where
+pub record LabellingHeld (w z : ℕ) (tuples places : List ℕ) (k : ℕ) : Type 0 where
   pub tuples_held : Tuples w z tuples k
   pub places_held : Holds w places k
-
--- children that are places, and the numbers by place of as many groups
-pub record LabelledRows (w z : ℕ) (starts children tuples : List ℕ) (k c : ℕ) : Type 0 where
-  pub below : Places w starts children k c
-  pub tuples_held : Tuples w z tuples k

@@ -101,7 +101,7 @@ module _ {b : List ℕ} {l : Layout} (L : Laid b l) where
   abbrev pub stretch_of : ℕ → List ℕ
   stretch_of i = stretch l.width l.stride (counts_in b) b i
 
-  whole : (i : ℕ) → i < 6 → Section b l i (stretch_of i)
+  pub whole : (i : ℕ) → i < 6 → Section b l i (stretch_of i)
   whole = subst⁻¹ (λ (z : Layout). Laid b z → (i : ℕ) → i < 6 → Section b z i (stretch z.width z.stride (counts_in b) b i)) L.is (whole_at b) L
 
   module _ {groups labels : List ℕ} (G : Section b l 1 groups) (M : Section b l 5 labels) where
@@ -130,3 +130,6 @@ module _ {b : List ℕ} {l : Layout} (L : Laid b l) where
 
   pub names_only : {names : List ℕ} → Section b l 0 names → Six b l names (stretch_of 1) (stretch_of 2) (stretch_of 3) (stretch_of 4) (stretch_of 5)
   names_only N = with_names (whole 1 (omega arith)) (whole 5 (omega arith)) N
+
+  pub labels_only : {labels : List ℕ} → Section b l 5 labels → Six b l (stretch_of 0) (stretch_of 1) (stretch_of 2) (stretch_of 3) (stretch_of 4) labels
+  labels_only M = with_rows (whole 1 (omega arith)) M (whole 3 (omega arith)) (whole 4 (omega arith))

@@ -3,4 +3,3 @@
 
 pub mod parts;
 pub mod reading;
-pub mod rows;

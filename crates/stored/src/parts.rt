@@ -31,63 +31,66 @@ pub fn size(l: Layout, i: usize) -> usize
     sizes[i]
 }
 
-// Section i: from its offset to the next one, the last to the total length.
-pub fn section(index: &[u8], l: Layout, i: usize) -> &[u8]
-    requires laid { Laid index.now l }
-    requires i_bound { i < 6 }
-    ensures { Section index.now l i result.now }
-{
-    let from = offset(l, i);
-    let to = offset(l, i + 1);
-    &index[from..to]
+// Bytes with the layout that their header says.
+#[derive(Clone, Copy)]
+pub struct Image<'a> {
+    pub bytes: &'a [u8],
+    pub layout: Layout,
+    ghost laid: { Laid bytes.now layout },
 }
 
-// The name of each vertex's group.
-pub fn names(index: &[u8], l: Layout) -> &[u8]
-    requires { Laid index.now l }
-    ensures { Section index.now l 0 result.now }
-{
-    section(index, l, 0)
-}
+impl<'a> Image<'a> {
+    // Section i: from its offset to the next one, the last to the total length.
+    pub fn section(&self, i: usize) -> &'a [u8]
+        requires { i < 6 }
+        ensures { Section self.now.bytes.now self.now.layout i result.now }
+    {
+        let from = offset(self.layout, i);
+        let to = offset(self.layout, i + 1);
+        &self.bytes[from..to]
+    }
 
-// The names of all groups, rising.
-pub fn groups(index: &[u8], l: Layout) -> &[u8]
-    requires { Laid index.now l }
-    ensures { Section index.now l 1 result.now }
-{
-    section(index, l, 1)
-}
+    // The name of each vertex's group.
+    pub fn names(&self) -> &'a [u8]
+        ensures { Section self.now.bytes.now self.now.layout 0 result.now }
+    {
+        self.section(0)
+    }
 
-// The level of each group, by place.
-pub fn levels(index: &[u8], l: Layout) -> &[u8]
-    requires { Laid index.now l }
-    ensures { Section index.now l 2 result.now }
-{
-    section(index, l, 2)
-}
+    // The names of all groups, rising.
+    pub fn groups(&self) -> &'a [u8]
+        ensures { Section self.now.bytes.now self.now.layout 1 result.now }
+    {
+        self.section(1)
+    }
 
-// Where each group's children start, by place, and at the end c.
-pub fn starts(index: &[u8], l: Layout) -> &[u8]
-    requires { Laid index.now l }
-    ensures { Section index.now l 3 result.now }
-{
-    section(index, l, 3)
-}
+    // The level of each group, by place.
+    pub fn levels(&self) -> &'a [u8]
+        ensures { Section self.now.bytes.now self.now.layout 2 result.now }
+    {
+        self.section(2)
+    }
 
-// The children of all groups, one group after the other.
-pub fn children(index: &[u8], l: Layout) -> &[u8]
-    requires { Laid index.now l }
-    ensures { Section index.now l 4 result.now }
-{
-    section(index, l, 4)
-}
+    // Where each group's children start, by place, and at the end c.
+    pub fn starts(&self) -> &'a [u8]
+        ensures { Section self.now.bytes.now self.now.layout 3 result.now }
+    {
+        self.section(3)
+    }
 
-// The labels, one labelling after the other.
-pub fn labels(index: &[u8], l: Layout) -> &[u8]
-    requires { Laid index.now l }
-    ensures { Section index.now l 5 result.now }
-{
-    section(index, l, 5)
+    // The children of all groups, one group after the other.
+    pub fn children(&self) -> &'a [u8]
+        ensures { Section self.now.bytes.now self.now.layout 4 result.now }
+    {
+        self.section(4)
+    }
+
+    // The labels, one labelling after the other.
+    pub fn labels(&self) -> &'a [u8]
+        ensures { Section self.now.bytes.now self.now.layout 5 result.now }
+    {
+        self.section(5)
+    }
 }
 
 // Where s, m and e stand in a triple.
@@ -96,24 +99,6 @@ pub const S: usize = 0;
 pub const M: usize = 1;
 
 pub const E: usize = 2;
-
-// The numbers by place of labelling j: k triples s, m, e, or k pairs s, e.
-pub fn tuples(labels: &[u8], w: usize, z: usize, k: usize, d: usize, j: usize) -> &[u8]
-    requires labellings { Labellings w z labels.now k d }
-    requires j_lt_d { j < d }
-    ensures { Part labels.now (w * (j * ((z + 1) * k))) (w * (z * k)) result.now }
-{
-    numbers::numbers_from(labels, w, label_count(z, k, j), z * k)
-}
-
-// The k places by rank of labelling j.
-pub fn by_rank(labels: &[u8], w: usize, z: usize, k: usize, d: usize, j: usize) -> &[u8]
-    requires labellings { Labellings w z labels.now k d }
-    requires j_lt_d { j < d }
-    ensures { Part labels.now (w * (j * ((z + 1) * k) + z * k)) (w * k) result.now }
-{
-    numbers::numbers_from(labels, w, label_count(z, k, j) + z * k, k)
-}
 
 // One group's children, from child start to next child start: the very bytes of the stored form.
 pub fn children_of<'a>(starts: &[u8], children: &'a [u8], w: usize, p: usize) -> &'a [u8]

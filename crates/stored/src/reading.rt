@@ -1,6 +1,9 @@
 // Numbers held in lent bytes, and the rows of the children: what a section of a stored index is to the code that reads it.
 ghost use Rattle.std.specs.Prelude.{[], ◌≡◌, ◌^◌, ◌<◌, length, get_or};
 ghost use Rattle.stored.specs.Rows.{Holds, Children};
+ghost use Rattle.stored.specs.Sections.{Labellings};
+
+use stored_header::label_count;
 
 // So many numbers of one width, one after the other.
 #[derive(Clone, Copy)]
@@ -50,5 +53,39 @@ impl<'a> Rows<'a> {
             width: self.width,
             len: to - from,
         }
+    }
+}
+
+// The labels of d labellings of k groups: of each, z numbers of every group by place, triples s, m, e or pairs s, e, and then the places by rank.
+#[derive(Clone, Copy)]
+pub struct Labels<'a> {
+    pub bytes: &'a [u8],
+    pub width: usize,
+    pub z: usize,
+    pub k: usize,
+    pub d: usize,
+    ghost held: { Labellings width z bytes.now k d },
+}
+
+impl<'a> Labels<'a> {
+    ghost use Rattle.std.specs.Prelude.{◌+◌, ◌*◌, ◌<◌};
+    ghost use Rattle.numbers.specs.Regions.{Part};
+
+    // The numbers by place of labelling j.
+    pub fn tuples(&self, j: usize) -> &'a [u8]
+        requires { j < self.now.d }
+        ensures { Part self.now.bytes.now (self.now.width * (j * ((self.now.z + 1) * self.now.k))) (self.now.width * (self.now.z * self.now.k)) result.now }
+    {
+        let from = label_count(self.z, self.k, j);
+        numbers::numbers_from(self.bytes, self.width, from, self.z * self.k)
+    }
+
+    // The k places by rank of labelling j.
+    pub fn by_rank(&self, j: usize) -> &'a [u8]
+        requires { j < self.now.d }
+        ensures { Part self.now.bytes.now (self.now.width * (j * ((self.now.z + 1) * self.now.k) + self.now.z * self.now.k)) (self.now.width * self.now.k) result.now }
+    {
+        let tuples = label_count(self.z, self.k, j);
+        numbers::numbers_from(self.bytes, self.width, tuples + self.z * self.k, self.k)
     }
 }

@@ -1,19 +1,17 @@
 -- The table of forms: each has a number of 32 bits, a width of 2 or 4, 2 or 3 numbers by place, and bounds that are not above 200,000 vertices, 1,000,000 edges and child
 -- entries, and five labellings. Two numbers by place are what a form of plain hierarchies has, and no other.
 use mathlib.Core.Bool.{Bool, true, false, cond}
-use mathlib.Core.Path.{◌≡◌, refl, sym}
+use mathlib.Core.Path.{◌≡◌, refl}
 use mathlib.Core.List.{List, [], ◌∷◌}
 use Prim.Native.Nat.{ℕ, zero, suc, ◌^◌, ◌≤◌, ◌<◌}
 use native.Mathlib.Omega.{arith}
 use native.Mathlib.Nat.{not-suc-le-zero}
 use lib.Dec.{eqb}
-use borrow.Author.Tests.{ne_eqb}
 use Rattle.lineage.specs.Lists.{Every}
 use Rattle.lineage.specs.Numbers.{Width}
-use Rattle.lineage.specs.Stored.{Form, form1, form2, form3, form4, forms, form_from, form_of, most_labellings}
+use Rattle.lineage.specs.Stored.{Form, form1, form4, forms, form_from, form_of, most_labellings}
 use Rattle.numbers.specs.Bounds.{vertex_bound, entry_bound}
-use Rattle.stored_header.specs.declared.Row.{Row}
-use Rattle.stored_header.specs.Header.{Stride, row_of, wide_row}
+use Rattle.stored_header.specs.Header.{Stride}
 
 -- a form within the bounds of every form
 pub record Within (F : Form) : Type 0 where
@@ -104,47 +102,3 @@ form_each P h number = from_each P h.0 forms number h
 
 pub form_within : (number : ℕ) → Within (form_of number)
 form_within = form_each Within forms_within
-
--- the rows that code has: those of forms 2, 3 and 4, and that of form 1, which stands for every number that no form has
-pub row_second : (number : ℕ) → number ≡ 2 → wide_row 5 3 false ≡ row_of number
-row_second number e = rw e
-
-pub row_third : (number : ℕ) → number ≡ 3 → wide_row 5 3 false ≡ row_of number
-row_third number e = rw e
-
-pub row_fourth : (number : ℕ) → number ≡ 4 → wide_row 1 2 true ≡ row_of number
-row_fourth number e = rw e
-
-abbrev first_row : ℕ → Row
-first_row number =
-    record {
-      known = eqb 1 number;
-      width = 2;
-      vertices = 4096;
-      edges = 16384;
-      entries = 16384;
-      labellings = 5;
-      stride = 3;
-      tree = false;
-    }
-
-pub row_first : (number : ℕ) → ¬ (number ≡ 2) → ¬ (number ≡ 3) → ¬ (number ≡ 4) → first_row number ≡ row_of number
-row_first number h i j =
-    at (eqb 1 number) (eqb 2 number) (eqb 3 number) (eqb 4 number)
-    (ne_eqb 2 number (λ e. h (sym e))) (ne_eqb 3 number (λ e. i (sym e))) (ne_eqb 4 number (λ e. j (sym e)))
-  where
-    at : (one two three four : Bool) → two ≡ false → three ≡ false → four ≡ false
-        → ◌≡◌ {A = Row} (first_row number)
-        (let F : Form = cond one form1 (cond two form2 (cond three form3 (cond four form4 form1))) in
-        record {
-          known = eqb F.number number;
-          width = F.width;
-          vertices = F.vertices;
-          edges = F.edges;
-          entries = F.entries;
-          labellings = F.labellings;
-          stride = F.by_place;
-          tree = F.tree;
-        })
-    at true two three four e f g = refl
-    at false two three four e f g = rw (e, f, g)

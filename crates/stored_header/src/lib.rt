@@ -17,6 +17,9 @@ const HEADER_LENGTH: usize = 48;
 
 pub const MOST_LABELLINGS: usize = 5;
 
+// The vertices that form 1 has at most.
+pub const MOST_VERTICES_FORM_1: usize = 4096;
+
 // A row of the table of forms: whether a form has this number, its width and its bounds, how many numbers a labelling has of each group by place, and whether it
 // is of plain hierarchies.
 #[derive(Clone, Copy)]
@@ -71,13 +74,12 @@ pub fn form_row(number: usize) -> Row
     ensures { result ≡ row_of number }
 {
     match number {
-        2 => wide_row(MOST_LABELLINGS, 3, false),
-        3 => wide_row(MOST_LABELLINGS, 3, false),
+        2 | 3 => wide_row(MOST_LABELLINGS, 3, false),
         4 => wide_row(1, 2, true),
         _ => Row {
             known: 1 == number,
             width: 2,
-            vertices: 4096,
+            vertices: MOST_VERTICES_FORM_1,
             edges: 16384,
             entries: 16384,
             labellings: MOST_LABELLINGS,
@@ -236,5 +238,5 @@ pub fn write_header(out: &mut [u8], form: usize, l: Layout)
         l.labels as u32,
         l.total as u32,
     ];
-    numbers::write_words(out, 0, 4, &header, 0, 12)
+    numbers::write_words(out, 0, 4, &header)
 }

@@ -2,10 +2,5 @@
 use Rattle.added.proofs.Refusals.{sound_over}
 use Rattle.added.proofs.ask_sound.Goals as goal
 
-pub returns : goal.returns
-returns c =
-    let s = c.args in
-    record {
-      result_value = sound_over s.l.n s.state _ c.if-count-gt-MOST_ADDED.false c.ask_over.ensures.result_value;
-      marks_unchanged = c.ask_over.ensures.marks_unchanged;
-    }
+pub returns-clause-result_value : goal.returns-clause-result_value
+returns-clause-result_value c = sound_over c.args.index.now.image.layout.n c.args.state _ c.if-count-gt-MOST_ADDED.false c.ask_over.ensures.result_value

@@ -1,15 +1,13 @@
 -- `ask::ask_taking` meets its contract: it returns where one of 10 to 13, 6 and 14 stops it, or with what is behind them; then the needed words are cleared, and no word
 -- past them was altered.
 use mathlib.Core.Path.{sym, ap, ◌∙◌}
-use native.Mathlib.Omega.{arith}
 use lib.ListN.{length}
 use Rattle.std.proofs.lemmas.Result.{err_from_is_err_and}
 use Rattle.lineage.specs.Calls.{forms_taken}
 use Rattle.stored_header.specs.Header.{header_outcome}
 use Rattle.stored_header.proofs.Laid.{vertex_out, vertex_in}
-use Rattle.stored_header.proofs.Admitted.{Admits, admitted_laid, admitted_room, admitted_words}
-use Rattle.sound_places.proofs.Triples.{admitted_triples}
-use Rattle.ask.proofs.Refusals.{stack_fits, asks_refused, asks_source, asks_target, asks_rest}
+use Rattle.stored_header.proofs.Admitted.{Admits, admitted_laid}
+use Rattle.ask.proofs.Refusals.{asks_refused, asks_source, asks_target, asks_rest}
 use Rattle.ask.proofs.ask_taking.Goals as goal
 use Rattle.ask.proofs.ask_taking.Goals.{In_ok-l}
 
@@ -45,21 +43,8 @@ returns-then-l-v c =
       work_after = both.1.1;
     }
 
-pub ask_laid-r-requires : goal.ask_laid-r-requires
-ask_laid-r-requires c =
-    let A = admits (goal.at.ask_laid-r-requires c).In_ok-l in record {
-      laid = admitted_laid A;
-      u_lt_n = (c.if-l-u.false, (c.if-l-v.false, (admitted_room A, omega (arith, admitted_words A, stack_fits c.in_ok-l.l))));
-      stride_value = admitted_triples A c.requires;
-    }
-
-pub words_needed-requires : goal.words_needed-requires
-words_needed-requires c =
-    let L = admitted_laid (admits (goal.at.words_needed-requires c).In_ok-l) in
-    (L.vertices, (L.groups, L.entries))
-
-pub clear_words-requires : goal.clear_words-requires
-clear_words-requires c = omega (arith, c.words_needed.ensures.0, admitted_words (admits (goal.at.clear_words-requires c).In_ok-l), c.ask_laid-r.ensures.kept.long)
+pub invariant_of-image : goal.invariant_of-image
+invariant_of-image c = record { laid = admitted_laid (admits (goal.at.invariant_of-image c).In_ok-l) }
 
 pub returns : goal.returns
 returns c =

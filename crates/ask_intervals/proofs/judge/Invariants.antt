@@ -9,7 +9,7 @@ use Rattle.ask_intervals.proofs.Labellings.{Judging}
 use Rattle.ask_intervals.proofs.judge.Given as goal
 
 abbrev pub invariant-loop-b : goal.invariant-loop-b
-invariant-loop-b l = (l.told ≡ Neither) × ((j : ℕ) → j < l.b → undecided_by l.w l.triples l.x l.t j ≡ true)
+invariant-loop-b l = (l.told ≡ Neither) × ((j : ℕ) → j < l.b → undecided_by l.labels.width l.triples l.x l.t j ≡ true)
 
 abbrev pub invariant-labellings : goal.invariant-labellings
-invariant-labellings l = (l.told ≡ Neither) × Judging l.w l.k l.labels l.x l.t l.d l.l
+invariant-labellings l = (l.told ≡ Neither) × Judging l.labels.width l.labels.k l.labels.bytes.now l.x l.t l.labels.d l.l

@@ -6,8 +6,8 @@ use Prim.Native.Nat.{ℕ, ◌+◌, ◌-◌, ◌<◌}
 use lib.ListN.{length, replicate}
 use Rattle.lineage.specs.Question.{between}
 use Rattle.numbers.specs.Regions.{Kept}
-use Rattle.ask_walk.specs.Fit.{groups_in}
 use Rattle.ask_walk.specs.Stamps.{seen_as, Under}
+use Rattle.ask_walk.specs.Walks.{index_of_walk}
 use Rattle.ask_walk.proofs.Stamped.{seen_new}
 use Rattle.ask_stacked.specs.Words.{stack_words}
 use Rattle.ask.specs.Replies.{answer_by}
@@ -25,23 +25,15 @@ unused s m m' h e U = let same : s - 1 + 1 ≡ s = omega arith in rw (same, e) U
 -- what the walk answers, and the words that it leaves
 told : (d : After-decide-reply) → let s = d.args in
     (answer_by d.decide-reply.result (seen_as d.next_stamp-stamp.result d.decide-reply.new.marks)
-    ≡ between (groups_in s.w s.k s.d s.groups.now s.levels.now s.starts.now s.children.now s.labels.now) s.x s.t (replicate (length s.marks.now) 0))
-    × Kept s.work.now d.decide-reply.new.work 0 (stack_words s.w (length s.marks.now))
+    ≡ between (index_of_walk s.walk.now) s.x s.walk.now.t (replicate (length s.marks.now) 0))
+    × Kept s.work.now d.decide-reply.new.work 0 (stack_words s.walk.now.width (length s.marks.now))
 told d =
     let s = d.args in
     let e = d.next_stamp-stamp.ensures in (
       d.decide-reply.ensures.marks_after
-          ∙ ap (between (groups_in s.w s.k s.d s.groups.now s.levels.now s.starts.now s.children.now s.labels.now) s.x s.t) (none _ _ _ e.1.0 e.1.1),
+          ∙ ap (between (index_of_walk s.walk.now) s.x s.walk.now.t) (none _ _ _ e.1.0 e.1.1),
       rw e.1.1 at d.decide-reply.ensures.kept,
     )
-
-pub decide-reply-requires : goal.decide-reply-requires
-decide-reply-requires c =
-    let e = c.next_stamp-stamp.ensures in
-    let p = c.requires.x_lt_k in record {
-      fit = rw e.1.1 c.requires.fit;
-      x_lt_k = (p.0, (omega (arith, e.1.1, p.1.0), (e.1.0, rw e.1.1 p.1.1.1)));
-    }
 
 pub returns-then-reply-eq0-clause-marks_after : goal.returns-then-reply-eq0-clause-marks_after
 returns-then-reply-eq0-clause-marks_after c = (told (goal.at.returns-then-reply-eq0-clause-marks_after c).After-decide-reply).0

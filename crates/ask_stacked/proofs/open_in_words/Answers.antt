@@ -1,5 +1,5 @@
 -- `ask_stacked::open_in_words` meets its contract, by the invariant beside this file.
-use mathlib.Core.Path.{◌≡◌, refl, sym, ◌∙◌}
+use mathlib.Core.Path.{◌≡◌, sym, ◌∙◌}
 use mathlib.Core.List.{List}
 use Prim.Native.Nat.{ℕ, suc, ◌+◌, ◌-◌, ◌*◌, ◌^◌, ◌<◌}
 use native.Mathlib.Omega.{arith}
@@ -13,9 +13,9 @@ use Rattle.ask_walk.specs.Fit.{net_in}
 use Rattle.ask_walk.specs.Stamps.{seen_as, Under}
 use Rattle.ask_walk.proofs.Stamped.{seen_long, seen_other}
 use Rattle.ask_walk.proofs.Turns.{Untold}
-use Rattle.ask_stacked.proofs.Walking.{opening, count_fits, frame_room, child_room, walking_out, out_less, walking_end}
+use Rattle.ask_stacked.proofs.Walking.{opening, count_fits, frame_room, walking_out, walking_end}
 use Rattle.ask_stacked.proofs.Opening.{enter_asks, walking_first, opening_is}
-use Rattle.ask_stacked.proofs.Turns.{Turn, turn_low, turn_room, turn_skip, turn_cut, past_less, turn_hit, turn_in, in_less}
+use Rattle.ask_stacked.proofs.Turns.{Turn, turn_low, turn_room, turn_skip, turn_cut, turn_hit, turn_in, in_less}
 use Rattle.ask_stacked.proofs.open_in_words.Goals as goal
 use Rattle.ask_stacked.proofs.open_in_words.Goals.{After-num-h, At-loop-row, Then-depth-gt0, In-Neither}
 
@@ -73,17 +73,6 @@ few c = omega (arith, count_fits c.loop-row.invariant.0, c.enter-row.auto.marks,
 one_less : (c : Then-depth-gt0) → c.loop-row.depth ≡ suc (c.loop-row.depth - 1)
 one_less c = omega arith
 
--- the first group
-pub enter-row-requires : goal.enter-row-requires
-enter-row-requires c =
-    let both = enter_asks c.requires.fit _ c.requires.fresh.low _ refl c.requires.marks.under in
-    record {
-      width = both.0;
-      w_in_bounds = both.1.0;
-      g_bound = both.1.1.0;
-      under = both.1.1.1;
-    }
-
 pub loop-row-init : goal.loop-row-init
 loop-row-init c =
     let F = c.requires.fit in
@@ -92,13 +81,6 @@ loop-row-init c =
           (ne_eqb _ _ (seen_other c.args.stamp c.args.marks.now _ (F.name_low _ g.low) g.unmarked)) g.missed c.requires.marks.safe,
       c.enter-row.ensures.under_2,
     )
-
--- the next child
-pub num-h-requires : goal.num-h-requires
-num-h-requires c = record { width = c.requires.fit.labelled.width; w_in_bounds = child_room c.loop-row.invariant.0 c.if-row.true }
-
-pub overflow_add-row : goal.overflow_add-row
-overflow_add-row c = let C = turn (goal.at.overflow_add-row c).After-num-h in omega (arith, C.within, C.walking.top.small)
 
 pub skipped-requires : goal.skipped-requires
 skipped-requires c =
@@ -109,15 +91,6 @@ skipped-requires c =
       w_in_bounds = (room _ _ _ _ low F.groups_long, (room _ _ _ _ low F.levels_long, room _ _ _ _ F.target_low F.levels_long));
       h_in_bounds = named (goal.at.skipped-requires c).After-num-h;
     }
-
-pub judge-requires : goal.judge-requires
-judge-requires c = let C = turn (goal.at.judge-requires c).After-num-h in record { labellings = C.fit.labelled; x_lt_k = (turn_low C, C.fit.target_low) }
-
-pub shape_of-marks-in-Inside : goal.shape_of-marks-in-Inside
-shape_of-marks-in-Inside c = kept (goal.at.shape_of-marks-in-Inside c).At-loop-row
-
-pub shape_of-work-in-Inside : goal.shape_of-work-in-Inside
-shape_of-work-in-Inside c = (turn (goal.at.shape_of-work-in-Inside c).After-num-h).walking.kept.long
 
 pub returns-in-Inside : goal.returns-in-Inside
 returns-in-Inside c =
@@ -146,9 +119,6 @@ enter-row-requires-in-Neither c =
       under = both.1.1.1;
     }
 
-pub overflow_add-depth : goal.overflow_add-depth
-overflow_add-depth c = omega (arith, few (goal.at.overflow_add-depth c).At-loop-row, (turn (goal.at.overflow_add-depth c).After-num-h).walking.deep)
-
 pub overflow_add-opened : goal.overflow_add-opened
 overflow_add-opened c = omega (arith, few (goal.at.overflow_add-opened c).At-loop-row)
 
@@ -162,30 +132,14 @@ loop-row-smaller-in-Neither c = in_less (turn (goal.at.loop-row-smaller-in-Neith
 pub loop-row-preserved-in-Outside : goal.loop-row-preserved-in-Outside
 loop-row-preserved-in-Outside c = (turn_cut (turn (goal.at.loop-row-preserved-in-Outside c).After-num-h) c.in-Outside.ensures, c.loop-row.invariant.1)
 
-pub loop-row-smaller-in-Outside : goal.loop-row-smaller-in-Outside
-loop-row-smaller-in-Outside c = past_less (turn (goal.at.loop-row-smaller-in-Outside c).After-num-h)
-
 pub loop-row-preserved-else-not-skipped : goal.loop-row-preserved-else-not-skipped
 loop-row-preserved-else-not-skipped c = (turn_skip (turn (goal.at.loop-row-preserved-else-not-skipped c).After-num-h) c.skipped.ensures (c.if-not-skipped.false), c.loop-row.invariant.1)
-
-pub loop-row-smaller-else-not-skipped : goal.loop-row-smaller-else-not-skipped
-loop-row-smaller-else-not-skipped c = past_less (turn (goal.at.loop-row-smaller-else-not-skipped c).After-num-h)
 
 pub frame-row-requires : goal.frame-row-requires
 frame-row-requires c = frame_room c.loop-row.invariant.0 (rw c.enter-row.auto.marks c.requires.marks_in_bounds) (c.loop-row.depth - 1) (omega arith)
 
 pub loop-row-preserved : goal.loop-row-preserved
 loop-row-preserved c = (walking_out c.loop-row.invariant.0 c.if-row.false _ (one_less (goal.at.loop-row-preserved c).Then-depth-gt0) c.frame-row.ensures.0 c.frame-row.ensures.1, c.loop-row.invariant.1)
-
-pub loop-row-smaller : goal.loop-row-smaller
-loop-row-smaller c = out_less c.loop-row.invariant.0 c.if-row.false _ (one_less (goal.at.loop-row-smaller c).Then-depth-gt0) c.frame-row.ensures.0 c.frame-row.ensures.1
-
--- or no row is left
-pub shape_of-marks-else-depth-gt0 : goal.shape_of-marks-else-depth-gt0
-shape_of-marks-else-depth-gt0 c = kept (goal.at.shape_of-marks-else-depth-gt0 c).At-loop-row
-
-pub shape_of-work-else-depth-gt0 : goal.shape_of-work-else-depth-gt0
-shape_of-work-else-depth-gt0 c = c.loop-row.invariant.0.kept.long
 
 pub returns-else-depth-gt0 : goal.returns-else-depth-gt0
 returns-else-depth-gt0 c =

@@ -23,7 +23,7 @@ stamped_safe N k s m i S = rw (seen_set s m i) S
 
 pub open_group-try_children-a-requires : goal.open_group-try_children-a-requires
 open_group-try_children-a-requires t c =
-    let F = c.requires.fit in
+    let F = c.args.walk.now.fit in
     let g = c.requires.fresh in
     let M = c.requires.marks in
     let safe =
@@ -31,25 +31,25 @@ open_group-try_children-a-requires t c =
     (net_marked F c.args.g c.num-name.result (seen_as c.args.stamp c.args.marks.now) g.low c.num-name.ensures.0 g.missed M.safe) in (
       omega arith,
       (
-        simp length-set F,
+        simp length-set c.requires.marks_long,
         (row_below F _ g.low _ c.children_of-row.ensures _ g.level, record { under = under_set _ _ _ M.under; safe = safe }),
       ),
     )
 
 pub open_group-overflow_add-result : goal.open_group-overflow_add-result
 open_group-overflow_add-result t c =
-    let F = c.requires.fit in
+    let F = c.args.walk.now.fit in
     let g = c.requires.fresh in
     let a = c.try_children-a in
     let fits =
     open_count F c.args.g _ c.args.lev _ (seen_as c.args.stamp c.args.marks.now) a.result.found a.result.deciding a.result.opened _ g.low
     c.num-name.ensures.0 c.children_of-row.ensures (stamped _ _ _ c.args.stamp c.args.marks.now _ a.ensures.marks_after)
-    (seen_long _ c.args.marks.now) (seen_other _ _ _ (F.name_low c.args.g g.low) g.unmarked) in
-    omega (arith, fits)
+    (seen_long _ c.args.marks.now ∙ c.requires.marks_long) (seen_other _ _ _ (omega (arith, F.name_low c.args.g g.low, c.requires.marks_long)) g.unmarked) in
+    omega (arith, fits, c.requires.marks_long)
 
 pub open_group-returns-clause-marks_after : goal.open_group-returns-clause-marks_after
 open_group-returns-clause-marks_after t c =
-    open_done c.requires.fit _ _ _ _ _ _ _ _ _ c.requires.fresh.low c.num-name.ensures.0 c.children_of-row.ensures
+    open_done c.args.walk.now.fit _ _ _ _ _ _ _ _ _ c.requires.fresh.low c.num-name.ensures.0 c.children_of-row.ensures
     (stamped _ _ _ c.args.stamp c.args.marks.now _ c.try_children-a.ensures.marks_after)
 
 -- the marks stay as long as they are
@@ -59,13 +59,13 @@ kept t c = seen_kept c.args.stamp c.loop-i.marks c.args.marks.now c.loop-i.invar
 -- a child's turn, once its number is read
 turn :
     (t : ℕ) (c : try_children-After-num-h t)
-    → Turn c.args.w c.args.k c.args.d c.args.t c.args.groups.now c.args.levels.now c.args.starts.now c.args.children.now c.args.labels.now (length c.args.marks.now)
+    → Turn c.args.walk.now.width c.args.walk.now.k c.args.walk.now.d c.args.walk.now.t c.args.walk.now.groups.now c.args.walk.now.levels.now c.args.walk.now.starts.now c.args.walk.now.children.now c.args.walk.now.labels.now c.args.walk.now.marks
     c.args.lev c.args.row.now (seen_as c.args.stamp c.args.marks.now) (seen_as c.args.stamp c.loop-i.marks) c.loop-i.i c.loop-i.opened c.num-h.result
 turn t c = record {
-  fit = c.requires.fit;
+  fit = c.args.walk.now.fit;
   below = c.requires.below;
   tried = c.loop-i.invariant.tried;
-  long = seen_long _ c.args.marks.now;
+  long = seen_long _ c.args.marks.now ∙ c.requires.marks_long;
   within = omega (arith, c.count-i-end.ensures);
   child = c.num-h.ensures.0;
   safe = c.loop-i.invariant.marked.safe;
@@ -74,7 +74,7 @@ turn t c = record {
 -- a child that no test decides
 untold :
     (t : ℕ) (c : try_children-In-Neither t)
-    → Untold c.args.w c.args.k c.args.d c.args.t c.args.groups.now c.args.levels.now c.args.labels.now (seen_as c.args.stamp c.loop-i.marks) c.num-h.result
+    → Untold c.args.walk.now.width c.args.walk.now.k c.args.walk.now.d c.args.walk.now.t c.args.walk.now.groups.now c.args.walk.now.levels.now c.args.walk.now.labels.now (seen_as c.args.stamp c.loop-i.marks) c.num-h.result
 untold t c = record {
   told = c.in-Neither.ensures;
   r = c.skipped.result;
@@ -83,8 +83,8 @@ untold t c = record {
 }
 
 -- the child's mark is there
-named : (t : ℕ) (c : try_children-After-num-h t) → num_at c.args.w c.args.groups.now c.num-h.result < length c.loop-i.marks
-named t c = omega (arith, (turn t c).fit.name_low _ (turn_low (turn t c)), kept t c)
+named : (t : ℕ) (c : try_children-After-num-h t) → num_at c.args.walk.now.width c.args.walk.now.groups.now c.num-h.result < length c.loop-i.marks
+named t c = omega (arith, (turn t c).fit.name_low _ (turn_low (turn t c)), kept t c, c.requires.marks_long)
 
 pub try_children-skipped-requires-clause-w_in_bounds : goal.try_children-skipped-requires-clause-w_in_bounds
 try_children-skipped-requires-clause-w_in_bounds t c =
@@ -105,12 +105,12 @@ try_children-open_group-a-requires t c =
     let U = untold t P.In-Neither in (
       omega (arith, turn_level C),
       (
-        rw (kept t n) C.fit,
+        kept t n ∙ c.requires.marks_long,
         (
           record {
             low = turn_low C;
             level = omega (arith, turn_level C);
-            unmarked = seen_not c.args.stamp c.loop-i.marks (num_at c.args.w c.args.groups.now c.num-h.result) (named t n) (turn_free C U);
+            unmarked = seen_not c.args.stamp c.loop-i.marks (num_at c.args.walk.now.width c.args.walk.now.groups.now c.num-h.result) (named t n) (turn_free C U);
             missed = turn_missed C U;
           },
           c.loop-i.invariant.marked,
@@ -121,7 +121,7 @@ try_children-open_group-a-requires t c =
 pub try_children-overflow_add-opened : goal.try_children-overflow_add-opened
 try_children-overflow_add-opened t c =
     let P = goal.at.try_children-overflow_add-opened t c in
-    omega (arith, turn_count (turn t P.After-num-h) (untold t P.In-Neither) c.open_group-a.ensures.marks_after)
+    omega (arith, c.requires.marks_long, turn_count (turn t P.After-num-h) (untold t P.In-Neither) c.open_group-a.ensures.marks_after)
 
 pub try_children-returns-then-a-clause-marks_after : goal.try_children-returns-then-a-clause-marks_after
 try_children-returns-then-a-clause-marks_after t c =
@@ -136,7 +136,7 @@ try_children-loop-i-preserved t c =
       | try_children-else-not-skipped w ↦ rw (w.marks-is, w.opened-is) (record { tried = turn_skip C c.skipped.ensures w.if-not-skipped.false; marked = c.loop-i.invariant.marked })
       | try_children-then-not-skipped+in-Outside w ↦ rw (w.marks-is, w.opened-is) (record { tried = turn_cut C w.in-Outside.ensures; marked = c.loop-i.invariant.marked })
       | try_children-then-not-skipped+in-Neither+else-a w ↦
-          let U : Untold c.args.w c.args.k c.args.d c.args.t c.args.groups.now c.args.levels.now c.args.labels.now (seen_as c.args.stamp c.loop-i.marks) c.num-h.result =
+          let U : Untold c.args.walk.now.width c.args.walk.now.k c.args.walk.now.d c.args.walk.now.t c.args.walk.now.groups.now c.args.walk.now.levels.now c.args.walk.now.labels.now (seen_as c.args.stamp c.loop-i.marks) c.num-h.result =
           record { told = w.in-Neither.ensures; r = c.skipped.result; is = c.skipped.ensures; passes = w.if-not-skipped.true } in
           rw (w.marks-is, w.opened-is)
           (
@@ -149,4 +149,4 @@ try_children-loop-i-preserved t c =
 
 pub try_children-returns-clause-marks_after : goal.try_children-returns-clause-marks_after
 try_children-returns-clause-marks_after t c =
-    turns_over c.requires.fit c.requires.below c.loop-i.invariant.tried (omega (arith, c.count-i-end.ensures))
+    turns_over c.args.walk.now.fit c.requires.below c.loop-i.invariant.tried (omega (arith, c.count-i-end.ensures))

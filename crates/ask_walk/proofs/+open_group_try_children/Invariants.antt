@@ -1,8 +1,9 @@
 -- `ask_walk::open_group` and `ask_walk::try_children` meet their contracts, as one cycle of calls: opening at a level tries children at that level, and trying
 -- at a level opens groups one level lower. Each contract is the definition's own equation; the row's loop takes the children one by one (Turns).
 use Rattle.std.proofs.Common.{◌+◌, ◌*◌}
-use Rattle.ask_walk.specs.Fit.{all, net_in, Marks}
+use Rattle.ask_walk.specs.Fit.{all, Marks}
 use Rattle.ask_walk.specs.Stamps.{seen_as}
+use Rattle.ask_walk.specs.Walks.{net_of_walk}
 use Rattle.ask_walk.proofs.Trying.{Tried}
 use Rattle.ask_walk.proofs.+open_group_try_children.Given as goal
 
@@ -16,8 +17,6 @@ decreases-try_children l = 2 * l.lev
 -- Trying. Before child i, `opened` groups are opened and the marks are as they are: what is left makes up the whole row.
 abbrev pub invariant-try_children-loop-i : goal.invariant-try_children-loop-i
 invariant-try_children-loop-i l = record {
-  tried :
-      Tried (net_in l.w l.k l.d l.t l.groups l.levels l.starts l.children l.labels) l.fn.lev (all l.w l.row) (seen_as l.stamp l.fn.marks) (seen_as l.stamp l.marks)
-      l.i l.opened;
-  marked : Marks (net_in l.w l.k l.d l.t l.groups l.levels l.starts l.children l.labels) l.k l.stamp l.marks;
+  tried : Tried (net_of_walk l.walk) l.fn.lev (all l.walk.width l.row) (seen_as l.stamp l.fn.marks) (seen_as l.stamp l.marks) l.i l.opened;
+  marked : Marks (net_of_walk l.walk) l.walk.k l.stamp l.marks;
 }

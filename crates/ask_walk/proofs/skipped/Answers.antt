@@ -1,12 +1,6 @@
 -- `ask_walk::skipped` meets its contract: its two tests are those of the definition, in the same order.
-use Rattle.ask_walk.specs.Stamps.{seen_as}
-use Rattle.ask_walk.proofs.Stamped.{skips_level, skips_mark}
+use Rattle.ask_walk.proofs.Stamped.{skips_mark}
 use Rattle.ask_walk.proofs.skipped.Goals as goal
-
-pub returns-then-num : goal.returns-then-num
-returns-then-num c =
-    skips_level c.args.w c.args.t c.args.groups.now c.args.levels.now (seen_as c.args.stamp c.args.marks.now) c.args.h _ _ c.num.ensures.0
-    c.num-2.ensures.0 c.if-num.true
 
 pub returns : goal.returns
 returns c =

@@ -11,7 +11,7 @@ use Rattle.laws.proofs.Tests.{or_left, or_right}
 use Rattle.laws.specs.Checks.{Stops, stopped}
 use Rattle.laws.proofs.Checks.{stops_outcome}
 use Rattle.build.specs.Input.{input_of, form_by}
-use Rattle.build.proofs.Checks.{any_found, none_found, first_found}
+use Rattle.build.proofs.Checks.{any_some, first_some, any_none_found}
 use Rattle.build.proofs.early.Goals as goal
 use Rattle.build.proofs.early.Goals.{Start, then-d-eq0-via-then-d-eq0, then-d-eq0-via-else-d-eq0+then-most_labellings-d}
 
@@ -104,9 +104,9 @@ returns-then-work-needed c =
     let p₅ = past₅ s p₄ c.if-orders-d.false in
     stop s 5 (p₅ 0 (lt-ltb _ _ c.if-work-needed.true))
 
-pub returns-then-first-edges : goal.returns-then-first-edges
-returns-then-first-edges c =
-    let s = (goal.at.returns-then-first-edges c).Start in
+pub returns-in-Some : goal.returns-in-Some
+returns-in-Some c =
+    let s = (goal.at.returns-in-Some c).Start in
     let p₁ = past₁ s c.if-most_vertices-n.false in
     let p₂ = past₂ s p₁ c.if-edges-targets.false in
     let p₃ = past₃ s p₂ c.if-most_edges-edges.false in
@@ -114,9 +114,9 @@ returns-then-first-edges c =
     let p₅ = past₅ s p₄ c.if-orders-d.false in
     let p₆ = past₆ s p₅ c.if-work-needed.false in
     let G = (input s).graph in
-    let found = c.bad_edge-first.ensures in
-    ap (refused 7) (first_found (bad_edge G) (length G.sources) _ found c.if-first-edges.true)
-    ∙ stop s 6 (p₆ 0 (any_found (bad_edge G) (length G.sources) _ found c.if-first-edges.true))
+    let found = c.bad_edge.ensures in
+    ap (refused 7) (first_some (bad_edge G) (length G.sources) found c.in-Some.is)
+    ∙ stop s 6 (p₆ 0 (any_some (bad_edge G) (length G.sources) found c.in-Some.is))
 
 pub returns : goal.returns
 returns c =
@@ -129,4 +129,4 @@ returns c =
     let p₆ = past₆ s p₅ c.if-work-needed.false in
     let G = (input s).graph in
     stop s 7
-    (p₆ 1 (none_found (bad_edge G) (length G.sources) _ c.bad_edge-first.ensures c.if-first-edges.false, tt))
+    (p₆ 1 (any_none_found (bad_edge G) (length G.sources) c.bad_edge.ensures c.in_default.is, tt))

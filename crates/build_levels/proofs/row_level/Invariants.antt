@@ -2,5 +2,5 @@
 use Rattle.build_levels.proofs.Rows.{Climbing}
 use Rattle.build_levels.proofs.row_level.Given as goal
 
-abbrev pub invariant-loop-i : goal.invariant-loop-i
-invariant-loop-i l = Climbing l.work l.at l.size l.base l.k l.i l.level
+abbrev pub invariant-loop-place : goal.invariant-loop-place
+invariant-loop-place l = Climbing l.levels l.row l.place-index l.level

@@ -1,10 +1,11 @@
 -- `build_names::run` meets its contract, by the invariant beside this file.
-use mathlib.Core.Path.{◌≡◌, refl}
+use mathlib.Core.Path.{◌≡◌, refl, ◌∙◌}
 use Prim.Native.Nat.{ℕ, suc, ◌+◌, ◌*◌, ◌-◌, ◌^◌, ◌≤◌, ◌<◌}
 use native.Mathlib.Omega.{arith}
 use lib.ListN.{length, get_or}
-use Rattle.build_traversal.proofs.Frames.{in_less, out_less, room_now, entry_inside, next_fits, entry_low, past_less}
-use Rattle.build_names.proofs.Going.{going_none, going_past, space, fewer_now, going_in, top_fit, no_more, going_out}
+use Rattle.build_traversal.proofs.Regions.{end_sliced}
+use Rattle.build_traversal.proofs.Frames.{in_less, out_less, room_now, entry_inside, next_fits, entry_low, past_less, end_fits}
+use Rattle.build_names.proofs.Going.{going_none, going_past, space, fewer_now, going_in, top_fit, kept_out, frames_same, no_more, going_out}
 use Rattle.build_names.proofs.Ended.{ended}
 use Rattle.build_names.proofs.run.Goals as goal
 use Rattle.build_names.proofs.run.Goals.{At-loop-e, Then-d-gt0, Then-e-end, Then-number-eq0}
@@ -49,8 +50,8 @@ bounds-work-base c = omega (arith, vertex_low (goal.at.bounds-work-base c).Then-
 pub overflow_cast-first : goal.overflow_cast-first
 overflow_cast-first c = omega (arith, frame (goal.at.overflow_cast-first c).Then-number-eq0, c.requires.traverse_fit.few)
 
-pub overflow_cast-e : goal.overflow_cast-e
-overflow_cast-e c = omega (arith, small (goal.at.overflow_cast-e c).Then-e-end)
+pub overflow_cast-frame : goal.overflow_cast-frame
+overflow_cast-frame c = omega (arith, small (goal.at.overflow_cast-frame c).Then-e-end)
 
 pub enter-requires : goal.enter-requires
 enter-requires c =
@@ -82,6 +83,17 @@ loop-e-preserved-else-number-eq0 c = going_past c.requires.traverse_fit c.loop-e
 pub settle-sp-requires : goal.settle-sp-requires
 settle-sp-requires c = top_fit c.requires.traverse_fit c.loop-e.invariant c.if-e-end.false _ (top (goal.at.settle-sp-requires c).Then-d-gt0)
 
+pub row_end-end-requires : goal.row_end-end-requires
+row_end-end-requires c =
+    let fit = c.requires.traverse_fit in
+    let g = c.loop-e.invariant in
+    let over = c.if-e-end.false in
+    let up = top (goal.at.row_end-end-requires c).Then-d-gt0 in
+    let same = frames_same fit g over _ up c.settle-sp.ensures in
+    let both = end_fits fit g.frames over _ up (omega (arith, (top_fit fit g over _ up).frame)) (kept_out fit g over _ up c.settle-sp.ensures)
+    (same _ (omega arith) (omega arith)) (same _ (omega arith) (omega arith)) (same _ (omega arith) (omega arith)) (omega arith) (omega arith) in
+    record { d_in_bounds = both.0; by_index = both.1 }
+
 pub loop-e-smaller : goal.loop-e-smaller
 loop-e-smaller c =
     out_less _ _ _ _ _ _ _ _ _ (top (goal.at.loop-e-smaller c).Then-d-gt0)
@@ -92,7 +104,8 @@ loop-e-preserved c =
     let place : ℕ = c.args.base + 2 * c.args.rows.k + (c.loop-e.d - 1) in
     let fits : get_or c.settle-sp.new.work place 0 < 2 ^ 32 = omega arith in
     going_out c.requires.traverse_fit c.loop-e.invariant c.if-e-end.false _ (top (goal.at.loop-e-preserved c).Then-d-gt0) c.settle-sp.ensures
-    c.min-low-then-d-gt0.ensures refl fits c.row_place-at.ensures c.row_end-end.ensures
+    c.min-low-then-d-gt0.ensures refl fits c.row_place-at.ensures
+    (c.row_end-end.ensures ∙ end_sliced c.settle-sp.new.work c.args.rows.starts c.args.base c.args.rows.k c.args.q (c.loop-e.d - 1) (omega arith) (omega arith))
 
 pub returns-else-d-gt0 : goal.returns-else-d-gt0
 returns-else-d-gt0 c =

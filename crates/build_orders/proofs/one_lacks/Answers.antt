@@ -1,21 +1,18 @@
--- `build_orders::one_lacks` meets its contract, by the invariant beside this file.
-use native.Mathlib.Omega.{arith}
-use Rattle.build_orders.proofs.First.{none_begin, none_more, none_not_any}
-use Rattle.build_orders.proofs.Lacking.{word_lacks, word_has}
+-- `build_orders::one_lacks` meets its contract: `any` looks through the words, and a word lacks the stamp where it is another.
+use mathlib.Core.Bool.{Bool, not}
+use mathlib.Core.Path.{refl, ◌∙◌}
+use Prim.Native.Nat.{ℕ}
+use lib.Dec.{eqb}
+use Rattle.std.proofs.Common.{rules, tests}
+use Rattle.std.proofs.lemmas.Iterator.{YieldsList-from_slice}
+use Rattle.std.proofs.lemmas.Iterator.Search.{any_from_yields_List}
+use Rattle.numbers.proofs.Found.{any_found}
+use Rattle.build_orders.specs.Lacks.{lacks}
 use Rattle.build_orders.proofs.one_lacks.Goals as goal
 
-pub loop-v-init : goal.loop-v-init
-loop-v-init c = none_begin
-
-pub returns-then-work-base : goal.returns-then-work-base
-returns-then-work-base c =
-    let a = c.args in
-    word_lacks a.work.now a.base a.n a.stamp c.loop-v.v (omega arith) c.if-work-base.true
-
-pub loop-v-preserved : goal.loop-v-preserved
-loop-v-preserved c =
-    let a = c.args in
-    none_more c.loop-v.invariant (word_has a.work.now a.base a.n a.stamp c.loop-v.v (omega arith) c.if-work-base.false)
-
 pub returns : goal.returns
-returns c = none_not_any c.args.n c.loop-v.invariant (omega arith)
+returns c =
+    let words = c.args.words.now in
+    let test : ℕ → Bool = λ word. not (eqb word c.args.stamp) in
+    any_from_yields_List test _ _ c.any.result c.any.ensures.ran (YieldsList-from_slice words c.iter.ensures.rest) (λ x b q k. search (rules, tests))
+    ∙ any_found test (lacks c.args.stamp words) words 0 (λ i h. refl)

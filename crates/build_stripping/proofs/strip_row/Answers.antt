@@ -7,10 +7,10 @@ use Rattle.build_stripping.proofs.strip_row.Goals as goal
 use Rattle.build_stripping.proofs.strip_row.Goals.{In-loop-e, then-work-stamps, else-work-stamps}
 
 -- the entry is below k, and its stamp lies in memory
-low : (c : In-loop-e) → get_or c.loop-e.work (c.args.values + c.loop-e.e) 0 < c.args.k
+low : (c : In-loop-e) → get_or c.loop-e.work (c.args.rows.values + c.loop-e.e) 0 < c.args.rows.k
 low c = entry_low c.requires c.loop-e.invariant (omega arith)
 
-roomy : (c : In-loop-e) → c.args.out + c.args.c + c.args.k ≤ length c.loop-e.work
+roomy : (c : In-loop-e) → c.args.out + c.args.rows.c + c.args.rows.k ≤ length c.loop-e.work
 roomy c = room c.requires c.loop-e.invariant (omega arith)
 
 pub bounds-work-stamps : goal.bounds-work-stamps

@@ -4,4 +4,4 @@ use Rattle.build_stripping.proofs.Stripping.{Stripping}
 use Rattle.build_stripping.proofs.strip_row.Given as goal
 
 abbrev pub invariant-loop-e : goal.invariant-loop-e
-invariant-loop-e l = Stripping l.initial.work l.work l.values l.c l.from l.to l.p l.k l.out l.at l.n l.e
+invariant-loop-e l = Stripping l.initial.work l.work l.rows.values l.rows.c l.from l.to l.p l.rows.k l.out l.at l.n l.e

@@ -1,8 +1,9 @@
 -- `build_traversal::run` meets its contract, by the invariant beside this file.
-use mathlib.Core.Path.{◌≡◌, refl}
+use mathlib.Core.Path.{◌≡◌, refl, ◌∙◌}
 use Prim.Native.Nat.{ℕ, suc, ◌+◌, ◌*◌, ◌-◌, ◌^◌, ◌≤◌, ◌<◌}
 use native.Mathlib.Omega.{arith}
 use lib.ListN.{length, get_or}
+use Rattle.build_traversal.proofs.Regions.{end_sliced}
 use Rattle.build_traversal.proofs.Frames.{in_less, out_less, room_now, entry_inside, next_fits, entry_low, past_less, end_fits}
 use Rattle.build_traversal.proofs.Going.{going_none, going_past, space, fewer_now, going_in, leave_fits, kept_out, frames_same, no_more, going_out, held}
 use Rattle.build_traversal.proofs.Ended.{ended}
@@ -49,8 +50,8 @@ bounds-work-at c = inside (goal.at.bounds-work-at c).Then-e-end
 pub bounds-work-base : goal.bounds-work-base
 bounds-work-base c = omega (arith, vertex_low (goal.at.bounds-work-base c).Then-e-end, room (goal.at.bounds-work-base c).At-loop-e)
 
-pub overflow_cast-e : goal.overflow_cast-e
-overflow_cast-e c = omega (arith, small (goal.at.overflow_cast-e c).Then-e-end)
+pub overflow_cast-frame : goal.overflow_cast-frame
+overflow_cast-frame c = omega (arith, small (goal.at.overflow_cast-frame c).Then-e-end)
 
 pub enter-requires : goal.enter-requires
 enter-requires c =
@@ -103,8 +104,8 @@ row_end-end-requires c =
     let both = end_fits fit c.loop-e.invariant.frames over _ (top (goal.at.row_end-end-requires c).Then-d-gt0)
     (omega (arith, both (goal.at.row_end-end-requires c).At-loop-e))
     (kept_out fit c.loop-e.invariant over _ (top (goal.at.row_end-end-requires c).Then-d-gt0) c.min-s-then-d-gt0.ensures c.leave.ensures)
-    (same _ (omega arith) (omega arith)) (same _ (omega arith) (omega arith)) (same _ (omega arith) (omega arith)) in
-    record { n_in_bounds = both.0; n_in_bounds_2 = both.1.0; d_le_n = both.1.1.0; by_index = both.1.1.1 }
+    (same _ (omega arith) (omega arith)) (same _ (omega arith) (omega arith)) (same _ (omega arith) (omega arith)) (omega arith) (omega arith) in
+    record { d_in_bounds = both.0; by_index = both.1 }
 
 pub loop-e-smaller : goal.loop-e-smaller
 loop-e-smaller c =
@@ -117,7 +118,8 @@ loop-e-preserved c =
     let place : ℕ = c.args.base + 2 * c.args.rows.k + (c.loop-e.d - 1) in
     let fits : get_or c.leave.new.work place 0 < 2 ^ 32 = omega arith in
     going_out c.requires.traverse_fit c.loop-e.invariant c.if-e-end.false _ (top (goal.at.loop-e-preserved c).Then-d-gt0) c.min-s-then-d-gt0.ensures
-    c.leave.ensures c.min-s-then-d-gt0-2.ensures refl fits c.row_place-at.ensures c.row_end-end.ensures
+    c.leave.ensures c.min-s-then-d-gt0-2.ensures refl fits c.row_place-at.ensures
+    (c.row_end-end.ensures ∙ end_sliced c.leave.new.work c.args.rows.starts c.args.base c.args.rows.k c.args.q (c.loop-e.d - 1) (omega arith) (omega arith))
 
 pub returns-else-d-gt0 : goal.returns-else-d-gt0
 returns-else-d-gt0 c =

@@ -3,7 +3,8 @@ use mathlib.Core.Path.{◌≡◌, ap, ◌∙◌}
 use Prim.Native.Nat.{ℕ, ◌+◌, ◌*◌, ◌≤◌}
 use native.Mathlib.Omega.{arith}
 use lib.ListN.{length}
-use Rattle.build_writing.specs.Words.{label_in}
+use Rattle.lineage.specs.Stored.{label_of}
+use Rattle.build_writing.specs.Words.{labelling_in_words}
 use Rattle.build_writing.proofs.Behind.{blocks_put, blocks_none, blocks_more}
 use Rattle.build_writing.proofs.Labellings.{label_long, labels_room}
 use Rattle.build_writing.proofs.write_labels.Goals as goal
@@ -21,7 +22,7 @@ pub bytes_of-step-requires : goal.bytes_of-step-requires
 bytes_of-step-requires c = record { width = c.requires.width; count_bound = omega (arith, c.requires.stride.high) }
 
 pub loop-i-init : goal.loop-i-init
-loop-i-init c = let a = c.args in blocks_none a.w a.at (label_in a.z a.words.now a.s a.m a.e) a.out.now
+loop-i-init c = let a = c.args in blocks_none a.w a.at (label_of a.z (labelling_in_words a.words.now)) a.out.now
 
 pub write_label-requires : goal.write_label-requires
 write_label-requires c =
@@ -37,7 +38,7 @@ loop-i-preserved c =
     let a = c.args in
     let i = (goal.at.loop-i-preserved c).In-loop-i in
     c.write_label.ensures
-    ∙ blocks_more a.w a.at (label_in a.z a.words.now a.s a.m a.e) a.out.now a.z c.loop-i.out _ c.loop-i.i
+    ∙ blocks_more a.w a.at (label_of a.z (labelling_in_words a.words.now)) a.out.now a.z c.loop-i.out _ c.loop-i.i
     (λ j h. label_long c.requires.stride _ _ _)
     c.loop-i.invariant
     (here i)
@@ -47,4 +48,4 @@ pub returns : goal.returns
 returns c =
     let a = c.args in
     c.loop-i.invariant
-    ∙ ap (blocks_put a.w a.at (label_in a.z a.words.now a.s a.m a.e) a.out.now) (let e : c.loop-i.i ≡ a.k = omega arith in e)
+    ∙ ap (blocks_put a.w a.at (label_of a.z (labelling_in_words a.words.now)) a.out.now) (let e : c.loop-i.i ≡ length a.words.now.s.now = omega arith in e)

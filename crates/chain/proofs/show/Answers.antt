@@ -5,7 +5,7 @@ use Rattle.numbers.specs.Bounds.{vertex_bound}
 use Rattle.reach_sweep.specs.Fit.{names_of}
 use Rattle.chain_steps.specs.Steps.{next_in}
 use Rattle.chain_steps.proofs.Steps.{steps_most}
-use Rattle.chain.proofs.Shown.{fills_short, fills_all}
+use Rattle.chain.proofs.Shown.{fills_all}
 use Rattle.chain.proofs.show.Goals as goal
 use Rattle.chain.proofs.show.Goals.{After-count_steps-count}
 
@@ -16,17 +16,6 @@ few c = let a = c.args in
 
 pub overflow_cast-result : goal.overflow_cast-result
 overflow_cast-result c = omega (arith, few (goal.at.overflow_cast-result c).After-count_steps-count)
-
-pub returns-then-steps-count : goal.returns-then-steps-count
-returns-then-steps-count c = fills_short c.count_steps-count.ensures c.if-steps-count.true
-
-pub write_chain-requires : goal.write_chain-requires
-write_chain-requires c =
-    record {
-      spots = c.requires.spots;
-      trail_in = c.requires.trail_in;
-      x_in_bounds = omega (arith, c.if-steps-count.false, c.count_steps-count.ensures);
-    }
 
 pub overflow_cast-result-2 : goal.overflow_cast-result-2
 overflow_cast-result-2 c = omega (arith, few (goal.at.overflow_cast-result-2 c).After-count_steps-count)

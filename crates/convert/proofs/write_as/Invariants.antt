@@ -4,4 +4,4 @@ use Rattle.convert.proofs.Written.{sections_put}
 use Rattle.convert.proofs.write_as.Given as goal
 
 abbrev pub invariant-loop-i : goal.invariant-loop-i
-invariant-loop-i l = l.out ≡ sections_put l.index l.to l.initial.out l.i
+invariant-loop-i l = l.out ≡ sections_put l.index.image.bytes.now l.to l.initial.out l.i

@@ -5,4 +5,4 @@ use Rattle.exceptions_lists.specs.Lists.{entries_to}
 use Rattle.exceptions_lists.proofs.count_exceptions.Given as goal
 
 abbrev pub invariant-loop-x : goal.invariant-loop-x
-invariant-loop-x l = (l.count ≡ entries_to (index_in l.index) l.x) × (l.marks ≡ l.initial.marks)
+invariant-loop-x l = (l.count ≡ entries_to (index_in l.index.image.bytes.now) l.x) × (l.marks ≡ l.initial.marks)

@@ -10,14 +10,15 @@ use Rattle.lineage.specs.Calls.{index_in}
 use Rattle.numbers.proofs.Written.{Bytes}
 use Rattle.exceptions_marks.proofs.Fitted.{groups_many}
 use Rattle.exceptions_lists.proofs.Matched.{not_short, not_long, not_count, not_first, lists_by_lem}
+use Rattle.sound_places.proofs.Images.{sound_bytes}
 use Rattle.exceptions_lists.proofs.exceptions_match.Goals as goal
 use Rattle.exceptions_lists.proofs.exceptions_match.Goals.{Start, Else-lists-k}
 
 abbrev index_of : (a : Start) → Index
-index_of a = index_in a.args.index.now
+index_of a = index_in a.args.index.now.image.bytes.now
 
-many : (a : Start) → length (index_of a).groups ≡ a.args.l.k
-many a = groups_many a.requires.sound_bytes
+many : (a : Start) → length (index_of a).groups ≡ a.args.index.now.image.layout.k
+many a = groups_many (sound_bytes a.args.index.now)
 
 few : (a : Start) → length (index_of a).groups ≤ 4096
 few a = omega (arith, many a, a.requires.k_bound)

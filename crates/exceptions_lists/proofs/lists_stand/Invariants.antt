@@ -5,4 +5,4 @@ use Rattle.exceptions_lists.proofs.Standing.{Standing}
 use Rattle.exceptions_lists.proofs.lists_stand.Given as goal
 
 abbrev pub invariant-loop-x : goal.invariant-loop-x
-invariant-loop-x l = Standing (index_in l.index) l.lists l.l.k l.most l.x l.at × (l.marks ≡ l.initial.marks)
+invariant-loop-x l = Standing (index_in l.index.image.bytes.now) l.lists l.index.image.layout.k l.most l.x l.at × (l.marks ≡ l.initial.marks)

@@ -8,11 +8,12 @@ use Rattle.exceptions_marks.proofs.Fitted.{groups_many}
 use Rattle.exceptions_lists.specs.Lists.{entries_to}
 use Rattle.exceptions_lists.proofs.Ends.{entries_count, marks_still}
 use Rattle.exceptions_lists.proofs.Writing.{writing_none, writing_fits, writing_more, writing_all}
+use Rattle.sound_places.proofs.Images.{sound_bytes}
 use Rattle.exceptions_lists.proofs.write_lists.Goals as goal
 use Rattle.exceptions_lists.proofs.write_lists.Goals.{Start}
 
-room : (s : Start) → 4 * (s.args.l.k + 3 + entries_to (index_in s.args.index.now) s.args.l.k) ≤ length s.args.out.now
-room s = omega (arith, s.requires.index_in_bounds, entries_count (index_in s.args.index.now) s.args.l.k (sym (groups_many s.requires.sound_bytes)))
+room : (s : Start) → 4 * (s.args.index.now.image.layout.k + 3 + entries_to (index_in s.args.index.now.image.bytes.now) s.args.index.now.image.layout.k) ≤ length s.args.out.now
+room s = omega (arith, s.requires.index_in_bounds, entries_count (index_in s.args.index.now.image.bytes.now) s.args.index.now.image.layout.k (sym (groups_many (sound_bytes s.args.index.now))))
 
 pub loop-x-init : goal.loop-x-init
 loop-x-init c = (writing_none _ _ _, refl)
@@ -32,4 +33,4 @@ loop-x-preserved c = (
 pub returns-clause-out_after : goal.returns-clause-out_after
 returns-clause-out_after c =
     let K = c.loop-x.invariant.0 in
-    writing_all (room (goal.at.returns-clause-out_after c).Start) K (omega (arith, K.within, c.loop-x-test.false)) (sym (groups_many c.requires.sound_bytes))
+    writing_all (room (goal.at.returns-clause-out_after c).Start) K (omega (arith, K.within, c.loop-x-test.false)) (sym (groups_many (sound_bytes c.args.index.now)))

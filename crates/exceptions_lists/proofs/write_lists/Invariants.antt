@@ -6,4 +6,4 @@ use Rattle.exceptions_lists.proofs.Writing.{Writing}
 use Rattle.exceptions_lists.proofs.write_lists.Given as goal
 
 abbrev pub invariant-loop-x : goal.invariant-loop-x
-invariant-loop-x l = Writing (index_in l.index) l.l.k l.x l.at l.initial.out l.out × (l.marks ≡ l.initial.marks)
+invariant-loop-x l = Writing (index_in l.index.image.bytes.now) l.index.image.layout.k l.x l.at l.initial.out l.out × (l.marks ≡ l.initial.marks)

@@ -4,4 +4,4 @@ use Rattle.exceptions_marks.proofs.Containment.{lies}
 use Rattle.exceptions_marks.proofs.contains.Given as goal
 
 abbrev pub invariant-loop-l : goal.invariant-loop-l
-invariant-loop-l l = Passed (lies l.w l.z l.k l.labels l.x l.y) l.d l.l
+invariant-loop-l l = Passed (lies l.labels.width l.labels.z l.labels.k l.labels.bytes.now l.x l.y) l.labels.d l.l

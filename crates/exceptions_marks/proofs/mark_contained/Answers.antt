@@ -11,107 +11,117 @@ use Rattle.reach.specs.Marks.{first_labels}
 use Rattle.reach.proofs.Fitted.{index_sound}
 use Rattle.exceptions_marks.proofs.Fitted.{with_labels_lem, first_in, places_many, room_there, test_was, name_read, name_low, name_was, s_was, s_least, e_was, ranks_rise, e_low, place_read, place_low, place_was}
 use Rattle.exceptions_marks.proofs.Looking.{looking_none, looking_over, looking_more, looking_count, looking_all}
+use Rattle.sound_places.proofs.Images.{sound_bytes}
 use Rattle.exceptions_marks.proofs.mark_contained.Goals as goal
-use Rattle.exceptions_marks.proofs.mark_contained.Goals.{After-by_rank-places, After-e_of, After-loop-i, After-num-name, After-num-y, After-s_of-from, In-loop-i, then-is_exception, else-is_exception}
+use Rattle.exceptions_marks.proofs.mark_contained.Goals.{After-by_rank-places, After-e, After-loop-i, After-num-name, After-num-y, After-s-from, In-loop-i, then-is_exception, else-is_exception}
 
-given : (a : After-by_rank-places) → let L = a.requires.sound_bytes.laid in
-    Six a.args.index.now a.args.l (stretch_of L 0) a.groups-groups.result.now (stretch_of L 2) (stretch_of L 3) (stretch_of L 4)
-    a.labels-labels.result.now
-given a = with_labels_lem a.requires.sound_bytes.laid a.groups-groups.ensures a.labels-labels.ensures
+given : (a : After-by_rank-places) → let L = a.args.index.now.image.laid in
+    Six a.args.index.now.image.bytes.now a.args.index.now.image.layout (stretch_of L 0) a.groups-groups.result.now (stretch_of L 2) (stretch_of L 3) (stretch_of L 4)
+    a.labels.result.now
+given a = with_labels_lem a.args.index.now.image.laid a.groups-groups.ensures a.labels.ensures
 
-some_rank : (a : After-s_of-from) → 1 ≤ a.s_of-from.result
+some_rank : (a : After-s-from) → 1 ≤ a.s-from.result
 some_rank a =
-    let O = a.requires.sound_bytes in
-    s_least O (with_labels_lem O.laid a.groups-groups.ensures a.labels-labels.ensures) a.tuples-tuples.ensures a.requires.n_in_bounds.1 a.s_of-from.ensures.0
+    let O = sound_bytes a.args.index.now in
+    s_least O (with_labels_lem O.laid a.groups-groups.ensures a.labels.ensures) a.of-tuples.ensures.bytes a.requires.n_in_bounds.1
+    (rw (a.of-tuples.ensures.same.0, a.of-tuples.ensures.same.1.0) at a.s-from.ensures.0)
 
-rise : (a : After-e_of) → a.s_of-from.result ≤ a.e_of.result
+rise : (a : After-e) → a.s-from.result ≤ a.e.result
 rise a =
-    let O = a.requires.sound_bytes in
-    ranks_rise O (with_labels_lem O.laid a.groups-groups.ensures a.labels-labels.ensures) a.tuples-tuples.ensures a.requires.n_in_bounds.1 a.s_of-from.ensures.0
-    a.e_of.ensures.0
+    let O = sound_bytes a.args.index.now in
+    ranks_rise O (with_labels_lem O.laid a.groups-groups.ensures a.labels.ensures) a.of-tuples.ensures.bytes a.requires.n_in_bounds.1
+    (rw (a.of-tuples.ensures.same.0, a.of-tuples.ensures.same.1.0) at a.s-from.ensures.0)
+    (rw (a.of-tuples.ensures.same.0, a.of-tuples.ensures.same.1.0) at a.e.ensures.0)
 
 -- the rank at hand
-in_rank : (c : In-loop-i) → c.s_of-from.result - 1 + c.loop-i.i < c.args.l.k
+in_rank : (c : In-loop-i) → c.s-from.result - 1 + c.loop-i.i < c.args.index.now.image.layout.k
 in_rank c =
-    let O = c.requires.sound_bytes in
-    let G = with_labels_lem O.laid c.groups-groups.ensures c.labels-labels.ensures in
-    let T = c.tuples-tuples.ensures in
+    let O = sound_bytes c.args.index.now in
+    let G = with_labels_lem O.laid c.groups-groups.ensures c.labels.ensures in
+    let T = c.of-tuples.ensures.bytes in
     let b = c.requires.n_in_bounds.1 in
     omega (
       arith,
       c.loop-i-test.true,
-      ranks_rise O G T b c.s_of-from.ensures.0 c.e_of.ensures.0,
-      e_low O G T b c.e_of.ensures.0,
-      s_least O G T b c.s_of-from.ensures.0,
+      ranks_rise O G T b
+          (rw (c.of-tuples.ensures.same.0, c.of-tuples.ensures.same.1.0) at c.s-from.ensures.0) (rw (c.of-tuples.ensures.same.0, c.of-tuples.ensures.same.1.0) at c.e.ensures.0),
+      e_low O G T b (rw (c.of-tuples.ensures.same.0, c.of-tuples.ensures.same.1.0) at c.e.ensures.0),
+      s_least O G T b (rw (c.of-tuples.ensures.same.0, c.of-tuples.ensures.same.1.0) at c.s-from.ensures.0),
     )
 
 -- its place
-low : (y : After-num-y) → y.s_of-from.result - 1 + y.loop-i.i < y.args.l.k → y.num-y.result < y.args.l.k
+low : (y : After-num-y) → y.s-from.result - 1 + y.loop-i.i < y.args.index.now.image.layout.k → y.num-y.result < y.args.index.now.image.layout.k
 low y h =
-    let O = y.requires.sound_bytes in
-    place_low O (with_labels_lem O.laid y.groups-groups.ensures y.labels-labels.ensures) y.by_rank-places.ensures h y.num-y.ensures.0
+    let O = sound_bytes y.args.index.now in
+    place_low O (with_labels_lem O.laid y.groups-groups.ensures y.labels.ensures) y.by_rank-places.ensures h y.num-y.ensures.0
 
 -- its name has a mark
-named_low : (n : After-num-name) → n.num-y.result < n.args.l.k → n.num-name.result < length n.loop-i.marks
+named_low : (n : After-num-name) → n.num-y.result < n.args.index.now.image.layout.k → n.num-name.result < length n.loop-i.marks
 named_low n b =
-    let O = n.requires.sound_bytes in
-    name_low O (with_labels_lem O.laid n.groups-groups.ensures n.labels-labels.ensures) b n.num-name.ensures.0
+    let O = sound_bytes n.args.index.now in
+    name_low O (with_labels_lem O.laid n.groups-groups.ensures n.labels.ensures) b n.num-name.ensures.0
     (omega (arith, n.requires.n_in_bounds.0, n.loop-i.invariant.1.long))
 
 -- all ranks are passed
-starts : (a : After-e_of) → let s = a.args in
-    suc (a.s_of-from.result - 1) ≡ get_or (first_labels (index_in s.index.now).labels).s s.x 0
+starts : (a : After-e) → let s = a.args in
+    suc (a.s-from.result - 1) ≡ get_or (first_labels (index_in s.index.now.image.bytes.now).labels).s s.x 0
 starts a =
-    let O = a.requires.sound_bytes in
-    let G = with_labels_lem O.laid a.groups-groups.ensures a.labels-labels.ensures in
-    let T = a.tuples-tuples.ensures in
+    let O = sound_bytes a.args.index.now in
+    let G = with_labels_lem O.laid a.groups-groups.ensures a.labels.ensures in
+    let T = a.of-tuples.ensures.bytes in
     let b = a.requires.n_in_bounds.1 in
-    omega (arith, s_was O G T b a.s_of-from.ensures.0, s_least O G T b a.s_of-from.ensures.0)
+    omega (
+      arith,
+      s_was O G T b
+          (rw (a.of-tuples.ensures.same.0, a.of-tuples.ensures.same.1.0) at a.s-from.ensures.0),
+      s_least O G T b (rw (a.of-tuples.ensures.same.0, a.of-tuples.ensures.same.1.0) at a.s-from.ensures.0),
+    )
 
 ends : (c : After-loop-i) → let s = c.args in
-    c.s_of-from.result - 1 + c.loop-i.i ≡ get_or (first_labels (index_in s.index.now).labels).e s.x 0
+    c.s-from.result - 1 + c.loop-i.i ≡ get_or (first_labels (index_in s.index.now.image.bytes.now).labels).e s.x 0
 ends c =
-    let O = c.requires.sound_bytes in
-    let G = with_labels_lem O.laid c.groups-groups.ensures c.labels-labels.ensures in
-    let T = c.tuples-tuples.ensures in
+    let O = sound_bytes c.args.index.now in
+    let G = with_labels_lem O.laid c.groups-groups.ensures c.labels.ensures in
+    let T = c.of-tuples.ensures.bytes in
     let b = c.requires.n_in_bounds.1 in
     omega (
       arith,
-      e_was O G T b c.e_of.ensures.0,
-      ranks_rise O G T b c.s_of-from.ensures.0 c.e_of.ensures.0,
-      s_least O G T b c.s_of-from.ensures.0,
+      e_was O G T b (rw (c.of-tuples.ensures.same.0, c.of-tuples.ensures.same.1.0) at c.e.ensures.0),
+      ranks_rise O G T b
+          (rw (c.of-tuples.ensures.same.0, c.of-tuples.ensures.same.1.0) at c.s-from.ensures.0) (rw (c.of-tuples.ensures.same.0, c.of-tuples.ensures.same.1.0) at c.e.ensures.0),
+      s_least O G T b (rw (c.of-tuples.ensures.same.0, c.of-tuples.ensures.same.1.0) at c.s-from.ensures.0),
       c.loop-i.auto.i-end,
       c.loop-i-test.false,
     )
 
 pub overflow_sub-from : goal.overflow_sub-from
-overflow_sub-from c = some_rank (goal.at.overflow_sub-from c).After-s_of-from
+overflow_sub-from c = some_rank (goal.at.overflow_sub-from c).After-s-from
 
 pub overflow_sub-ranks : goal.overflow_sub-ranks
-overflow_sub-ranks c = omega (arith, rise (goal.at.overflow_sub-ranks c).After-e_of, some_rank (goal.at.overflow_sub-ranks c).After-s_of-from)
+overflow_sub-ranks c = omega (arith, rise (goal.at.overflow_sub-ranks c).After-e, some_rank (goal.at.overflow_sub-ranks c).After-s-from)
 
 pub loop-i-init : goal.loop-i-init
 loop-i-init c = (omega arith, looking_none _ _ _ _ _)
 
 pub num-y-requires : goal.num-y-requires
-num-y-requires c = place_read c.requires.sound_bytes (given (goal.at.num-y-requires c).After-by_rank-places) c.by_rank-places.ensures (in_rank (goal.at.num-y-requires c).In-loop-i)
+num-y-requires c = place_read (sound_bytes c.args.index.now) (given (goal.at.num-y-requires c).After-by_rank-places) c.by_rank-places.ensures (in_rank (goal.at.num-y-requires c).In-loop-i)
 
 pub num-name-requires : goal.num-name-requires
-num-name-requires c = name_read c.requires.sound_bytes (given (goal.at.num-name-requires c).After-by_rank-places) (low (goal.at.num-name-requires c).After-num-y (in_rank (goal.at.num-name-requires c).In-loop-i))
+num-name-requires c = name_read (sound_bytes c.args.index.now) (given (goal.at.num-name-requires c).After-by_rank-places) (low (goal.at.num-name-requires c).After-num-y (in_rank (goal.at.num-name-requires c).In-loop-i))
 
 pub bounds-marks-name : goal.bounds-marks-name
 bounds-marks-name c = named_low (goal.at.bounds-marks-name c).After-num-name (low (goal.at.bounds-marks-name c).After-num-y (in_rank (goal.at.bounds-marks-name c).In-loop-i))
 
-pub is_exception-requires-clause-x_lt_k : goal.is_exception-requires-clause-x_lt_k
-is_exception-requires-clause-x_lt_k c =
-    (c.requires.n_in_bounds.1, low (goal.at.is_exception-requires-clause-x_lt_k c).After-num-y (in_rank (goal.at.is_exception-requires-clause-x_lt_k c).In-loop-i))
+pub is_exception-requires : goal.is_exception-requires
+is_exception-requires c =
+    (c.requires.n_in_bounds.1, low (goal.at.is_exception-requires c).After-num-y (in_rank (goal.at.is_exception-requires c).In-loop-i))
 
 pub bounds-marks-name-then-is_exception : goal.bounds-marks-name-then-is_exception
 bounds-marks-name-then-is_exception c = named_low (goal.at.bounds-marks-name-then-is_exception c).After-num-name (low (goal.at.bounds-marks-name-then-is_exception c).After-num-y (in_rank (goal.at.bounds-marks-name-then-is_exception c).In-loop-i))
 
 pub loop-i-preserved : goal.loop-i-preserved
 loop-i-preserved c =
-    let O = c.requires.sound_bytes in
+    let O = sound_bytes c.args.index.now in
     let S = index_sound O in
     let m = first_in O in
     let room = room_there O c.requires.n_in_bounds.0 in
@@ -131,10 +141,10 @@ loop-i-preserved c =
 
 pub returns-clause-value : goal.returns-clause-value
 returns-clause-value c =
-    let O = c.requires.sound_bytes in
-    looking_count (index_sound O) (first_in O) c.requires.reaching (room_there O c.requires.n_in_bounds.0) c.loop-i.invariant.1 (omega (arith, c.requires.n_in_bounds.1, places_many O)) (starts (goal.at.returns-clause-value c).After-e_of) (ends (goal.at.returns-clause-value c).After-loop-i)
+    let O = sound_bytes c.args.index.now in
+    looking_count (index_sound O) (first_in O) c.requires.reaching (room_there O c.requires.n_in_bounds.0) c.loop-i.invariant.1 (omega (arith, c.requires.n_in_bounds.1, places_many O)) (starts (goal.at.returns-clause-value c).After-e) (ends (goal.at.returns-clause-value c).After-loop-i)
 
 pub returns-clause-excepting : goal.returns-clause-excepting
 returns-clause-excepting c =
-    let O = c.requires.sound_bytes in
-    looking_all (index_sound O) (first_in O) c.requires.reaching (room_there O c.requires.n_in_bounds.0) c.loop-i.invariant.1 (omega (arith, c.requires.n_in_bounds.1, places_many O)) (starts (goal.at.returns-clause-excepting c).After-e_of) (ends (goal.at.returns-clause-excepting c).After-loop-i)
+    let O = sound_bytes c.args.index.now in
+    looking_all (index_sound O) (first_in O) c.requires.reaching (room_there O c.requires.n_in_bounds.0) c.loop-i.invariant.1 (omega (arith, c.requires.n_in_bounds.1, places_many O)) (starts (goal.at.returns-clause-excepting c).After-e) (ends (goal.at.returns-clause-excepting c).After-loop-i)

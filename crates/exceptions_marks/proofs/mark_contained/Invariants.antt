@@ -7,4 +7,4 @@ use Rattle.exceptions_marks.proofs.Looking.{Looking}
 use Rattle.exceptions_marks.proofs.mark_contained.Given as goal
 
 abbrev pub invariant-loop-i : goal.invariant-loop-i
-invariant-loop-i l = (l.count ≤ l.i) × Looking (index_in l.index) (first_labels (index_in l.index).labels) l.x l.from l.i l.count l.initial.marks l.marks
+invariant-loop-i l = (l.count ≤ l.i) × Looking (index_in l.index.image.bytes.now) (first_labels (index_in l.index.image.bytes.now).labels) l.x l.from l.i l.count l.initial.marks l.marks

@@ -6,16 +6,17 @@ use Rattle.lineage.specs.Calls.{index_in}
 use Rattle.exceptions_marks.proofs.Fitted.{groups_many}
 use Rattle.exceptions_rows.proofs.Given.{told_entry, told_none}
 use Rattle.exceptions_rows.proofs.Comparing.{comparing_none, comparing_over, comparing_fits, comparing_more, comparing_not, comparing_all}
+use Rattle.sound_places.proofs.Images.{sound_bytes}
 use Rattle.exceptions_rows.proofs.match_marked.Goals as goal
 use Rattle.exceptions_rows.proofs.match_marked.Goals.{In-loop-y, In-Some, in-Some+else-num-v, in_default}
 
-in_groups : (i : In-loop-y) → i.loop-y.y < length (index_in i.args.index.now).groups
-in_groups i = omega (arith, i.loop-y-test.true, groups_many i.requires.sound_bytes)
+in_groups : (i : In-loop-y) → i.loop-y.y < length (index_in i.args.index.now.image.bytes.now).groups
+in_groups i = omega (arith, i.loop-y-test.true, groups_many (sound_bytes i.args.index.now))
 
 -- there is a number to compare the entry at hand with
 fits : (t : In-Some) → 4 * t.loop-y.at + 4 ≤ length t.args.lists.now
 fits t =
-    comparing_fits t.loop-y.invariant (told_entry _ _ _ t.entry_at.ensures t.in-Some.is).0 (omega (arith, t.loop-y-test.true, groups_many t.requires.sound_bytes))
+    comparing_fits t.loop-y.invariant (told_entry _ _ _ t.entry_at.ensures t.in-Some.is).0 (omega (arith, t.loop-y-test.true, groups_many (sound_bytes t.args.index.now)))
     t.requires.x_in_bounds
 
 pub loop-y-init : goal.loop-y-init
@@ -39,4 +40,4 @@ loop-y-preserved c =
     ]
 
 pub returns : goal.returns
-returns c = comparing_all c.loop-y.invariant (omega (arith, c.loop-y.auto.y-end, c.loop-y-test.false, groups_many c.requires.sound_bytes))
+returns c = comparing_all c.loop-y.invariant (omega (arith, c.loop-y.auto.y-end, c.loop-y-test.false, groups_many (sound_bytes c.args.index.now)))

@@ -4,4 +4,4 @@ use Rattle.exceptions_rows.proofs.Comparing.{Comparing}
 use Rattle.exceptions_rows.proofs.match_marked.Given as goal
 
 abbrev pub invariant-loop-y : goal.invariant-loop-y
-invariant-loop-y l = Comparing (index_in l.index) l.x l.lists l.from l.y l.at
+invariant-loop-y l = Comparing (index_in l.index.image.bytes.now) l.x l.lists l.from l.y l.at

@@ -10,13 +10,14 @@ use Rattle.reach.proofs.Fitted.{names_count}
 use Rattle.exceptions_marks.proofs.Swept.{excepting_cleared}
 use Rattle.exceptions_rows.proofs.Given.{entries_many}
 use Rattle.exceptions_rows.proofs.Putting.{putting_nothing}
+use Rattle.sound_places.proofs.Images.{sound_bytes}
 use Rattle.exceptions_rows.proofs.write_row.Goals as goal
 use Rattle.exceptions_rows.proofs.write_row.Goals.{After-mark_exceptions-count, Start, then-count-ne0, else-count-ne0}
 
 abbrev row : (s : Start) → List ℕ
-row s = entries_of (index_in s.args.index.now) s.args.x
+row s = entries_of (index_in s.args.index.now.image.bytes.now) s.args.x
 
-counted : (m : After-mark_exceptions-count) → m.mark_exceptions-count.result ≡ length ((entries_of (index_in m.args.index.now) m.args.x))
+counted : (m : After-mark_exceptions-count) → m.mark_exceptions-count.result ≡ length ((entries_of (index_in m.args.index.now.image.bytes.now) m.args.x))
 counted m = entries_many _ _ m.mark_exceptions-count.ensures.value
 
 pub returns-clause-out_after : goal.returns-clause-out_after
@@ -25,4 +26,4 @@ returns-clause-out_after c =
 
 pub returns-clause-marks_unchanged : goal.returns-clause-marks_unchanged
 returns-clause-marks_unchanged c =
-    excepting_cleared (names_count c.requires.sound_bytes) c.requires.marks_value c.mark_exceptions-count.ensures.excepting c.clear_marks.ensures
+    excepting_cleared (names_count (sound_bytes c.args.index.now)) c.requires.marks_value c.mark_exceptions-count.ensures.excepting c.clear_marks.ensures

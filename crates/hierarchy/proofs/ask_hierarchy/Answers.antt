@@ -6,9 +6,8 @@ use Rattle.std.proofs.lemmas.Result.{err_from_is_err_and}
 use Rattle.numbers.proofs.Regions.{kept_same}
 use Rattle.stored_header.specs.Header.{header_outcome}
 use Rattle.stored_header.proofs.Laid.{vertex_out, vertex_in}
-use Rattle.stored_header.proofs.Admitted.{Admits, admitted_laid, admitted_room}
+use Rattle.stored_header.proofs.Admitted.{Admits, admitted_laid}
 use Rattle.ask.proofs.Refusals.{asks_refused, asks_source, asks_target, asks_rest}
-use Rattle.hierarchy.proofs.Admitted.{admitted_plain}
 use Rattle.hierarchy.proofs.ask_hierarchy.Goals as goal
 use Rattle.hierarchy.proofs.ask_hierarchy.Goals.{In_ok-l}
 
@@ -47,17 +46,8 @@ returns-then-l-v c =
       work_after = both.1.1;
     }
 
-pub words_needed-requires : goal.words_needed-requires
-words_needed-requires c = let L = admitted_laid (admits (goal.at.words_needed-requires c).In_ok-l) in (L.vertices, (L.groups, L.entries))
-
-pub ask_laid-requires : goal.ask_laid-requires
-ask_laid-requires c =
-    let A = admits (goal.at.ask_laid-requires c).In_ok-l in
-    record {
-      laid = admitted_laid A;
-      plain = admitted_plain A;
-      u_lt_n = (c.if-l-u.false, (c.if-l-v.false, admitted_room A));
-    }
+pub invariant_of-image : goal.invariant_of-image
+invariant_of-image c = record { laid = admitted_laid (admits (goal.at.invariant_of-image c).In_ok-l) }
 
 pub returns : goal.returns
 returns c =

@@ -11,17 +11,17 @@ use Rattle.convert.specs.Convert.{only}
 use Rattle.hierarchy.proofs.Admitted.{admitted_wide, admitted_one}
 use Rattle.hierarchy.proofs.Refusals.{turns_refused, turns_unsound, turns_turned}
 use Rattle.hierarchy.proofs.turn_between.Goals as goal
-use Rattle.hierarchy.proofs.turn_between.Goals.{In_ok-l}
+use Rattle.hierarchy.proofs.turn_between.Goals.{In_ok-layout}
 
-admits : (a : In_ok-l) → let s = a.args in
-    Admits (only s.from) s.index.now (length s.marks.now) (length s.work.now) a.in_ok-l.l
-admits a = record { passes = sym (ap header_outcome a.in_ok-l.was) ∙ a.admit.ensures }
+admits : (a : In_ok-layout) → let s = a.args in
+    Admits (only s.from) s.index.now (length s.marks.now) (length s.work.now) a.in_ok-layout.layout
+admits a = record { passes = sym (ap header_outcome a.in_ok-layout.was) ∙ a.admit.ensures }
 
-pub returns-in_err-l : goal.returns-in_err-l
-returns-in_err-l c =
+pub returns-in_err-layout : goal.returns-in_err-layout
+returns-in_err-layout c =
     let s = c.args in
     let from = err_from_is_err_and c.from_residual.result c.from_residual.ensures.1 in
-    let both = turns_refused s.from s.to _ s.marks.now s.work.now s.out.now (sym (ap header_outcome c.in_err-l.was) ∙ c.admit.ensures) in
+    let both = turns_refused s.from s.to _ s.marks.now s.work.now s.out.now (sym (ap header_outcome c.in_err-layout.was) ∙ c.admit.ensures) in
     record {
       result_value = rw (from.1, from.2) both.0;
       marks_after = both.1.0;
@@ -29,18 +29,18 @@ returns-in_err-l c =
       out_after = both.1.1.1;
     }
 
+pub invariant_of-image : goal.invariant_of-image
+invariant_of-image c = record { laid = admitted_laid (admits (goal.at.invariant_of-image c).In_ok-layout) }
+
 pub words_needed-requires : goal.words_needed-requires
-words_needed-requires c = let L = admitted_laid (admits (goal.at.words_needed-requires c).In_ok-l) in (L.vertices, (L.groups, L.entries))
+words_needed-requires c = let L = admitted_laid (admits (goal.at.words_needed-requires c).In_ok-layout) in (L.vertices, (L.groups, L.entries))
 
 pub clear_words-requires : goal.clear_words-requires
-clear_words-requires c = omega (arith, c.words_needed.ensures.0, admitted_words (admits (goal.at.clear_words-requires c).In_ok-l))
-
-pub contents_sound-requires : goal.contents_sound-requires
-contents_sound-requires c = let A = admits (goal.at.contents_sound-requires c).In_ok-l in record { laid = admitted_laid A; n_in_bounds = admitted_room A }
+clear_words-requires c = omega (arith, c.words_needed.ensures.0, admitted_words (admits (goal.at.clear_words-requires c).In_ok-layout))
 
 pub returns-then-not-contents_sound : goal.returns-then-not-contents_sound
 returns-then-not-contents_sound c =
-    let both = turns_unsound _ _ _ _ _ _ (admits (goal.at.returns-then-not-contents_sound c).In_ok-l) c.contents_sound.ensures.value c.contents_sound.ensures.marks_after c.words_needed.ensures.0 c.clear_words.ensures (ap not c.if-not-contents_sound.true) in
+    let both = turns_unsound _ _ _ _ _ _ (admits (goal.at.returns-then-not-contents_sound c).In_ok-layout) c.contents_sound.ensures.value c.contents_sound.ensures.marks_after c.words_needed.ensures.0 c.clear_words.ensures (ap not c.if-not-contents_sound.true) in
     record {
       result_value = both.0;
       marks_after = both.1.0;
@@ -50,10 +50,9 @@ returns-then-not-contents_sound c =
 
 pub turn_sound-requires : goal.turn_sound-requires
 turn_sound-requires c =
-    let A = admits (goal.at.turn_sound-requires c).In_ok-l in
+    let A = admits (goal.at.turn_sound-requires c).In_ok-layout in
     let p = c.requires in record {
       wide = record {
-        sound = record { laid = admitted_laid A; contents = sym c.contents_sound.ensures.value ∙ c.if-not-contents_sound.false };
         width = admitted_wide A p.wide_from;
         known = p.known;
         wide = p.wide_to;
@@ -64,7 +63,7 @@ turn_sound-requires c =
 
 pub returns : goal.returns
 returns c =
-    let both = turns_turned _ _ _ _ _ _ (admits (goal.at.returns c).In_ok-l) c.contents_sound.ensures.value (c.turn_sound.ensures.marks_unchanged ∙ c.contents_sound.ensures.marks_after) c.words_needed.ensures.0 c.clear_words.ensures (ap not c.if-not-contents_sound.false) c.turn_sound.ensures.turned in
+    let both = turns_turned _ _ _ _ _ _ (admits (goal.at.returns c).In_ok-layout) c.contents_sound.ensures.value (c.turn_sound.ensures.marks_unchanged ∙ c.contents_sound.ensures.marks_after) c.words_needed.ensures.0 c.clear_words.ensures (ap not c.if-not-contents_sound.false) c.turn_sound.ensures.turned in
     record {
       result_value = both.0;
       marks_after = both.1.0;

@@ -6,4 +6,4 @@ use Rattle.hierarchy_labels.specs.Turned.{label_from}
 use Rattle.hierarchy_labels.proofs.write_by_place.Given as goal
 
 abbrev pub invariant-loop-p : goal.invariant-loop-p
-invariant-loop-p l = l.out ≡ blocks_put l.w l.at (label_from l.w l.z l.y l.tuples) l.initial.out l.p
+invariant-loop-p l = l.out ≡ blocks_put l.tuples.width l.at (label_from l.tuples.width l.tuples.z l.y l.tuples.bytes.now) l.initial.out l.p

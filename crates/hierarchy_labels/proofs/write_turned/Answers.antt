@@ -7,5 +7,6 @@ use Rattle.hierarchy_labels.proofs.write_turned.Goals as goal
 pub returns : goal.returns
 returns c =
     let a = c.args in
-    turned_put a.w a.z a.y a.k c.tuples-tuples.ensures c.by_rank-places.ensures a.at _ a.out.now _ _ c.requires.stride c.requires.room
-    (ap (λ x. a.at + x) c.bytes_of.ensures.0) c.write_by_place.ensures c.copy_numbers.ensures
+    let m = a.labels.now in
+    turned_put m.width m.z a.y m.k c.of-tuples.ensures.bytes c.by_rank-places.ensures a.at _ a.out.now _ _ c.requires.stride c.requires.room
+    (ap (λ x. a.at + x) c.bytes_of.ensures.0) (rw (c.of-tuples.ensures.same.0, c.of-tuples.ensures.same.1.0, c.of-tuples.ensures.same.1.1) at c.write_by_place.ensures) c.copy_numbers.ensures

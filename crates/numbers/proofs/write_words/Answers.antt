@@ -1,56 +1,50 @@
 -- `numbers::write_words` meets its contract, by the invariant beside this file.
-use mathlib.Core.Path.{◌≡◌, refl, ap, ◌∙◌}
+use mathlib.Core.Path.{refl, ◌∙◌}
 use Prim.Native.Nat.{◌+◌, ◌*◌, ◌≤◌}
 use native.Mathlib.Omega.{arith}
 use lib.ListN.{length}
 use Rattle.numbers.proofs.Numbers.{room}
-use Rattle.numbers.proofs.Written.{words_put, words_none, words_more}
+use Rattle.numbers.proofs.Written.{words_none, words_more, words_all}
 use Rattle.numbers.proofs.write_words.Goals as goal
-use Rattle.numbers.proofs.write_words.Goals.{In-loop-i}
+use Rattle.numbers.proofs.write_words.Goals.{In-loop-word}
 
 -- the next word fits
-within : (c : In-loop-i) → c.args.at + c.args.w * c.loop-i.i + c.args.w
+within : (c : In-loop-word) → c.args.at + c.args.w * c.loop-word.word-index + c.args.w
     ≤ length c.args.out.now
 within c = let a = c.args in
-    omega (arith, room a.w c.loop-i.i a.count (a.w * a.count) (omega arith) (omega arith))
+    omega (arith, room a.w c.loop-word.word-index (length a.words.now) (a.w * length a.words.now) (omega arith) (omega arith))
 
-pub loop-i-init : goal.loop-i-init
-loop-i-init c =
+pub loop-word-init : goal.loop-word-init
+loop-word-init c =
     let a = c.args in
-    (omega arith, (omega arith, words_none a.w a.at a.from a.words.now a.out.now))
-
-pub offset_bounds-words-from : goal.offset_bounds-words-from
-offset_bounds-words-from c = omega (arith, c.well_formed.1.1.1.0)
-
-pub overflow_cast-words : goal.overflow_cast-words
-overflow_cast-words c = omega (arith, c.type_inv.words (c.args.from + c.loop-i.i))
+    (omega arith, (omega arith, words_none a.w a.at a.words.now a.out.now))
 
 pub put_at-requires : goal.put_at-requires
-put_at-requires c = record { width = c.requires.width; w_in_bounds = omega (arith, within (goal.at.put_at-requires c).In-loop-i) }
+put_at-requires c = record { width = c.requires.width; w_in_bounds = omega (arith, within (goal.at.put_at-requires c).In-loop-word) }
 
 pub overflow_add-p : goal.overflow_add-p
-overflow_add-p c = omega (arith, within (goal.at.overflow_add-p c).In-loop-i)
+overflow_add-p c = omega (arith, within (goal.at.overflow_add-p c).In-loop-word)
 
-pub loop-i-preserved : goal.loop-i-preserved
-loop-i-preserved c =
-    let l = c.loop-i in (
+pub loop-word-preserved : goal.loop-word-preserved
+loop-word-preserved c =
+    let l = c.loop-word in (
       omega arith,
       (
         omega arith,
         c.put_at.ensures
-            ∙ words_more c.args.w c.args.at c.args.from c.args.words.now c.args.out.now l.out l.p l.i _
+            ∙ words_more c.args.w c.args.at c.args.words.now c.args.out.now l.out l.p l.word-index _
             l.invariant.1.1
             l.invariant.0
             refl
             (omega arith)
-            (within (goal.at.loop-i-preserved c).In-loop-i),
+            (within (goal.at.loop-word-preserved c).In-loop-word),
       ),
     )
 
 pub shape_of-out : goal.shape_of-out
-shape_of-out c = c.loop-i.invariant.1.0
+shape_of-out c = c.loop-word.invariant.1.0
 
 pub returns : goal.returns
 returns c =
     let a = c.args in
-    c.loop-i.invariant.1.1 ∙ ap (words_put a.w a.at a.from a.words.now a.out.now) (let e : c.loop-i.i ≡ a.count = omega arith in e)
+    c.loop-word.invariant.1.1 ∙ words_all a.w a.at a.words.now a.out.now (omega arith)

@@ -6,5 +6,6 @@ use lib.ListN.{length}
 use Rattle.numbers.proofs.Written.{words_put}
 use Rattle.numbers.proofs.write_words.Given as goal
 
-abbrev pub invariant-loop-i : goal.invariant-loop-i
-invariant-loop-i l = (l.p ≡ l.at + l.w * l.i) × ((length l.out ≡ length l.initial.out) × (l.out ≡ words_put l.w l.at l.from l.words l.initial.out l.i))
+abbrev pub invariant-loop-word : goal.invariant-loop-word
+invariant-loop-word l =
+    (l.p ≡ l.at + l.w * l.word-index) × ((length l.out ≡ length l.initial.out) × (l.out ≡ words_put l.w l.at l.words l.initial.out l.word-index))

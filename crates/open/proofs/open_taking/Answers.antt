@@ -25,6 +25,9 @@ returns-in_err-l c =
       work_after = both.1.1;
     }
 
+pub invariant_of-image : goal.invariant_of-image
+invariant_of-image c = record { laid = admitted_laid (admits (goal.at.invariant_of-image c).In_ok-l) }
+
 pub words_needed-requires : goal.words_needed-requires
 words_needed-requires c = let L = admitted_laid (admits (goal.at.words_needed-requires c).In_ok-l) in (L.vertices, (L.groups, L.entries))
 
@@ -32,7 +35,7 @@ pub clear_words-requires : goal.clear_words-requires
 clear_words-requires c = omega (arith, c.words_needed.ensures.0, admitted_words (admits (goal.at.clear_words-requires c).In_ok-l))
 
 pub contents_sound-requires : goal.contents_sound-requires
-contents_sound-requires c = let A = admits (goal.at.contents_sound-requires c).In_ok-l in record { laid = admitted_laid A; n_in_bounds = admitted_room A }
+contents_sound-requires c = admitted_room (admits (goal.at.contents_sound-requires c).In_ok-l)
 
 pub returns-then-not-contents_sound : goal.returns-then-not-contents_sound
 returns-then-not-contents_sound c =

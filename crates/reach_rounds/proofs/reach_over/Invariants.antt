@@ -7,4 +7,5 @@ use Rattle.reach_rounds.proofs.Rounding.{Rounding}
 use Rattle.reach_rounds.proofs.reach_over.Given as goal
 
 abbrev pub invariant-loop-round : goal.invariant-loop-round
-invariant-loop-round l = Rounding (index_in l.index).names l.sources l.targets l.target (swept_all (index_in l.index)) (length l.sources - l._round) l.initial.marks l.marks
+invariant-loop-round l = Rounding (index_in l.index.image.bytes.now).names l.sources l.targets l.target (swept_all (index_in l.index.image.bytes.now))
+    (length l.sources - l._round) l.initial.marks l.marks

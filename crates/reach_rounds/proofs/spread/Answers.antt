@@ -3,7 +3,6 @@ use mathlib.Core.Path.{refl, sym, ◌∙◌}
 use Prim.Native.Nat.{◌<◌}
 use native.Mathlib.Omega.{arith}
 use lib.ListN.{length}
-use Rattle.stored.proofs.Read.{was_read}
 use Rattle.reach_rounds.proofs.Spreading.{spreading_crossed, spreading_passed, spreading_all}
 use Rattle.reach_rounds.proofs.spread.Goals as goal
 use Rattle.reach_rounds.proofs.spread.Goals.{then-leads_out, else-leads_out}
@@ -15,7 +14,7 @@ loop-i-preserved c =
       | then-leads_out w ↦
           rw (w.marks-is, w.changed-is)
           (spreading_crossed c.loop-i.invariant c.loop-i-test.true fits refl refl (sym c.leads_out.ensures ∙ w.if-leads_out.true)
-          (was_read c.requires.names.held (c.requires.sources_len.1.1.each _ fits) w.num-to.ensures.0))
+          w.get-to.ensures.0)
       | else-leads_out w ↦
           rw (w.marks-is, w.changed-is)
           (spreading_passed c.loop-i.invariant c.loop-i-test.true fits refl refl (sym c.leads_out.ensures ∙ w.if-leads_out.false))

@@ -6,4 +6,4 @@ use Rattle.rules_states.specs.Marks.{mark_each}
 use Rattle.rules_states.proofs.mark_changed.Given as goal
 
 abbrev pub invariant-loop-v : goal.invariant-loop-v
-invariant-loop-v l = l.marks ≡ mark_each (index_in l.index) (take l.v-index l.changed) l.initial.marks
+invariant-loop-v l = l.marks ≡ mark_each (index_in l.index.image.bytes.now) (take l.v-index l.changed) l.initial.marks

@@ -26,12 +26,12 @@ pub returns-in-Ok : goal.returns-in-Ok
 returns-in-Ok c =
     let a = c.args in
     let e = c.prepare.ensures in
-    desk_done a.index.now a.changed.now a.marks.now a.work.now a.rules.now e.marks_after e.work_after (reaches (goal.at.returns-in-Ok c).In-Ok) c.clear_marks.ensures
-    c.turn_all.ensures
+    rw c.from.ensures
+    (desk_done a.index.now a.changed.now a.marks.now a.work.now a.rules.now e.marks_after e.work_after (reaches (goal.at.returns-in-Ok c).In-Ok) c.clear_marks.ensures c.turn_all.ensures)
 
 pub returns-in-Err : goal.returns-in-Err
 returns-in-Err c =
     let a = c.args in
     let e = c.prepare.ensures in
     let says = sym (ap prepared_of c.in-Err.is) ∙ e.result_value in
-    rw (c.number.ensures, c.extra.ensures) (desk_refused a.index.now a.changed.now a.marks.now a.work.now a.rules.now e.marks_after e.work_after says)
+    rw c.from-in-Err.ensures (desk_refused a.index.now a.changed.now a.marks.now a.work.now a.rules.now e.marks_after e.work_after says)

@@ -1,12 +1,13 @@
 -- `sound_blocks::block_passes` meets its contract. The invariant: from `rank` on the walk ends as the whole walk does. The rank falls, since each step
 -- goes left.
 use Rattle.lineage.specs.Sound.{child_of}
-use Rattle.stored.specs.Sections.{children_in, labelling_in}
+use Rattle.stored.specs.Reading.{rows_of}
+use Rattle.sound_ranks.specs.Reading.{labelling_read}
 use Rattle.sound_blocks.proofs.Walk.{Walks}
 use Rattle.sound_blocks.proofs.block_passes.Given as goal
 
 abbrev pub invariant-loop-rank : goal.invariant-loop-rank
-invariant-loop-rank l = Walks (labelling_in l.w l.z l.tuples l.places l.k) (child_of (children_in l.w l.starts l.children l.k l.c) l.p) l.k l.initial.rank l.low l.rank
+invariant-loop-rank g l = Walks (labelling_read g.row.Z l.labelling) (child_of (rows_of l.rows.rows) l.p) l.labelling.k l.initial.rank l.low l.rank
 
 abbrev pub decreases-loop-rank : goal.decreases-loop-rank
-decreases-loop-rank l = l.rank
+decreases-loop-rank g l = l.rank

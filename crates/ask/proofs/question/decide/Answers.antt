@@ -1,18 +1,17 @@
 -- `ask::question::decide` meets its contract: each return is the first rule that holds, and what the code has read by then says so. The walk starts with marks of which
 -- none bears its stamp.
 use native.Mathlib.Omega.{arith}
-use mathlib.Core.Path.{refl, ap}
+use mathlib.Core.Path.{refl, ap, ◌∙◌}
 use mathlib.Core.List.{List}
 use Prim.Native.Nat.{ℕ, ◌+◌}
-use Rattle.numbers.proofs.Numbers.{room}
 use Rattle.numbers.proofs.Regions.{kept_same}
 use Rattle.lineage.specs.Walk.{Net}
-use Rattle.ask_walk.specs.Fit.{net_in}
 use Rattle.ask_walk.specs.Stamps.{seen_as, Under}
+use Rattle.ask_walk.specs.Walks.{net_of_walk}
 use Rattle.ask_walk.proofs.Stamped.{seen_long, seen_other, under_more, new_free, new_marks}
 use Rattle.ask_walk.proofs.Passing.{judged_missed}
 use Rattle.ask.specs.declared.Asked.{Asked}
-use Rattle.ask.proofs.Rules.{inside_low, outside_low, rule_1, rule_2, rule_3, rule_4, rule_5_6, walk_opens, walk_deciding, walk_opened}
+use Rattle.ask.proofs.Rules.{inside_low, outside_low, rule_2, rule_3, rule_4, rule_5_6, walk_opens, walk_deciding, walk_opened}
 use Rattle.ask.proofs.question.decide.Goals as goal
 use Rattle.ask.proofs.question.decide.Goals.{Start}
 
@@ -22,28 +21,14 @@ marks s = seen_as s.args.stamp s.args.marks.now
 
 -- what it goes by
 abbrev net : (s : Start) → Net
-net s = net_in s.args.w s.args.k s.args.d s.args.t s.args.groups.now s.args.levels.now s.args.starts.now s.args.children.now s.args.labels.now
+net s = net_of_walk s.args.walk.now
 
 under : (s : Start) → Under (s.args.stamp + 1) s.args.marks.now
 under s = under_more s.args.stamp (s.args.stamp + 1) s.args.marks.now (omega arith) s.requires.x_lt_k.1.1.0
 
-pub returns-then-x-t : goal.returns-then-x-t
-returns-then-x-t c = record {
-  marks_after = rule_1 c.requires.fit c.args.x (marks (goal.at.returns-then-x-t c).Start) c.plain.result c.plain.ensures c.if-x-t.true;
-  under = under (goal.at.returns-then-x-t c).Start;
-  marks_unchanged = (λ e. refl);
-  kept = kept_same _ _ _;
-}
-
-pub num-level-requires : goal.num-level-requires
-num-level-requires c = record { width = c.requires.fit.labelled.width; w_in_bounds = room _ _ _ _ c.requires.x_lt_k.0 c.requires.fit.levels_long }
-
-pub num-requires : goal.num-requires
-num-requires c = record { width = c.requires.fit.labelled.width; w_in_bounds = room _ _ _ _ c.requires.fit.target_low c.requires.fit.levels_long }
-
 pub returns-then-level-num : goal.returns-then-level-num
 returns-then-level-num c = record {
-  marks_after = rule_3 c.requires.fit c.args.x (marks (goal.at.returns-then-level-num c).Start) c.plain-then-level-num.result c.if-x-t.false c.requires.x_lt_k.0 _ _
+  marks_after = rule_3 c.args.walk.now.fit c.args.x (marks (goal.at.returns-then-level-num c).Start) c.plain-then-level-num.result c.if-x-t.false c.requires.x_lt_k.0 _ _
       c.num-level.ensures.0 c.num.ensures.0
       c.plain-then-level-num.ensures c.if-level-num.true;
   under = under (goal.at.returns-then-level-num c).Start;
@@ -53,11 +38,11 @@ returns-then-level-num c = record {
 
 pub plain-requires-in-Inside : goal.plain-requires-in-Inside
 plain-requires-in-Inside c =
-    omega (arith, inside_low c.args.w c.args.k c.args.d c.args.labels.now c.args.x c.args.t c.in-Inside.ensures, c.requires.fit.labelled.labellings_few)
+    omega (arith, inside_low c.args.walk.now.width c.args.walk.now.k c.args.walk.now.d c.args.walk.now.labels.now c.args.x c.args.walk.now.t c.in-Inside.ensures, c.args.walk.now.fit.labelled.labellings_few)
 
 pub returns-in-Inside : goal.returns-in-Inside
 returns-in-Inside c = record {
-  marks_after = rule_2 c.requires.fit c.args.x (marks (goal.at.returns-in-Inside c).Start) c.plain-in-Inside.result c.if-x-t.false c.requires.x_lt_k.0 _ _
+  marks_after = rule_2 c.args.walk.now.fit c.args.x (marks (goal.at.returns-in-Inside c).Start) c.plain-in-Inside.result c.if-x-t.false c.requires.x_lt_k.0 _ _
       c.num-level.ensures.0 c.num.ensures.0
       c.if-level-num.false c.plain-in-Inside.ensures c.in-Inside.ensures;
   under = under (goal.at.returns-in-Inside c).Start;
@@ -67,11 +52,11 @@ returns-in-Inside c = record {
 
 pub plain-requires-in-Outside : goal.plain-requires-in-Outside
 plain-requires-in-Outside c =
-    omega (arith, outside_low c.args.w c.args.k c.args.d c.args.labels.now c.args.x c.args.t c.in-Outside.ensures, c.requires.fit.labelled.labellings_few)
+    omega (arith, outside_low c.args.walk.now.width c.args.walk.now.k c.args.walk.now.d c.args.walk.now.labels.now c.args.x c.args.walk.now.t c.in-Outside.ensures, c.args.walk.now.fit.labelled.labellings_few)
 
 pub returns-in-Outside : goal.returns-in-Outside
 returns-in-Outside c = record {
-  marks_after = rule_4 c.requires.fit c.args.x (marks (goal.at.returns-in-Outside c).Start) c.plain-in-Outside.result c.if-x-t.false c.requires.x_lt_k.0 _ _
+  marks_after = rule_4 c.args.walk.now.fit c.args.x (marks (goal.at.returns-in-Outside c).Start) c.plain-in-Outside.result c.if-x-t.false c.requires.x_lt_k.0 _ _
       c.num-level.ensures.0 c.num.ensures.0
       c.if-level-num.false c.plain-in-Outside.ensures c.in-Outside.ensures;
   under = under (goal.at.returns-in-Outside c).Start;
@@ -81,9 +66,9 @@ returns-in-Outside c = record {
 
 pub walk_from-requires : goal.walk_from-requires
 walk_from-requires c =
-    let F = c.requires.fit in
-    let M = new_marks c.args.stamp c.args.marks.now c.requires.x_lt_k.1.1.0 (net (goal.at.walk_from-requires c).Start) c.args.k in record {
-      fit = F;
+    let F = c.args.walk.now.fit in
+    let M = new_marks c.args.stamp c.args.marks.now c.requires.x_lt_k.1.1.0 (net (goal.at.walk_from-requires c).Start) c.args.walk.now.k in record {
+      marks_long = c.requires.marks_long;
       fresh = record {
         low = c.requires.x_lt_k.0;
         level = omega (arith, c.num-level.ensures.0);
@@ -97,12 +82,13 @@ walk_from-requires c =
 pub by_walk-requires : goal.by_walk-requires
 by_walk-requires c =
     let r = c.walk_from in (
-      walk_deciding c.requires.fit _ _ (marks (goal.at.by_walk-requires c).Start) r.result.found r.result.deciding r.result.opened _ r.ensures.marks_after,
+      walk_deciding c.args.walk.now.fit _ _ (marks (goal.at.by_walk-requires c).Start) r.result.found r.result.deciding r.result.opened _ r.ensures.marks_after,
       omega (
         arith,
-        walk_opened c.requires.fit _ c.args.x (marks (goal.at.by_walk-requires c).Start) r.result.found r.result.deciding r.result.opened _ r.ensures.marks_after
+        walk_opened c.args.walk.now.fit _ c.args.x (marks (goal.at.by_walk-requires c).Start) r.result.found r.result.deciding r.result.opened _ r.ensures.marks_after
             c.requires.x_lt_k.0
-            (seen_long _ c.args.marks.now) (seen_other _ _ _ (c.requires.fit.name_low c.args.x c.requires.x_lt_k.0) (new_free _ _ c.requires.x_lt_k.1.1.0 _)),
+            (seen_long _ c.args.marks.now ∙ c.requires.marks_long) (seen_other _ _ _ (omega (arith, c.args.walk.now.fit.name_low c.args.x c.requires.x_lt_k.0, c.requires.marks_long)) (new_free _ _ c.requires.x_lt_k.1.1.0 _)),
+        c.requires.marks_long,
         c.requires.x_lt_k.1.0,
       ),
     )
@@ -110,9 +96,9 @@ by_walk-requires c =
 pub returns-in-Neither : goal.returns-in-Neither
 returns-in-Neither c =
     let r = c.walk_from in
-    let opens = walk_opens c.requires.fit _ c.args.x (marks (goal.at.returns-in-Neither c).Start) r.result.found r.result.deciding r.result.opened _ r.ensures.marks_after in
+    let opens = walk_opens c.args.walk.now.fit _ c.args.x (marks (goal.at.returns-in-Neither c).Start) r.result.found r.result.deciding r.result.opened _ r.ensures.marks_after in
     record {
-      marks_after = rule_5_6 c.requires.fit c.args.x (marks (goal.at.returns-in-Neither c).Start) c.by_walk.result c.if-x-t.false c.requires.x_lt_k.0 _ _ c.num-level.ensures.0
+      marks_after = rule_5_6 c.args.walk.now.fit c.args.x (marks (goal.at.returns-in-Neither c).Start) c.by_walk.result c.if-x-t.false c.requires.x_lt_k.0 _ _ c.num-level.ensures.0
           c.num.ensures.0
           c.if-level-num.false c.in-Neither.ensures _ _ _ _ r.ensures.marks_after c.by_walk.ensures;
       under = r.ensures.under;

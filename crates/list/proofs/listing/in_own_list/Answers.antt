@@ -2,13 +2,10 @@
 use native.Mathlib.Omega.{arith}
 use borrow.Author.Tests.{eq-eqb, ne_eqb}
 use Rattle.stored.specs.Reading.{numbers_of}
-use Rattle.list.proofs.Writing.{counted_none, counted_more, counted_over, counted_most}
+use Rattle.list.proofs.Writing.{counted_more, counted_over, counted_most}
 use Rattle.list.proofs.Own.{named_read, own_counted}
 use Rattle.list.proofs.listing.in_own_list.Goals as goal
 use Rattle.list.proofs.listing.in_own_list.Goals.{then-get-name, else-get-name}
-
-pub loop-v-init : goal.loop-v-init
-loop-v-init c = counted_none _
 
 pub overflow_add-count : goal.overflow_add-count
 overflow_add-count c = omega (arith, counted_most c.loop-v.invariant)

@@ -1,11 +1,8 @@
 -- `Listing::count_listed` meets its contract, by the invariant beside this file.
 use native.Mathlib.Omega.{arith}
-use Rattle.list.proofs.Writing.{counted_none, counted_more, counted_over, counted_most, counted_all}
+use Rattle.list.proofs.Writing.{counted_more, counted_over, counted_most, counted_all}
 use Rattle.list.proofs.listing.Listing.count_listed.Goals as goal
 use Rattle.list.proofs.listing.Listing.count_listed.Goals.{then-is_listed, else-is_listed}
-
-pub loop-v-init : goal.loop-v-init
-loop-v-init c = counted_none _
 
 pub overflow_add-count : goal.overflow_add-count
 overflow_add-count c = omega (arith, counted_most c.loop-v.invariant)

@@ -1,13 +1,9 @@
 -- `Listing::is_listed` meets its contract: the two are one vertex, or the mark at the name that was read tells.
-use native.Mathlib.Omega.{arith}
 use Rattle.list.proofs.Writing.{own_listed, mark_listed}
 use Rattle.list.proofs.listing.Listing.is_listed.Goals as goal
 
 pub returns-then-self-v : goal.returns-then-self-v
 returns-then-self-v c = own_listed _ _ _ c.if-self-v.true
-
-pub bounds-self-get : goal.bounds-self-get
-bounds-self-get c = omega (arith, c.args.self.now.spots _ c.requires, c.get.ensures.0)
 
 pub returns : goal.returns
 returns c = mark_listed _ _ _ c.if-self-v.false c.get.ensures.0
