@@ -1,14 +1,14 @@
--- What adding an edge says and changes where no check stops it; and the edge that is taken stands behind those that stood.
+-- What adding an edge says and changes where no check stops it, and where 21 does; and the edge that is taken stands behind those that stood.
 use mathlib.Core.Bool.{false, ◌||◌}
 use mathlib.Core.Path.{◌≡◌, refl, ap, ◌∙◌}
 use mathlib.Core.List.{List, [], ◌∷◌, ◌++◌}
-use Prim.Native.Nat.{ℕ, zero, suc, ◌+◌, ◌<◌}
+use Prim.Native.Nat.{ℕ, zero, suc, ◌+◌, ◌≤◌, ◌<◌}
 use native.Mathlib.Numerals.{add-one}
 use native.Mathlib.Omega.{arith}
 use lib.Dec.{leb}
 use lib.ListN.{length, set, take, length-set}
-use borrow.Author.Tests.{leb-false, lt-leb}
-use Rattle.lineage.specs.Calls.{Outcome, answered}
+use borrow.Author.Tests.{leb-false, le-leb, lt-leb}
+use Rattle.lineage.specs.Calls.{Outcome, refused, answered}
 use Rattle.laws.specs.Checks.{Pass}
 use Rattle.laws.proofs.Checks.{answered_pass}
 use Rattle.added.specs.declared.Added.{Added}
@@ -20,6 +20,13 @@ module _ (a : Added) (n from to : ℕ) where
   -- what may be answered, and the state afterwards
   abbrev Says : Outcome (Unit {0}) → Added → Type 0
   Says o a' = (o ≡ add_answer a.count n from to) × (a' ≡ add_state a n from to)
+
+  -- 21: the state is full
+  module _ {o : Outcome (Unit {0})} {a' : Added} where
+    pub adds_full : from < n → to < n → most_added ≤ a.count → (o ≡ refused 21 0) × (a' ≡ a) → Says o a'
+    adds_full h j f e =
+        let b : (leb n from || leb n to) ≡ false = rw (lt-leb n from h, lt-leb n to j) refl in
+        let m = le-leb most_added a.count f in (rw (b, m) e.0, rw (b, m) e.1)
 
   pub adds_one :
       from < n → to < n → a.count < most_added

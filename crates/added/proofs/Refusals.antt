@@ -6,7 +6,7 @@ use Prim.Native.Nat.{ℕ, ◌≤◌, ◌<◌}
 use native.Mathlib.Omega.{arith}
 use lib.Dec.{leb}
 use lib.ListN.{length, get_or}
-use borrow.Author.Tests.{leb-false, le-ltb}
+use borrow.Author.Tests.{leb-false, lt-ltb, le-ltb}
 use Rattle.std.specs.Prelude.{Option, Some, None}
 use Rattle.lineage.specs.Lists.{upto, any, first_of}
 use Rattle.lineage.specs.Stored.{counts_in}
@@ -53,6 +53,9 @@ module _ (n : ℕ) (S T : List ℕ) {bad : Option ℕ} (found : bad ≡ found_be
 
 -- the state's edges
 module _ (n : ℕ) (a : Added) (says : Bool) where
+  pub sound_many : most_added < a.count → refused 21 0 ≡ outcome (added_checks n a) says
+  sound_many h = rw (lt-ltb most_added a.count h) refl
+
   pub sound_over :
       a.count ≤ most_added → {o : Outcome Bool} → o ≡ outcome (bad_added (graph_of n (sources_of a) (targets_of a)) ∷ []) says → o ≡ outcome (added_checks n a) says
   sound_over h e = rw (le-ltb most_added a.count h) e

@@ -85,7 +85,8 @@ fn lists_stand(index: &SoundImage, marks: &mut [u8], lists: &[u8], most: usize) 
     at == most
 }
 
-// Whether the stored bytes are the exception lists of the index.
+// Whether the stored bytes are the exception lists of the index. It stays a function of its own, so that a question beside this check can be measured.
+#[inline(never)]
 pub fn exceptions_match(index: &SoundImage, marks: &mut [u8], lists: &[u8]) -> bool
     requires n_in_bounds { (index.now.image.layout.n ≤ length marks.old) × (marks.old ≡ cleared index.now.image.layout.n marks.old) }
     requires k_bound { index.now.image.layout.k ≤ 4096 }
