@@ -11,7 +11,7 @@ use Prim.Native.Nat.{ℕ, ◌≤◌, ◌<◌}
 use native.Mathlib.Omega.{arith}
 use lib.ListN.{length, get_or, take, drop, length-map, get_or-append}
 use lib.Seq.{take_at, drop_at}
-use Rattle.std.specs.Prelude.{Result}
+use Rattle.std.specs.Prelude.{Result, Ok}
 use Rattle.lineage.specs.Lists.{Every, ones, cleared}
 use Rattle.lineage.specs.Graph.{Graph, Ends, Reaches}
 use Rattle.lineage.specs.Labels.{Order}
@@ -170,7 +170,19 @@ pub record Allowed (T : FormsTaken) (b : List ℕ) (u v : ℕ) (marks work : Lis
 said_once : (a a' : Asked) → said_by a ≡ said_by a' → a ≡ a'
 said_once a a' e = λ i. record { says = (e i).says; reason = (e i).reason; opened = (e i).opened; deciding = (e i).deciding }
 
+-- an answer is determined by its four fields, and a result by the outcome that it tells
+pub answer_one :
+    {says says' : Bool} {reason reason' opened opened' deciding deciding' : ℕ}
+    → says ≡ says' → reason ≡ reason' → opened ≡ opened' → deciding ≡ deciding'
+    → ◌≡◌ {A = Result Asked Refusal}
+    (Ok (record { says = says; reason = reason; opened = opened; deciding = deciding }))
+    (Ok (record { says = says'; reason = reason'; opened = opened'; deciding = deciding' }))
+answer_one a b c d = λ i. Ok (record { says = a i; reason = b i; opened = c i; deciding = d i })
+
+pub asked_one : (r r' : Result Asked Refusal) → asked_of r ≡ asked_of r' → r ≡ r'
+asked_one r r' e = outcome_once said_by said_once r r' e
+
 pub asked_once :
     {T : FormsTaken} {b : List ℕ} {u v : ℕ} {marks work : List ℕ} {r r' : Result Asked Refusal} {m m' w w' : List ℕ}
     → Allowed T b u v marks work r m w → Allowed T b u v marks work r' m' w' → (r ≡ r') × ((m ≡ m') × (w ≡ w'))
-asked_once A B = (outcome_once said_by said_once _ _ (A.answers ∙ sym B.answers), (A.leaves ∙ sym B.leaves, A.clears ∙ sym B.clears))
+asked_once A B = (asked_one _ _ (A.answers ∙ sym B.answers), (A.leaves ∙ sym B.leaves, A.clears ∙ sym B.clears))

@@ -18,13 +18,14 @@ use sound_places::SoundImage;
 use stored::parts::Image;
 use stored_header::words_needed;
 
-// An answer: yes or no, the reason 1 to 6, the groups opened, and the number, from 1, of the labelling that decided (0 where none did).
+// An answer: yes or no, the reason 1 to 6, the number, from 1, of the labelling that decided (0 where none did), and the groups opened. Reason and groups opened, which
+// stand beside each other in six numbers, do not here: read as one number they would wait for the two writes.
 #[derive(Clone, Copy, Debug, PartialEq, Eq)]
 pub struct Asked {
     pub says: bool,
     pub reason: u32,
-    pub opened: u32,
     pub deciding: u32,
+    pub opened: u32,
 }
 
 // The question on bytes of a layout, for vertices below n: 15, or the answer. Afterwards the marks below n tell the groups opened, by name, and 15 leaves them 0; of

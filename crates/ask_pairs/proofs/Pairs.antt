@@ -3,14 +3,16 @@
 use mathlib.Core.Bool.{Bool, true, false, ◌||◌, cond}
 use mathlib.Core.Path.{◌≡◌, refl, sym, ap, ◌∙◌}
 use mathlib.Core.List.{List, [], ◌∷◌}
-use Prim.Native.Nat.{ℕ, suc, ◌+◌, ◌*◌, ◌≤◌, ◌<◌}
+use Prim.Native.Nat.{ℕ, zero, suc, ◌+◌, ◌*◌, ◌≤◌, ◌<◌}
 use native.Mathlib.Omega.{arith}
 use native.Mathlib.Numerals.{add-one}
 use lib.Dec.{leb}
 use lib.ListN.{length, get_or, set, drop, replicate, length-append, length-drop, length-replicate}
-use borrow.Author.Tests.{le-leb, lt-leb}
+use borrow.Author.Tests.{leb-false, le-leb, lt-leb}
+use Rattle.lineage.specs.Lists.{joined}
 use Rattle.lineage.specs.Question.{Answer}
 use Rattle.laws.proofs.Tests.{or_left, or_right}
+use Rattle.laws.proofs.Lists.{table_same}
 use Rattle.laws.proofs.Joined.{joined_more, table_blocks_long}
 use Rattle.numbers.specs.Put.{put}
 use Rattle.numbers.proofs.Put.{put_none, put_start, put_next, put_sets}
@@ -136,3 +138,35 @@ module _ (n : ℕ) (ans : ℕ → ℕ → Answer) (sources targets answers₀ : 
       under = U;
       long = long;
     }
+
+-- Ways of answering that agree below n give the same numbers and the same marks.
+module _ {A : Type 0} (n u v : ℕ) {x y : A} (h : u < n → v < n → x ≡ y) where
+  same_six : (r s : A) → cond (leb n u) r (cond (leb n v) s x) ≡ cond (leb n u) r (cond (leb n v) s y)
+  same_six r s = at (leb n u) (leb n v) (leb-false n u) (leb-false n v)
+    where
+      at : (a b : Bool) → (a ≡ false → u < n) → (b ≡ false → v < n) → cond a r (cond b s x) ≡ cond a r (cond b s y)
+      at true b f g = refl
+      at false true f g = refl
+      at false false f g = h (f refl) (g refl)
+
+  same_marks : (r s : A) → r ≡ s → cond (leb n u || leb n v) r x ≡ cond (leb n u || leb n v) s y
+  same_marks r s e = at (leb n u) (leb n v) (leb-false n u) (leb-false n v)
+    where
+      at : (a b : Bool) → (a ≡ false → u < n) → (b ≡ false → v < n) → cond (a || b) r x ≡ cond (a || b) s y
+      at true b f g = e
+      at false true f g = e
+      at false false f g = h (f refl) (g refl)
+
+module _ (n : ℕ) (f g : ℕ → ℕ → Answer) (same : (u v : ℕ) → u < n → v < n → f u v ≡ g u v) (sources targets : List ℕ) where
+  pub sixes_same : (i : ℕ) → sixes n f sources targets i ≡ sixes n g sources targets i
+  unfolding sixes pair_six
+  sixes_same i =
+      ap joined
+      (table_same _ _ i
+      (λ j h. same_six n (get_or sources j 0) (get_or targets j 0) (λ a b. ap six_answered (same (get_or sources j 0) (get_or targets j 0) a b)) (six_refused 14 0) (six_refused 14 1)))
+
+  pub marks_same : (i : ℕ) → last_marks n f sources targets i ≡ last_marks n g sources targets i
+  unfolding last_marks
+  marks_same zero = refl
+  marks_same (suc i) =
+      same_marks n (get_or sources i 0) (get_or targets i 0) (λ a b. ap (λ (z : Answer). z.marks) (same (get_or sources i 0) (get_or targets i 0) a b)) _ _ (marks_same i)

@@ -3,7 +3,7 @@
 use mathlib.Core.Bool.{true}
 use mathlib.Core.Path.{◌≡◌, refl, sym, ap, ap₂, subst⁻¹, ◌∙◌}
 use mathlib.Core.List.{List, [], ◌∷◌, ◌++◌, map}
-use Prim.Native.Nat.{ℕ, ◌+◌, ◌*◌, ◌^◌, ◌≤◌, ◌<◌}
+use Prim.Native.Nat.{ℕ, ◌+◌, ◌^◌, ◌<◌}
 use native.Mathlib.Omega.{arith}
 use native.Mathlib.Numerals.{add-one}
 use lib.ListN.{length, get_or, take}
@@ -19,10 +19,10 @@ use Rattle.numbers.proofs.Written.{written_long}
 use Rattle.stored_header.specs.declared.Layout.{Layout}
 use Rattle.stored_header.specs.Header.{layout_by, offsets_of, header_of, Laid}
 use Rattle.stored_header.proofs.Forms.{form_within}
-use Rattle.stored_header.proofs.Laid.{sited_by, width_is, stride_is, n_is, k_is, c_is, d_is}
+use Rattle.stored_header.proofs.Laid.{width_is, stride_is, n_is, k_is, c_is, d_is}
 use Rattle.stored.specs.Sections.{Section}
 use Rattle.stored.proofs.Contents.{contents_starts}
-use Rattle.stored.proofs.Offsets.{lengths, put_sections, sections_more, sections_put_lem, offsets_last, offsets_within}
+use Rattle.stored.proofs.Offsets.{lengths, put_sections, sections_more, sections_put_lem, offsets_last}
 use Rattle.stored.proofs.Encoded.{header_fits}
 use Rattle.stored.proofs.Decoded.{sections_in, section_long, sections_are, counts_are}
 use Rattle.sound_places.specs.declared.SoundImage.{SoundImage}
@@ -82,6 +82,10 @@ module _ {s : SoundImage} {form : ℕ} {to : Layout} (T : Turns s form to) where
 
   laid_as : to ≡ layout_by G.width z a
   laid_as = T.laid ∙ ap (λ (y : ℕ). layout_by G.width y a) same
+
+  -- its width is 2 or 4
+  pub wide : (to.width ≡ 2 → ⊥) → to.width ≡ 4
+  wide n = let W : Width to.width = subst⁻¹ (λ (t : Layout). Width t.width) T.laid (form_within form).width in omega (arith, W.low, W.high, W.even, n)
 
   -- The header is that of the same counts at the other form, and its numbers are of 32 bits.
   header_is : header_of form to ≡ header G a
@@ -160,10 +164,11 @@ module _ {s : SoundImage} {form : ℕ} {to : Layout} (T : Turns s form to) where
       size_in = size_is ∙ ap (λ (t : Layout). get_or (sizes t.stride t.n t.k t.c t.d) i 0) L.is
 
       module _ {r : List ℕ} (S : Section b l i r) where
-        pub section_copied : (out : List ℕ) {t : List ℕ} → t ≡ put out at (written to.width (numbers l.width r size))
+        pub section_copied : (out : List ℕ) {v : ℕ} → to.width ≡ v → {t : List ℕ} → t ≡ put out at (written v (numbers l.width r size))
             → t ≡ put out (get_or (offsets_of to) i 0) (written to.width (section l.width l.stride a b i))
         unfolding section
-        section_copied out e =
+        section_copied out w e =
             e
+            ∙ ap (λ (y : ℕ). put out at (written y (numbers l.width r size))) (sym w)
             ∙ ap₂ (λ (p : ℕ) (xs : List ℕ). put out p (written to.width xs)) at_is
             (ap₂ (numbers l.width) S.is (size_in ∙ ap (λ (y : ℕ). get_or (sizes y a.n a.k a.c a.d) i 0) (sym (stride_is L))))

@@ -18,7 +18,7 @@ use stored::parts;
 use stored::parts::Image;
 use stored_header::{Layout, words_needed};
 
-// Copies the numbers of section i to where the other layout has it, in its width.
+// Copies the numbers of section i to where the other layout has it, in its width. Each width has its own call, so that the machine steps by a number that it knows.
 fn copy_section(index: &SoundImage, form: usize, to: Layout, out: &mut [u8], i: usize)
     requires turns { Turns index.now form to }
     requires i_bound { (i < 6) × (to.total ≤ length out.old) }
@@ -28,7 +28,10 @@ fn copy_section(index: &SoundImage, form: usize, to: Layout, out: &mut [u8], i: 
     let at = parts::offset(to, i);
     let size = parts::size(l, i);
     let from = index.image.section(i);
-    numbers::copy_numbers(out, at, to.width, from, l.width, size)
+    if to.width == 2 {
+        return numbers::copy_numbers(out, at, 2, from, l.width, size);
+    }
+    numbers::copy_numbers(out, at, 4, from, l.width, size)
 }
 
 // Writes the index of sound bytes at another form: its header, and then section after section.

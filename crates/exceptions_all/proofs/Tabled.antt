@@ -1,10 +1,10 @@
 -- What is answered by a table of places laid out over sound bytes, and by lists that belong to them, is what the index says.
 use mathlib.Core.Bool.{Bool, not, ◌&&◌}
 use mathlib.Core.Path.{◌≡◌, refl, sym, ap, ◌∙◌}
-use mathlib.Core.List.{List}
+use mathlib.Core.List.{List, ◌++◌}
 use Prim.Native.Nat.{ℕ, ◌≤◌, ◌<◌}
 use native.Mathlib.Omega.{arith}
-use lib.ListN.{length, get_or}
+use lib.ListN.{length, get_or, get_or-append}
 use Rattle.lineage.specs.Index.{Index}
 use Rattle.laws.proofs.Grouped.{place_low, name_of_place}
 use Rattle.numbers.proofs.Numbers.{numbers_at}
@@ -22,6 +22,11 @@ use Rattle.exceptions_ask.proofs.Listed.{list_in_lem, says_by}
 use Rattle.stored.specs.declared.reading.Labels.{Labels}
 use Rattle.exceptions_all.specs.Pairs.{threes, Ready}
 use Rattle.exceptions_all.proofs.Pairs.{threes_same}
+
+-- a table in front of other words
+pub placed_front :
+    {w n k : ℕ} {names groups : List ℕ} (table rest : List ℕ) → length table ≡ n → Placed w n k names groups table → Placed w n k names groups (table ++ rest)
+placed_front table rest e T = record { at = λ v p h low s. get_or-append table rest 0 v (omega arith) ∙ T.at v p h low s }
 
 module _
     {b : List ℕ} {l : Layout} {names groups levels starts children labels : List ℕ}

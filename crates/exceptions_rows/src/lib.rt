@@ -35,7 +35,9 @@ fn is_indirect(below: &PlacedRows, labels: &Labels, x: usize, y: usize) -> bool
     false
 }
 
-// The entry of exception y in x's list: twice the place, plus 1 for an indirect one.
+// The entry of exception y in x's list: twice the place, plus 1 for an indirect one. Inlined with `entry_at`, so that the loops over all places make no call and cut no
+// section.
+#[inline(always)]
 fn entry_of(below: &PlacedRows, labels: &Labels, x: usize, y: usize) -> usize
     requires { (below.now.rows.k ≡ labels.now.k) × ((x < labels.now.k) × (y < labels.now.k)) }
     ensures { result ≡ entry (kinds_alone (rows_of below.now.rows) (labels_of labels.now)) x y }
@@ -47,6 +49,7 @@ fn entry_of(below: &PlacedRows, labels: &Labels, x: usize, y: usize) -> usize
 }
 
 // The entry of place y in the list of x, whose exceptions are marked; none where it is no exception.
+#[inline(always)]
 fn entry_at(index: &SoundImage, groups: &[u8], marks: &[u8], x: usize, y: usize) -> Option<usize>
     requires groups_in { Section index.now.image.bytes.now index.now.image.layout 1 groups.now }
     requires n_in_bounds { (index.now.image.layout.n ≤ length marks.now) × ((x < index.now.image.layout.k) × Excepted (index_in index.now.image.bytes.now) x marks.now) }

@@ -44,6 +44,9 @@ pub record Alongside (from to : ℕ) : Type 0 where
   pub entries : (form_of to).entries ≡ (form_of from).entries
   pub few : (form_of to).tree ≡ false → (form_of from).labellings ≤ (form_of to).labellings
 
+pub to_4 : Alongside 2 4
+to_4 = record { known = refl; vertices = refl; entries = refl; few = λ t. clash refl t }
+
 pub to_2 : Alongside 4 2
 to_2 = record { known = refl; vertices = refl; entries = refl; few = λ t. omega arith }
 

@@ -1,14 +1,14 @@
--- What the call answers and leaves is what its contract promises, by whether the checks refused. A refusal turns no record and clears no mark; otherwise all records
--- follow their marks, as the states of parallel lists do.
+-- What `prepare` answers and leaves is what the two later calls may be called with, and what they leave then is what the contract promises: by whether the checks
+-- refused. A refusal turns no record and clears no mark; otherwise all records follow their marks, as the states of parallel lists do.
 use mathlib.Core.Path.{◌≡◌, refl, ap, ◌∙◌}
 use mathlib.Core.List.{List, [], ◌∷◌, map}
-use Prim.Native.Nat.{ℕ}
+use Prim.Native.Nat.{ℕ, ◌≤◌}
 use lib.ListN.{length}
 use Rattle.lineage.specs.Lists.{cleared}
 use Rattle.lineage.specs.Calls.{Outcome, refused, answered, ordinary, index_in}
 use Rattle.rules_states.specs.Rules.{rules_work}
 use Rattle.rules.specs.Settled.{prepared_answer, prepared_marks}
-use Rattle.rules.proofs.Refusals.{refused_any, settles_refused, reached_none, state_reached, settles_done}
+use Rattle.rules.proofs.Refusals.{refused_any, settles_refused, reached_none, reached_room, state_reached, settles_done}
 use Rattle.rules_table.specs.declared.Rule.{Rule}
 use Rattle.rules_table.specs.Table.{with_state, rule_after, rule_table, desk_settled, rule_by, Allowed}
 
@@ -47,15 +47,16 @@ module _
               (table_same (rule_by left n) (rule_after (index_in b) changed) (λ r. ap (with_state r) (state_reached ordinary b changed ms ws is leaves r.vertex r.state)) ys);
         }
 
-    -- what an outcome of `prepare` calls for: a refusal handed on; or marks cleared and all records turned
+    -- what an outcome of `prepare` calls for: a refusal handed on; or, on marks that have room for them, n marks cleared and all records turned
     abbrev pub Settles : Outcome ℕ → Type 0
     Settles (refused x y) = Allowed ordinary b changed ms ws ys (record { refusal = x; extra = y }) left w ys
     Settles (answered n) =
-        (m : List ℕ) (t : List Rule) → m ≡ cleared n left → t ≡ map (rule_by left n) ys → Allowed ordinary b changed ms ws ys (record { refusal = 0; extra = 0 }) m w t
+        (n ≤ length left)
+        × ((m : List ℕ) (t : List Rule) → m ≡ cleared n left → t ≡ map (rule_by left n) ys → Allowed ordinary b changed ms ws ys (record { refusal = 0; extra = 0 }) m w t)
 
     settles_at : (o : Outcome ℕ) → o ≡ prepared_answer ordinary b changed (length ms) (length ws) → Settles o
     settles_at (refused x y) is = desk_refused is
-    settles_at (answered n) is = λ m t clear turns. desk_done is clear turns
+    settles_at (answered n) is = (reached_room ordinary b changed ms ws is leaves, λ m t clear turns. desk_done is clear turns)
 
     pub settles : Settles (prepared_answer ordinary b changed (length ms) (length ws))
     settles = settles_at (prepared_answer ordinary b changed (length ms) (length ws)) refl

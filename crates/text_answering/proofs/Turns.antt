@@ -40,6 +40,10 @@ none_left index (u ∷ []) h = refl
 none_left index (u ∷ (v ∷ more)) h = absurd (omega arith)
 
 module _ {index asked entry : List ℕ} {i at : ℕ} {out : List ℕ} (A : Answering index asked entry i at out) where
+  -- there is room for a line
+  pub line_room : 31 * length asked ≤ length entry → length out ≡ length entry → 2 * i + 1 < length asked → at + 61 ≤ length out
+  line_room room long h = omega (arith, A.short)
+
   pub answering_turns : {next : ℕ} {exit : List ℕ} → 2 * i + 1 < length asked
       → Put out at (question_line (get_or asked (2 * i) 0) (get_or asked (2 * i + 1) 0) (answer_to index (get_or asked (2 * i) 0) (get_or asked (2 * i + 1) 0))) next exit
       → Answering index asked entry (i + 1) next exit

@@ -10,7 +10,7 @@ use borrow.Author.Tests.{lt-ltb, le-ltb}
 use Rattle.lineage.specs.Calls.{Outcome, refused, answered, Said}
 use Rattle.text_lines.specs.Lines.{bytes, digits, decimal_by, decimal}
 use Rattle.text_lines.proofs.Digits.{tenth_low}
-use Rattle.text.specs.Output.{two_numbers, three_numbers, told, question, question_line}
+use Rattle.text.specs.Output.{two_numbers, three_numbers, said, told, question, question_line}
 use Rattle.numbers.specs.Put.{put}
 use Rattle.numbers.proofs.Put.{put_none, put_next, put_sets}
 use Rattle.text_printing.specs.Printer.{Put}
@@ -85,6 +85,11 @@ module _ {out mid : List ℕ} {at p : ℕ} (x : ℕ) (low : 10 ≤ x) (fits : x 
   -- and the last digit behind it
   pub number_more : {exit : List ℕ} {next b : ℕ} → b ≡ 48 + x % 10 → Put mid p (b ∷ []) next exit → at ≤ length out → Put out at (decimal x) next exit
   number_more {exit} {next} {b} e q front = put_same (ap (λ (d : ℕ). decimal (x / 10) ++ (d ∷ [])) e ∙ sym (decimal_more x low (omega arith))) (put_put tenth q front)
+
+-- yes or no, by the test that was made
+pub said_is : (says t : Bool) (reason opened deciding : ℕ) → says ≡ t
+    → said (record { says = t; reason = reason; opened = opened; deciding = deciding }) ≡ said (record { says = says; reason = reason; opened = opened; deciding = deciding })
+said_is says t reason opened deciding e = ap (λ (b : Bool). said (record { says = b; reason = reason; opened = opened; deciding = deciding })) (sym e)
 
 -- How long a line is at most: any number has at most ten digits.
 pub two_short : (x y : ℕ) → length (two_numbers x y) ≤ 21
